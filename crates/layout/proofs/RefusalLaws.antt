@@ -1,0 +1,74 @@
+-- No two refusals have the same number. Assumes nothing.
+use Prim.Native.Nat.{ℕ}
+use mathlib.Core.Path.{_≡_, refl, sym, ap, _∙_}
+use lib.Dec.{eqb}
+use Rattle.words.specs.Choice.{pick}
+use Rattle.layout.specs.declared.refusal.Refusal.{Refusal}
+use Rattle.layout.specs.declared.refusal.Refusal.the-variants.{FileTooLong, PointerOutside, Misaligned, TableTooShort, BloomTooLong, BucketsTooLong, ItemsUneven, KeyNotUtf8, FragmentNotUtf8, ParentOutside, ParentsEndless, KeyNotFound, OtherKind, BufferTooShort, PastTheLast, KeyTooLong, NotContainer, TooManyItems, ArenaFull, TableUnknown, TableInItself, NestedTooDeep, TooManyTables, SeparatorOutside, MemoryBroken, EmptyKey, ImageTooLong, CheckBroken}
+use Rattle.layout.specs.Refusal.{number}
+
+-- the refusal of a number; the last where it has none
+refusal : ℕ → Refusal
+refusal n =
+    pick (eqb n 1) FileTooLong (
+    pick (eqb n 2) PointerOutside (
+    pick (eqb n 3) Misaligned (
+    pick (eqb n 4) TableTooShort (
+    pick (eqb n 5) BloomTooLong (
+    pick (eqb n 6) BucketsTooLong (
+    pick (eqb n 7) ItemsUneven (
+    pick (eqb n 8) KeyNotUtf8 (
+    pick (eqb n 9) FragmentNotUtf8 (
+    pick (eqb n 10) ParentOutside (
+    pick (eqb n 11) ParentsEndless (
+    pick (eqb n 12) KeyNotFound (
+    pick (eqb n 13) OtherKind (
+    pick (eqb n 14) BufferTooShort (
+    pick (eqb n 15) PastTheLast (
+    pick (eqb n 20) KeyTooLong (
+    pick (eqb n 21) NotContainer (
+    pick (eqb n 22) TooManyItems (
+    pick (eqb n 23) ArenaFull (
+    pick (eqb n 24) TableUnknown (
+    pick (eqb n 25) TableInItself (
+    pick (eqb n 26) NestedTooDeep (
+    pick (eqb n 27) TooManyTables (
+    pick (eqb n 28) SeparatorOutside (
+    pick (eqb n 29) MemoryBroken (
+    pick (eqb n 30) EmptyKey (
+    pick (eqb n 31) ImageTooLong (
+    CheckBroken)))))))))))))))))))))))))))
+
+back : (why : Refusal) → refusal (number why) ≡ why
+unfolding pick refusal
+back FileTooLong = refl
+back PointerOutside = refl
+back Misaligned = refl
+back TableTooShort = refl
+back BloomTooLong = refl
+back BucketsTooLong = refl
+back ItemsUneven = refl
+back KeyNotUtf8 = refl
+back FragmentNotUtf8 = refl
+back ParentOutside = refl
+back ParentsEndless = refl
+back KeyNotFound = refl
+back OtherKind = refl
+back BufferTooShort = refl
+back PastTheLast = refl
+back KeyTooLong = refl
+back NotContainer = refl
+back TooManyItems = refl
+back ArenaFull = refl
+back TableUnknown = refl
+back TableInItself = refl
+back NestedTooDeep = refl
+back TooManyTables = refl
+back SeparatorOutside = refl
+back MemoryBroken = refl
+back EmptyKey = refl
+back ImageTooLong = refl
+back CheckBroken = refl
+
+pub number-injective : (a b : Refusal) → number a ≡ number b → a ≡ b
+number-injective a b e = sym (back a) ∙ ap refusal e ∙ back b

@@ -1,0 +1,36 @@
+// An item of a table: 24 bytes, read byte by byte into the format's widths.
+use crate::table::Table;
+use words::field::half_at;
+use words::field::word_at;
+ghost use mathlib.Core.Path.{_≡_};
+ghost use Prim.Native.Nat.{_<_};
+ghost use Rattle.layout.specs.Table.{InFile};
+ghost use Rattle.layout.specs.Item.{itemAt};
+
+// One item's fields: hash, parent (0xFFFFFFFF: a root), key start and size, kind, value start and end.
+pub struct Item {
+    pub hash: u32,
+    pub parent: u32,
+    pub key: u32,
+    pub size: u16,
+    pub kind: u8,
+    pub from: u32,
+    pub to: u32,
+}
+
+// The item at an index of a table that lies in the file.
+pub fn item_at(file: &[u8], table: Table, index: usize) -> Item
+    requires { ⌜ InFile (now file) table × (index < table .count) ⌝ }
+    ensures { λ r. ⌜ r ≡ itemAt (now (file .entry)) table index ⌝ }
+{
+    let at = table.items + 24 * index;
+    Item {
+        hash: word_at(file, at),
+        parent: word_at(file, at + 4),
+        key: word_at(file, at + 8),
+        size: half_at(file, at + 12),
+        kind: file[at + 14],
+        from: word_at(file, at + 16),
+        to: word_at(file, at + 20),
+    }
+}

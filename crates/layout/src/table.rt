@@ -1,0 +1,75 @@
+// A table and its opening.
+use crate::pointer::Pointed;
+use crate::pointer::open_pointer;
+use crate::refusal::Refusal;
+use words::bits::bloom_count;
+use words::field::word_at;
+use words::wide::word_size;
+ghost use mathlib.Core.Path.{_≡_};
+ghost use Prim.Native.Nat.{_≤_};
+ghost use lib.ListN.{length};
+ghost use Rattle.layout.specs.Table.{tableIn, openTable};
+
+// A file is at most so long.
+pub const LONGEST_FILE: usize = 16_777_216;
+
+// A table: where it starts, its counts, and where its items start.
+pub struct Table {
+    pub start: usize,
+    pub blooms: usize,
+    pub buckets: usize,
+    pub items: usize,
+    pub count: usize,
+}
+
+pub enum Opened {
+    Table(Table),
+    Refused(Refusal),
+}
+
+// The table that fills the bytes from start to end: 4, 5, 6, 7, or its parts.
+fn table_in(file: &[u8], start: usize, end: usize) -> Opened
+    requires { ⌜ (start ≤ end) × (end ≤ length (now file)) ⌝ }
+    ensures { λ r. ⌜ r ≡ tableIn (now (file .entry)) start end ⌝ }
+{
+    let size = end - start;
+    if size < 8 {
+        return Opened::Refused(Refusal::TableTooShort);
+    }
+    let blooms = word_size(bloom_count(word_at(file, start)));
+    let buckets = word_size(word_at(file, start + 4));
+    let buckets_from = 8 + 4 * blooms;
+    if size < buckets_from {
+        return Opened::Refused(Refusal::BloomTooLong);
+    }
+    let items_from = buckets_from + 4 * buckets;
+    if size < items_from {
+        return Opened::Refused(Refusal::BucketsTooLong);
+    }
+    let item_bytes = size - items_from;
+    if item_bytes % 24 != 0 {
+        return Opened::Refused(Refusal::ItemsUneven);
+    }
+    Opened::Table(Table {
+        start,
+        blooms,
+        buckets,
+        items: start + items_from,
+        count: item_bytes / 24,
+    })
+}
+
+// The table at the pointer from start to end: 1, the pointer's errors, 4, 5, 6, 7.
+pub fn open_table(file: &[u8], start: u32, end: u32) -> Opened
+    ensures { λ r. ⌜ r ≡ openTable (now (file .entry)) start end ⌝ }
+{
+    if LONGEST_FILE < file.len() {
+        return Opened::Refused(Refusal::FileTooLong);
+    }
+    let from = start as usize;
+    let to = end as usize;
+    match open_pointer(file.len(), from, to, 4) {
+        Pointed::Refused(why) => Opened::Refused(why),
+        Pointed::Inside => table_in(file, from, to),
+    }
+}

@@ -1,0 +1,5 @@
+pub mod Utf8Laws
+pub mod Utf8Parts
+pub mod CompareLaws
+pub mod OrderLaws
+pub mod PrefixLaws

@@ -1,0 +1,4 @@
+pub mod Utf8
+pub mod Compare
+pub mod Order
+pub mod Prefix

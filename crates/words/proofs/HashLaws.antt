@@ -1,0 +1,45 @@
+-- Laws about the hash, for every rule for a byte. Assumes nothing.
+use mathlib.Core.Path.{_≡_, refl, ap, _∙_}
+use mathlib.Core.List.{List, [], _∷_, _++_}
+use Prim.Native.Nat.{ℕ, suc, _+_, _*_, _%_, _^_, _≤_, _<_}
+use native.Mathlib.Numerals.{add-one}
+use native.Mathlib.Omega.{arith}
+use native.Mathlib.Nat.{mul-le-mul, le-pred-of-lt}
+use lib.ListN.{length, getD, drop, drop-of-length-le}
+use lib.Seq.{drop-cons}
+use Rattle.words.specs.Hash.{hashStep, hashFrom, hashBy, hashOf}
+
+module _ (rule : ℕ → ℕ) where
+  -- one turn of the loop, and its end
+  pub hash-turn : (key : List ℕ) (i h : ℕ) → i < length key
+      → hashFrom rule h (drop i key) ≡ hashFrom rule (hashStep rule h (getD key i 0)) (drop (i + 1) key)
+  unfolding hashFrom
+  hash-turn key i h below = rw (add-one, drop-cons key i 0)
+
+  pub hash-end : (key : List ℕ) (i h : ℕ) → length key ≤ i → hashFrom rule h (drop i key) ≡ h
+  unfolding hashFrom
+  hash-end key i h past = rw (drop-of-length-le key past)
+
+  -- the hash of two parts joined goes on from the first part's
+  pub hash-from-append : (a b : List ℕ) (h : ℕ) → hashFrom rule h (a ++ b) ≡ hashFrom rule (hashFrom rule h a) b
+  unfolding hashFrom
+  hash-from-append [] b h = refl
+  hash-from-append (x ∷ a) b h = hash-from-append a b (hashStep rule h x)
+
+  pub hash-append : (a b : List ℕ) → hashBy rule (a ++ b) ≡ hashFrom rule (hashBy rule a) b
+  unfolding hashBy
+  hash-append a b = hash-from-append a b 5381
+
+  -- a hash is a number of 32 bits
+  pub hash-from-below : (a : List ℕ) (h : ℕ) → h < 2 ^ 32 → hashFrom rule h a < 2 ^ 32
+  unfolding hashFrom
+  hash-from-below [] h small = small
+  hash-from-below (x ∷ a) h small = hash-from-below a (hashStep rule h x) (omega arith)
+
+  pub hash-below : (a : List ℕ) → hashBy rule a < 2 ^ 32
+  unfolding hashBy
+  hash-below a = hash-from-below a 5381 (omega arith)
+
+-- a product of two numbers of 32 bits has 64
+pub product-fits : {a b : ℕ} → a < 2 ^ 32 → b < 2 ^ 32 → a * b < 2 ^ 64
+product-fits {a} {b} ha hb = omega (arith, mul-le-mul (le-pred-of-lt ha) (le-pred-of-lt hb))

@@ -1,0 +1,5 @@
+pub mod ChoiceLaws
+pub mod StoreLaws
+pub mod FieldLaws
+pub mod HashLaws
+pub mod AlignLaws

@@ -1,0 +1,23 @@
+-- The hash of a key, from document 01, "Layout of a table". The rule for a byte is a parameter, so that laws are stated once for
+-- every rule. Assumes nothing.
+use Prim.Native.Nat.{ℕ, _+_, _*_, _%_, _^_}
+use mathlib.Core.List.{List, [], _∷_}
+
+-- one byte more: times 33 plus what the byte counts, modulo 2^32
+abbrev pub hashStep : (ℕ → ℕ) → ℕ → ℕ → ℕ
+hashStep rule h b = (h * 33 + rule b) % 2 ^ 32
+
+-- the hash of the bytes, going on from h
+unfoldable pub hashFrom : (ℕ → ℕ) → ℕ → List ℕ → ℕ
+hashFrom rule h [] = h
+hashFrom rule h (b ∷ bytes) = hashFrom rule (hashStep rule h b) bytes
+
+unfoldable pub hashBy : (ℕ → ℕ) → List ℕ → ℕ
+hashBy rule bytes = hashFrom rule 5381 bytes
+
+-- the Rust's rule: a byte counts 0 to 255
+abbrev pub plain : ℕ → ℕ
+plain b = b
+
+abbrev pub hashOf : List ℕ → ℕ
+hashOf = hashBy plain

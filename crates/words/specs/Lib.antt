@@ -1,0 +1,6 @@
+pub mod Choice
+pub mod Store
+pub mod Field
+pub mod Hash
+pub mod Align
+pub mod Bits
