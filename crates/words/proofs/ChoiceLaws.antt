@@ -29,3 +29,11 @@ pick-false a b e = rw e
 pub both : (p q : Bool) → (p && q) ≡ true → (p ≡ true) × (q ≡ true)
 both true q e = (refl, e)
 both false q e = absurd (let z : _≡_ {A = ℕ} 0 1 = cc in omega arith)
+
+pub both-hold : {p q : Bool} → p ≡ true → q ≡ true → (p && q) ≡ true
+both-hold e f = rw (e, f)
+
+pub not-both : (p q : Bool) → (p ≡ true → q ≡ true → ⊥) → (p && q) ≡ false
+not-both true true n = absurd (n refl refl)
+not-both true false n = refl
+not-both false q n = refl

@@ -1,4 +1,5 @@
 pub mod ChoiceLaws
+pub mod BelowLaws
 pub mod StoreLaws
 pub mod FieldLaws
 pub mod HashLaws

@@ -1,4 +1,5 @@
 pub mod Choice
+pub mod Below
 pub mod Store
 pub mod Field
 pub mod Hash

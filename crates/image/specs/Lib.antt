@@ -1,0 +1,5 @@
+pub mod Number
+pub mod Plan
+pub mod Image
+pub mod WellFormed
+pub mod Worked

@@ -1,0 +1,67 @@
+-- The bytes of a table that is given by item number, as document 01 has them under 'Laying an image'. Assumes nothing: these are definitions.
+use Prim.Native.Nat.{ℕ, zero, suc, _+_, _*_, _-_}
+use mathlib.Core.List.{List, [], _∷_, _++_}
+use lib.ListN.{length}
+use Rattle.words.specs.Store.{zeros}
+use Rattle.words.specs.Field.{spelled}
+use Rattle.words.specs.Align.{aligned}
+
+pub record Plan : Type 0 where
+  pub count : ℕ
+  -- a bucket's word
+  pub first : ℕ → ℕ
+  -- of the item of a number: hash, parent's number or 4294967295, key fragment, kind, alignment of its value
+  pub hash : ℕ → ℕ
+  pub parent : ℕ → ℕ
+  pub fragment : ℕ → List ℕ
+  pub kind : ℕ → ℕ
+  pub align : ℕ → ℕ
+  -- its value with all its chunks, if it starts at a place; and the length of the chunk that the value pointer covers
+  pub value : ℕ → ℕ → List ℕ
+  pub covers : ℕ → ℕ
+
+-- a word's four bytes
+abbrev pub word : ℕ → List ℕ
+word = spelled 4
+
+-- f 0, f 1, .. up to n of them, as words
+unfoldable pub wordsOf : (ℕ → ℕ) → ℕ → List ℕ
+wordsOf f zero = []
+wordsOf f (suc n) = wordsOf f n ++ word (f n)
+
+-- the table chunk of n items: head, buckets, records
+unfoldable pub chunkSize : ℕ → ℕ
+chunkSize n = 8 + 28 * n
+
+module _ (p : Plan) where
+  -- where the value of number k starts, if its key starts at `at`: alignment is counted from the file's start
+  unfoldable pub valueStart : ℕ → ℕ → ℕ
+  valueStart k at = aligned (at + length (p .fragment k)) (p .align k)
+
+  -- a key fragment, zeros up to the value, and the value
+  unfoldable pub itemBytes : ℕ → ℕ → List ℕ
+  itemBytes k at = (p .fragment k ++ zeros (valueStart k at - (at + length (p .fragment k)))) ++ p .value k (valueStart k at)
+
+  -- the fragments and values of the first k items, the first at `at`
+  unfoldable pub payload : ℕ → ℕ → List ℕ
+  payload at zero = []
+  payload at (suc k) = payload at k ++ itemBytes k (at + length (payload at k))
+
+  -- where the key of number k starts
+  unfoldable pub place : ℕ → ℕ → ℕ
+  place at k = at + length (payload at k)
+
+  -- a record's 24 bytes, the key at `at`, the value at `start`: hash, parent, key start, key size, kind, one unused, value start and end
+  unfoldable pub recordBytes : ℕ → ℕ → ℕ → List ℕ
+  recordBytes k at start =
+      word (p .hash k) ++ (word (p .parent k) ++ (word at ++ ((spelled 2 (length (p .fragment k)) ++ (p .kind k ∷ 0 ∷ [])) ++ (word start ++ word (start + p .covers k)))))
+
+  unfoldable pub records : ℕ → ℕ → List ℕ
+  records at zero = []
+  records at (suc k) = records at k ++ recordBytes k (place at k) (valueStart k (place at k))
+
+  -- first word and bucket count, bucket words, records; then fragments and values
+  unfoldable pub planBytes : ℕ → List ℕ
+  planBytes at =
+      (word 0x28000000 ++ word (p .count)) ++ (wordsOf (p .first) (p .count)
+      ++ (records (at + chunkSize (p .count)) (p .count) ++ payload (at + chunkSize (p .count)) (p .count)))

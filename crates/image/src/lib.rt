@@ -1,0 +1,1 @@
+// The image of a table: definitions in specs/, with no function.
