@@ -2,6 +2,7 @@
 use crate::pointer::Pointed;
 use crate::pointer::open_pointer;
 use crate::refusal::Refusal;
+use words::align::Alignment;
 use words::bits::bloom_count;
 use words::field::word_at;
 use words::wide::word_size;
@@ -68,7 +69,7 @@ pub fn open_table(file: &[u8], start: u32, end: u32) -> Opened
     }
     let from = start as usize;
     let to = end as usize;
-    match open_pointer(file.len(), from, to, 4) {
+    match open_pointer(file.len(), from, to, Alignment::Table) {
         Pointed::Refused(why) => Opened::Refused(why),
         Pointed::Inside => table_in(file, from, to),
     }

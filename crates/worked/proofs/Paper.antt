@@ -1,0 +1,12 @@
+-- P1 to P12: every line of the table holds, by computation. Assumes nothing.
+use mathlib.Core.Path.{refl}
+use Rattle.words.specs.Choice.{pick}
+use Rattle.words.specs.Hash.{hashFrom, hashBy}
+use Rattle.words.specs.Align.{aligned}
+use Rattle.words.specs.Bits.{bloomCount}
+use Rattle.text.specs.Prefix.{endsFrom, prefixes}
+use Rattle.worked.specs.Paper.{paper, AllHold}
+
+pub paper-holds : AllHold paper
+unfolding pick hashBy hashFrom aligned bloomCount prefixes endsFrom
+paper-holds = (refl, (refl, (refl, (refl, (refl, (refl, (refl, (refl, (refl, (refl, (refl, (refl, tt))))))))))))

@@ -1,0 +1,16 @@
+// Document 01's worked numbers as the code answers them, and the boundary cases of UTF-8 and of opening. What it writes is held to the file stdout.
+mod open;
+mod say;
+mod small;
+mod utf8;
+
+fn main() {
+    small::hashes();
+    small::alignments();
+    small::blooms();
+    small::prefixes();
+    small::orders();
+    utf8::sequences();
+    open::pointers();
+    open::tables();
+}
