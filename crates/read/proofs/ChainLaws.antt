@@ -1,0 +1,130 @@
+-- Laws about an item's key: what a step of its chain tells, one turn of the definition and its end. Assumes nothing.
+use Prim.Native.Nat.{ℕ, suc, _+_, _-_, _≤_, _<_}
+use mathlib.Core.Path.{_≡_, refl, sym, ap, _∙_}
+use mathlib.Core.List.{List}
+use mathlib.Core.Bool.{Bool, true, false}
+use native.Mathlib.Omega.{arith}
+use native.Mathlib.Nat.{add-sub-cancel-left}
+use lib.ListN.{length, take, drop}
+use borrow.Author.Tests.{ltb-true}
+use Rattle.words.specs.Choice.{pick}
+use Rattle.words.proofs.ChoiceLaws.{pick-with}
+use Rattle.words.proofs.StoreLaws.{length-part}
+use Rattle.text.specs.Utf8.{isUtf8}
+use Rattle.text.specs.Compare.{sameBytes}
+use Rattle.text.proofs.CompareLaws.{same-equal, same-refl}
+use Rattle.layout.specs.declared.refusal.Refusal.{Refusal}
+use Rattle.layout.specs.declared.refusal.Refusal.the-variants.{FragmentNotUtf8, ParentsEndless}
+use Rattle.layout.specs.declared.pointer.Pointed.{Pointed}
+use Rattle.layout.specs.declared.table.Table.{Table}
+use Rattle.layout.specs.declared.item.Item.{Item}
+use Rattle.layout.specs.Pointer.{openPointer}
+use Rattle.layout.specs.Item.{itemAt}
+use Rattle.layout.proofs.OpenLaws.{pointer-inside}
+use Rattle.read.specs.declared.chain.Step.{Step}
+use Rattle.read.specs.Chain.{fragmentOf, parentOf, afterPointer, climbFrom, Joined, joinStep, keyOf, names}
+
+-- ---- a fragment
+
+-- the stretch from an item's key start, as the code takes it
+pub fragment-taken : (file : List ℕ) (item : Item) {start size : ℕ} → start ≡ item .key → size ≡ item .size
+    → take (start + size - start) (drop start file) ≡ fragmentOf file item
+unfolding fragmentOf
+fragment-taken file item {start} {size} s z = rw (add-sub-cancel-left start size, s, z)
+
+-- a fragment that lies in the file has the item's key size
+pub fragment-size : (file : List ℕ) (item : Item) → item .key + item .size ≤ length file → length (fragmentOf file item) ≡ item .size
+unfolding fragmentOf
+fragment-size file item l = length-part file (item .key) (item .size) l
+
+-- ---- a step
+
+-- what a step of an item tells: its fragment lies in the file, and its parent is an item
+unfoldable pub StepFits : List ℕ → ℕ → Item → Step → Type 0
+StepFits file count item Step.Root = item .key + item .size ≤ length file
+StepFits file count item (Step.Up parent) = (item .key + item .size ≤ length file) × (parent < count)
+StepFits file count item (Step.Refused why) = Unit
+
+parent-fits : (file : List ℕ) (count : ℕ) (item : Item) → item .key + item .size ≤ length file → StepFits file count item (parentOf count (item .parent))
+unfolding parentOf StepFits
+parent-fits file count item l =
+    pick-with (StepFits file count item) _ _ _ (λ e. l)
+    (λ e. pick-with (StepFits file count item) _ _ _ (λ below. (l, ltb-true _ _ below)) (λ e. tt))
+
+pub climb-fits : (file : List ℕ) (count : ℕ) (item : Item) → StepFits file count item (climbFrom file count item)
+unfolding climbFrom StepFits afterPointer
+climb-fits file count item = by-pointer (openPointer (length file) (item .key) (item .key + item .size) 1) refl
+  where
+    by-pointer : (p : Pointed) → openPointer (length file) (item .key) (item .key + item .size) 1 ≡ p
+        → StepFits file count item (afterPointer p (pick (isUtf8 (fragmentOf file item)) (parentOf count (item .parent)) (Step.Refused FragmentNotUtf8)))
+    by-pointer Pointed.Inside e =
+        pick-with (StepFits file count item) _ _ _ (λ _. parent-fits file count item (pointer-inside _ _ _ _ e .1)) (λ _. tt)
+    by-pointer (Pointed.Refused why) e = tt
+
+-- a step that is not refused is the parent's, and the fragment lies in the file
+pub record Climbs (file : List ℕ) (count : ℕ) (item : Item) (s : Step) : Type 0 where
+  pub is : s ≡ parentOf count (item .parent)
+  pub inside : item .key + item .size ≤ length file
+  pub text : isUtf8 (fragmentOf file item) ≡ true
+
+pub climb-or : (file : List ℕ) (count : ℕ) (item : Item) → ((why : Refusal) → climbFrom file count item ≡ Step.Refused why → ⊥)
+    → Climbs file count item (climbFrom file count item)
+unfolding climbFrom afterPointer
+climb-or file count item = by-pointer (openPointer (length file) (item .key) (item .key + item .size) 1) refl
+  where
+    P : Step → Type 0
+    P s = ((why : Refusal) → s ≡ Step.Refused why → ⊥) → Climbs file count item s
+
+    by-pointer : (p : Pointed) → openPointer (length file) (item .key) (item .key + item .size) 1 ≡ p
+        → P (afterPointer p (pick (isUtf8 (fragmentOf file item)) (parentOf count (item .parent)) (Step.Refused FragmentNotUtf8)))
+    by-pointer Pointed.Inside e =
+        pick-with P _ _ _ (λ good n. record { is = refl; inside = pointer-inside _ _ _ _ e .1; text = good }) (λ _ n. absurd (n FragmentNotUtf8 refl))
+    by-pointer (Pointed.Refused why) e = λ n. absurd (n why refl)
+
+-- an item whose fragment opens and is UTF-8 goes on to its parent
+pub climb-on : (file : List ℕ) (count : ℕ) (item : Item) → openPointer (length file) (item .key) (item .key + item .size) 1 ≡ Pointed.Inside
+    → isUtf8 (fragmentOf file item) ≡ true → climbFrom file count item ≡ parentOf count (item .parent)
+unfolding climbFrom afterPointer pick
+climb-on file count item opens good = simp (opens, good)
+
+-- the step, test by test, with the fragment's place as the code has it
+module _ (file : List ℕ) (count : ℕ) (item : Item) {start size : ℕ} (s : start ≡ item .key) (z : size ≡ item .size) where
+  same-place : openPointer (length file) (item .key) (item .key + item .size) 1 ≡ openPointer (length file) start (start + size) 1
+  same-place = rw (s, z)
+
+  pub climb-refused : {why : Refusal} → openPointer (length file) start (start + size) 1 ≡ Pointed.Refused why → Step.Refused why ≡ climbFrom file count item
+  unfolding climbFrom afterPointer
+  climb-refused e = rw (same-place ∙ e)
+
+  module _ (inside : openPointer (length file) start (start + size) 1 ≡ Pointed.Inside) where
+    pub climb-text : isUtf8 (take (start + size - start) (drop start file)) ≡ true → climbFrom file count item ≡ parentOf count (item .parent)
+    unfolding climbFrom afterPointer pick
+    climb-text good = rw (same-place ∙ inside, sym (ap isUtf8 (fragment-taken file item s z)) ∙ good)
+
+    pub climb-no-text : isUtf8 (take (start + size - start) (drop start file)) ≡ false → Step.Refused FragmentNotUtf8 ≡ climbFrom file count item
+    unfolding climbFrom afterPointer pick
+    climb-no-text bad = rw (same-place ∙ inside, sym (ap isUtf8 (fragment-taken file item s z)) ∙ bad)
+
+-- ---- a key
+
+-- one step of the definition, with steps left, and its end
+pub key-turn : (file : List ℕ) (t : Table) (left index : ℕ) (item : Item) (s : Step) → 0 < left → item ≡ itemAt file t index → climbFrom file (t .count) item ≡ s
+    → keyOf file t left index ≡ joinStep s (fragmentOf file item) (λ parent. keyOf file t (left - 1) parent)
+unfolding keyOf
+key-turn file t left index item s h is e =
+    let one : left ≡ suc (left - 1) = omega arith in
+    ap (λ (n : ℕ). keyOf file t n index) one ∙ rw (← is, e)
+
+pub key-over : (file : List ℕ) (t : Table) (left index : ℕ) → left ≤ 0 → keyOf file t left index ≡ Joined.broken ParentsEndless
+unfolding keyOf
+key-over file t left index h = let none : left ≡ 0 = omega arith in rw none
+
+-- a chain names just the key that it joins
+pub names-joined : (j : Joined) (key : List ℕ) → names j key ≡ true → j ≡ Joined.joined key
+unfolding names
+names-joined (Joined.joined k) key e = ap Joined.joined (same-equal k key e)
+names-joined (Joined.broken why) key e = cc
+
+pub joined-names : (j : Joined) (key : List ℕ) → j ≡ Joined.joined key → names j key ≡ true
+unfolding names
+joined-names j key e = ap (λ (x : Joined). names x key) e ∙ same-refl key

@@ -1,0 +1,166 @@
+-- Laws about finding an item, for every rule for a byte: the cases of the definition, one turn of the search and its end, and what the
+-- search says of every position of the run. Assumes nothing.
+use Prim.Native.Nat.{ℕ, zero, suc, _+_, _*_, _-_, _/_, _%_, _≤_, _<_}
+use mathlib.Core.Path.{_≡_, refl, sym, ap, _∙_, subst}
+use mathlib.Core.List.{List}
+use mathlib.Core.Bool.{Bool, true, false}
+use native.Mathlib.Omega.{arith}
+use lib.Dec.{leb, eqb}
+use borrow.Author.Tests.{leb-true, leb-false, eqb-true, eqb-false, eq-eqb, ne-eqb}
+use Rattle.words.specs.Choice.{pick}
+use Rattle.words.specs.Field.{wordAt}
+use Rattle.words.specs.Bits.{bitSet}
+use Rattle.words.specs.Hash.{hashBy}
+use Rattle.words.proofs.ChoiceLaws.{pick-with}
+use Rattle.layout.specs.declared.table.Table.{Table}
+use Rattle.layout.specs.declared.item.Item.{Item}
+use Rattle.layout.specs.Item.{itemAt}
+use Rattle.read.specs.declared.lookup.Run.{Run}
+use Rattle.read.specs.declared.lookup.Found.{Found}
+use Rattle.read.specs.Chain.{Joined, keyOf, names}
+use Rattle.read.specs.Find.{bloomPasses, runOf, itemMatches, firstFrom, firstOf, findItem}
+use Rattle.read.proofs.ChainLaws.{names-joined, joined-names}
+
+-- ---- the cases of the definition, with the hash at hand
+
+pub bloom-word : (file : List ℕ) (t : Table) (hash : ℕ) {wide word : ℕ} → wide ≡ hash → (t .blooms ≡ 0 → ⊥)
+    → word ≡ wordAt file (t .start + 8 + 4 * (wide / 32 % t .blooms)) → bitSet word (hash % 32) ≡ bloomPasses file t hash
+unfolding bloomPasses pick
+bloom-word file t hash same some e = rw (ne-eqb _ _ some, e, same)
+
+module _ (rule : ℕ → ℕ) (file : List ℕ) (t : Table) (key : List ℕ) where
+  -- the test of an item, whose fields are at hand
+  module _ (at : ℕ) {item : Item} (is : item ≡ itemAt file t at) {hash : ℕ} (hashed : hash ≡ hashBy rule key) where
+    pub other-hash : (item .hash ≡ hash → ⊥) → false ≡ itemMatches rule file t key at
+    unfolding itemMatches pick
+    other-hash n = rw (← is, ← hashed, ne-eqb _ _ n)
+
+    pub same-hash : item .hash ≡ hash → names (keyOf file t (t .count) at) key ≡ itemMatches rule file t key at
+    unfolding itemMatches pick
+    same-hash e = rw (← is, ← hashed, eq-eqb _ _ e)
+
+  pub find-no-buckets : t .buckets ≡ 0 → Found.Nothing ≡ findItem rule file t key
+  unfolding findItem pick
+  find-no-buckets e = rw (eq-eqb _ _ e)
+
+  module _ (some : t .buckets ≡ 0 → ⊥) where
+    pub find-no-items : t .count ≡ 0 → Found.Nothing ≡ findItem rule file t key
+    unfolding findItem pick
+    find-no-items e = rw (ne-eqb _ _ some, eq-eqb _ _ e)
+
+    module _ (items : t .count ≡ 0 → ⊥) {hash : ℕ} (hashed : hash ≡ hashBy rule key) where
+      pub find-filtered : bloomPasses file t hash ≡ false → Found.Nothing ≡ findItem rule file t key
+      unfolding findItem pick
+      find-filtered e = rw (ne-eqb _ _ some, ne-eqb _ _ items, ← hashed, e)
+
+      pub find-in-run : bloomPasses file t hash ≡ true → {wide : ℕ} → wide ≡ hash → {run : Run} → run ≡ runOf file t (wide % t .buckets)
+          → firstOf rule file t key run ≡ findItem rule file t key
+      unfolding findItem pick
+      find-in-run e wide is = rw (ne-eqb _ _ some, ne-eqb _ _ items, ← hashed, e, is, wide)
+
+-- ---- the search of a run
+
+-- one position, and the end
+pub first-turn : (test : ℕ → Bool) (count last at : ℕ) → at < last
+    → firstFrom test count (last - at) at ≡ pick (leb count at) Found.Nothing (pick (test at) (Found.At at) (firstFrom test count (last - (at + 1)) (at + 1)))
+unfolding firstFrom
+first-turn test count last at h =
+    let e : last - at ≡ suc (last - (at + 1)) = omega arith in
+    rw e
+
+pub first-over : (test : ℕ → Bool) (count last at : ℕ) → last ≤ at → firstFrom test count (last - at) at ≡ Found.Nothing
+unfolding firstFrom
+first-over test count last at h =
+    let e : last - at ≡ 0 = omega arith in
+    rw e
+
+-- what is found passes the test and is the first that does; where nothing is, none of the positions that are items passes it
+unfoldable pub FirstSays : (ℕ → Bool) → ℕ → ℕ → ℕ → Found → Type 0
+FirstSays test count more at (Found.At i) =
+    (i < count) × (at ≤ i) × (i < at + more) × (test i ≡ true) × ((k : ℕ) → at ≤ k → k < i → test k ≡ false)
+FirstSays test count more at Found.Nothing = (k : ℕ) → at ≤ k → k < at + more → k < count → test k ≡ false
+
+-- a position that does not pass, put before the others
+passed-over : (test : ℕ → Bool) (at : ℕ) → test at ≡ false → (k : ℕ) → at ≤ k → (at + 1 ≤ k → test k ≡ false) → test k ≡ false
+passed-over test at miss k from rest = by (eqb k at) refl
+  where
+    by : (q : Bool) → eqb k at ≡ q → test k ≡ false
+    by true e = ap test (eqb-true k at e) ∙ miss
+    by false e =
+        let other : (k ≡ at → ⊥) = eqb-false k at e in
+        rest (omega arith)
+
+says-more : (test : ℕ → Bool) (count more at : ℕ) (f : Found) → test at ≡ false → FirstSays test count more (at + 1) f → FirstSays test count (suc more) at f
+unfolding FirstSays
+says-more test count more at (Found.At i) miss (below, from, to, hit, before) =
+    (below, omega arith, omega arith, hit, λ k l h. passed-over test at miss k l (λ m. before k m h))
+says-more test count more at Found.Nothing miss none =
+    λ k l h items. passed-over test at miss k l (λ m. none k m (omega arith) items)
+
+pub first-says : (test : ℕ → Bool) (count more at : ℕ) → FirstSays test count more at (firstFrom test count more at)
+unfolding firstFrom FirstSays
+first-says test count zero at = λ k l h items. absurd (omega arith)
+first-says test count (suc more) at =
+    pick-with (FirstSays test count (suc more) at) (leb count at) _ _
+    (λ past. let p : count ≤ at = leb-true _ _ past in λ k l h items. absurd (omega arith))
+    (λ here. pick-with (FirstSays test count (suc more) at) (test at) _ _
+    (λ hit. let b : at < count = leb-false _ _ here in (b, omega arith, omega arith, hit, λ k l h. absurd (omega arith)))
+    (λ miss. says-more test count more at (firstFrom test count more (at + 1)) miss (first-says test count more (at + 1))))
+
+-- ---- what is found, and what is not
+
+unfoldable pub FindSays : (ℕ → ℕ) → List ℕ → Table → List ℕ → Run → Found → Type 0
+FindSays rule file t key run (Found.At i) =
+    (i < t .count) × (run .first ≤ i) × (i < run .last) × (itemMatches rule file t key i ≡ true)
+    × ((k : ℕ) → run .first ≤ k → k < i → itemMatches rule file t key k ≡ false)
+FindSays rule file t key run Found.Nothing =
+    (t .buckets ≡ 0 → ⊥) → bloomPasses file t (hashBy rule key) ≡ true
+    → (k : ℕ) → run .first ≤ k → k < run .last → k < t .count → itemMatches rule file t key k ≡ false
+
+run-says : (rule : ℕ → ℕ) (file : List ℕ) (t : Table) (key : List ℕ) (run : Run) (f : Found)
+    → FirstSays (itemMatches rule file t key) (t .count) (run .last - run .first) (run .first) f → FindSays rule file t key run f
+unfolding FirstSays FindSays
+run-says rule file t key run (Found.At i) (below, from, to, hit, before) = (below, from, omega arith, hit, before)
+run-says rule file t key run Found.Nothing none = λ some passes k l h items. none k l (omega arith) items
+
+pub find-says : (rule : ℕ → ℕ) (file : List ℕ) (t : Table) (key : List ℕ)
+    → FindSays rule file t key (runOf file t (hashBy rule key % t .buckets)) (findItem rule file t key)
+unfolding findItem firstOf FindSays
+find-says rule file t key =
+    let run : Run = runOf file t (hashBy rule key % t .buckets) in
+    let P : Found → Type 0 = FindSays rule file t key run in
+    pick-with P _ _ _ (λ none. λ some. absurd (some (eqb-true _ _ none)))
+    (λ _. pick-with P _ _ _ (λ none some passes k l h items. let z : t .count ≡ 0 = eqb-true _ _ none in absurd (omega arith))
+    (λ _. pick-with P _ _ _ (λ _. run-says rule file t key run _ (first-says _ _ _ _))
+    (λ shut some passes. let z : _≡_ {A = ℕ} 0 1 = cc in absurd (omega arith))))
+
+-- an item that is found is an item of the table
+unfoldable pub FoundBelow : ℕ → Found → Type 0
+FoundBelow count (Found.At index) = index < count
+FoundBelow count Found.Nothing = Unit
+
+says-below : (rule : ℕ → ℕ) (file : List ℕ) (t : Table) (key : List ℕ) (run : Run) (f : Found) → FindSays rule file t key run f → FoundBelow (t .count) f
+unfolding FindSays FoundBelow
+says-below rule file t key run (Found.At i) says = says .0
+says-below rule file t key run Found.Nothing says = tt
+
+pub found-below : (rule : ℕ → ℕ) (file : List ℕ) (t : Table) (key : List ℕ) → FoundBelow (t .count) (findItem rule file t key)
+found-below rule file t key = says-below rule file t key _ _ (find-says rule file t key)
+
+-- ---- an item matches just where its hash is the key's and its chain joins the key
+
+pub match-true : (rule : ℕ → ℕ) (file : List ℕ) (t : Table) (key : List ℕ) (i : ℕ) → itemMatches rule file t key i ≡ true
+    → (itemAt file t i .hash ≡ hashBy rule key) × (keyOf file t (t .count) i ≡ Joined.joined key)
+unfolding itemMatches
+match-true rule file t key i =
+    pick-with (λ (q : Bool). q ≡ true → (itemAt file t i .hash ≡ hashBy rule key) × (keyOf file t (t .count) i ≡ Joined.joined key)) _ _ _
+    (λ same e. (eqb-true _ _ same, names-joined _ _ e))
+    (λ _ e. let z : _≡_ {A = ℕ} 0 1 = cc in absurd (omega arith))
+
+pub match-false : (rule : ℕ → ℕ) (file : List ℕ) (t : Table) (key : List ℕ) (i : ℕ) → itemMatches rule file t key i ≡ false
+    → itemAt file t i .hash ≡ hashBy rule key → keyOf file t (t .count) i ≡ Joined.joined key → ⊥
+unfolding itemMatches pick
+match-false rule file t key i miss same key-is =
+    let hit : pick (eqb (itemAt file t i .hash) (hashBy rule key)) (names (keyOf file t (t .count) i) key) false ≡ true =
+    rw (eq-eqb _ _ same) (joined-names _ _ key-is) in
+    let z : _≡_ {A = ℕ} 0 1 = cc in omega arith

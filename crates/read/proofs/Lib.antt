@@ -1,0 +1,12 @@
+pub mod ChainLaws
+pub mod MatchLaws
+pub mod FindLaws
+pub mod MeasureLaws
+pub mod WriteLaws
+pub mod ListingLaws
+pub mod LookupLaws
+pub mod SoughtLaws
+pub mod Plain
+pub mod OwnParent
+pub mod Unique
+pub mod AnswerLaws

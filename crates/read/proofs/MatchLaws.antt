@@ -1,0 +1,160 @@
+-- The loop over a chain decides what the definition says: a chain of one item more names a key just where the key ends in the item's
+-- fragment and the parent's chain names the front. Assumes nothing.
+use Prim.Native.Nat.{ℕ, zero, suc, _+_, _-_, _≤_, _<_}
+use mathlib.Core.Path.{_≡_, refl, sym, ap, _∙_, subst}
+use mathlib.Core.List.{List, [], _∷_, _++_}
+use mathlib.Core.Bool.{Bool, true, false, _&&_}
+use native.Mathlib.Omega.{arith}
+use lib.ListN.{length, take, drop, length-append}
+use lib.Seq.{take-length, take-take, take-at, drop-at, length-take-le}
+use lib.Dec.{eqb}
+use borrow.Author.Tests.{le-leb}
+use Rattle.words.specs.Choice.{pick}
+use Rattle.words.proofs.ChoiceLaws.{pick-with, pick-same}
+use Rattle.text.specs.Compare.{sameBytes, endsAt}
+use Rattle.text.proofs.CompareLaws.{same-equal, same-refl, same-lengths, ends-split}
+use Rattle.layout.specs.declared.refusal.Refusal.{Refusal}
+use Rattle.layout.specs.declared.table.Table.{Table}
+use Rattle.layout.specs.declared.item.Item.{Item}
+use Rattle.layout.specs.Item.{itemAt}
+use Rattle.read.specs.declared.chain.Step.{Step}
+use Rattle.read.specs.declared.chain.Matched.{Matched}
+use Rattle.read.specs.Chain.{climbFrom, Joined, append, joinStep, keyOf, names, matchTail, matchStep, matchItem}
+use Rattle.read.proofs.ChainLaws.{fragment-taken, StepFits, climb-fits}
+
+-- ---- two keys with one tail
+
+pub same-cancel : (k f a : List ℕ) → sameBytes (k ++ f) (a ++ f) ≡ sameBytes k a
+unfolding sameBytes
+same-cancel [] f [] = same-refl f
+same-cancel [] f (x ∷ a) = same-lengths f (x ∷ (a ++ f)) (λ h. omega (arith, length-append a f))
+same-cancel (y ∷ k) f [] = same-lengths (y ∷ (k ++ f)) f (λ h. omega (arith, length-append k f))
+same-cancel (y ∷ k) f (x ∷ a) = ap (λ (q : Bool). eqb y x && q) (same-cancel k f a)
+
+pub ends-joined : (k f : List ℕ) → endsAt (k ++ f) (length (k ++ f)) f ≡ true
+unfolding endsAt
+ends-joined k f =
+    let whole : length (k ++ f) ≡ length k + length f = length-append k f in
+    let front : length (k ++ f) - length f ≡ length k = omega arith in
+    rw (le-leb (length f) (length (k ++ f)) (omega arith), front, drop-at k f (length k) refl, take-length) (same-refl f)
+
+-- a joined key is a given one where that ends in the fragment and its front is what was joined above
+names-tail : (above : Joined) (f key : List ℕ)
+    → names (append above f) key ≡ pick (endsAt key (length key) f) (names above (take (length key - length f) key)) false
+unfolding names append
+names-tail (Joined.broken why) f key = sym (pick-same _ false)
+names-tail (Joined.joined k) f key =
+    pick-with (λ (q : Bool). sameBytes (k ++ f) key ≡ q) (endsAt key (length key) f) _ _
+    (λ e.
+    let m = length key - length f in
+    let split : key ≡ take m key ++ f = sym (take-length key) ∙ ends-split key (length key) f e .1 in
+    ap (sameBytes (k ++ f)) split ∙ same-cancel k f (take m key))
+    (λ e. unequal (sameBytes (k ++ f) key) refl e)
+  where
+    unequal : (q : Bool) → sameBytes (k ++ f) key ≡ q → endsAt key (length key) f ≡ false → q ≡ false
+    unequal true e n =
+        let whole : k ++ f ≡ key = same-equal _ _ e in
+        sym (subst (λ (l : List ℕ). endsAt l (length l) f ≡ true) whole (ends-joined k f)) ∙ n
+    unequal false e n = refl
+
+-- ---- one step
+
+-- what is left to ask after a step
+unfoldable pub afterMatch : List ℕ → Table → ℕ → List ℕ → Matched → Bool
+afterMatch file t steps key (Matched.Ended answer) = answer
+afterMatch file t steps key (Matched.Rest parent size) = names (keyOf file t steps parent) (take size key)
+
+after-pick : (file : List ℕ) (t : Table) (steps : ℕ) (key : List ℕ) (q : Bool) (parent size : ℕ)
+    → afterMatch file t steps key (pick q (Matched.Rest parent size) (Matched.Ended false)) ≡ pick q (names (keyOf file t steps parent) (take size key)) false
+unfolding afterMatch pick
+after-pick file t steps key true parent size = refl
+after-pick file t steps key false parent size = refl
+
+match-step : (file : List ℕ) (t : Table) (steps : ℕ) (s : Step) (f key : List ℕ)
+    → names (joinStep s f (λ parent. keyOf file t steps parent)) key ≡ afterMatch file t steps key (matchStep s f key)
+unfolding joinStep matchStep matchTail afterMatch names
+match-step file t steps Step.Root f key = refl
+match-step file t steps (Step.Up parent) f key =
+    names-tail (keyOf file t steps parent) f key ∙ sym (after-pick file t steps key (endsAt key (length key) f) parent (length key - length f))
+match-step file t steps (Step.Refused why) f key = refl
+
+match-law : (file : List ℕ) (t : Table) (steps index : ℕ) (key : List ℕ)
+    → names (keyOf file t (suc steps) index) key ≡ afterMatch file t steps key (matchItem file t index key)
+unfolding keyOf matchItem
+match-law file t steps index key = match-step file t steps _ _ key
+
+-- what the item at hand says, with its fragment's place as the code has it
+module _ (file : List ℕ) (t : Table) (index : ℕ) (key : List ℕ) {item : Item} (is : item ≡ itemAt file t index) where
+  pub match-refused : {why : Refusal} → climbFrom file (t .count) item ≡ Step.Refused why → Matched.Ended false ≡ matchItem file t index key
+  unfolding matchItem matchStep
+  match-refused e = rw (← is, e)
+
+  module _ {start size : ℕ} (s : start ≡ item .key) (z : size ≡ item .size) where
+    pub match-root : climbFrom file (t .count) item ≡ Step.Root
+        → Matched.Ended (sameBytes (take (start + size - start) (drop start file)) key) ≡ matchItem file t index key
+    unfolding matchItem matchStep
+    match-root e = rw (← is, e, fragment-taken file item s z)
+
+    pub match-up : {parent : ℕ} → climbFrom file (t .count) item ≡ Step.Up parent
+        → matchTail (take (start + size - start) (drop start file)) parent key ≡ matchItem file t index key
+    unfolding matchItem matchStep
+    match-up e = rw (← is, e, fragment-taken file item s z)
+
+-- what a match that goes on tells
+unfoldable pub MatchFits : ℕ → ℕ → Matched → Type 0
+MatchFits count size (Matched.Ended answer) = Unit
+MatchFits count size (Matched.Rest parent rest) = (parent < count) × (rest ≤ size)
+
+match-step-fits : (file : List ℕ) (count : ℕ) (item : Item) (s : Step) (f key : List ℕ) → StepFits file count item s → MatchFits count (length key) (matchStep s f key)
+unfolding matchStep matchTail StepFits MatchFits
+match-step-fits file count item Step.Root f key h = tt
+match-step-fits file count item (Step.Refused why) f key h = tt
+match-step-fits file count item (Step.Up parent) f key h =
+    pick-with (MatchFits count (length key)) _ _ _ (λ _. (h .1, omega arith)) (λ _. tt)
+
+match-fits : (file : List ℕ) (t : Table) (index : ℕ) (key : List ℕ) → MatchFits (t .count) (length key) (matchItem file t index key)
+unfolding matchItem
+match-fits file t index key = match-step-fits file (t .count) (itemAt file t index) _ _ key (climb-fits file (t .count) (itemAt file t index))
+
+-- ---- the loop: what the chain of the present item says of the front of the key that is left is what the whole chain says of the whole key
+
+pub record Climbing (file : List ℕ) (t : Table) (index : ℕ) (key : List ℕ) (at end left : ℕ) : Type 0 where
+  pub below : at < t .count
+  pub within : end ≤ length key
+  pub same : names (keyOf file t left at) (take end key) ≡ names (keyOf file t (t .count) index) key
+
+module _ (file : List ℕ) (t : Table) (index : ℕ) (key : List ℕ) where
+  pub start : index < t .count → Climbing file t index key index (length key) (t .count)
+  start h = record { below = h; within = omega arith; same = rw take-length }
+
+  module _ {at end left : ℕ} (i : Climbing file t index key at end left) where
+    turn : 0 < left → {m : Matched} → matchItem file t at (take end key) ≡ m → afterMatch file t (left - 1) (take end key) m ≡ names (keyOf file t (t .count) index) key
+    turn h e =
+        let one : left ≡ suc (left - 1) = omega arith in
+        ap (afterMatch file t (left - 1) (take end key)) (sym e)
+        ∙ sym (ap (λ (n : ℕ). names (keyOf file t n at) (take end key)) one ∙ match-law file t (left - 1) at (take end key))
+        ∙ i .same
+
+    pub ended : 0 < left → {answer : Bool} → matchItem file t at (take end key) ≡ Matched.Ended answer
+        → answer ≡ names (keyOf file t (t .count) index) key
+    unfolding afterMatch
+    ended h e = turn h e
+
+    pub up : 0 < left → {parent size : ℕ} → matchItem file t at (take end key) ≡ Matched.Rest parent size
+        → Climbing file t index key parent size (left - 1)
+    unfolding afterMatch MatchFits
+    up h {parent} {size} e =
+        let fits : (parent < t .count) × (size ≤ length (take end key)) = subst (MatchFits (t .count) (length (take end key))) e (match-fits file t at (take end key)) in
+        let shorter : length (take end key) ≡ end = length-take-le end key (i .within) in
+        let le : size ≤ end = omega arith in
+        record {
+          below = fits .0;
+          within = omega (arith, i .within);
+          same = ap (names (keyOf file t (left - 1) parent)) (sym (take-take size end key le)) ∙ turn h e;
+        }
+
+    pub over : left ≤ 0 → false ≡ names (keyOf file t (t .count) index) key
+    unfolding keyOf names
+    over h =
+        let none : left ≡ 0 = omega arith in
+        ap (λ (n : ℕ). names (keyOf file t n at) (take end key)) (sym none) ∙ i .same

@@ -1,0 +1,80 @@
+-- `read::chain::climb` meets its contract: each return is a case of the definition, with the fragment's place in the file's widths.
+-- Assumes nothing.
+use mathlib.Core.Path.{_≡_, sym, _∙_}
+use borrow.Author.Needs.{needs}
+use Rattle.layout.proofs.OpenLaws.{pointer-inside}
+use Rattle.read.proofs.ChainLaws.{climb-refused, climb-text, climb-no-text}
+use Rattle.read.proofs.chain.climb.Statement.{statement}
+use Rattle.read.proofs.chain.climb.Tie as tie
+
+word-size-requires : tie.Need-word-size-requires
+word-size-requires c κs = search needs
+
+half-size-requires : tie.Need-half-size-requires
+half-size-requires c κs = search needs
+
+add-end : tie.Need-add-end
+add-end c = search needs
+
+open-pointer-requires : tie.Need-open-pointer-requires
+open-pointer-requires c κs = search needs
+
+enum-known-why : tie.Need-enum-known-why
+enum-known-why c = search needs
+
+enum-told : tie.Need-enum-told
+enum-told c = search needs
+
+sub-is-utf8 : tie.Need-sub-is-utf8
+sub-is-utf8 c = search needs
+
+part-is-utf8-start : tie.Need-part-is-utf8-start
+part-is-utf8-start c = search needs
+
+part-is-utf8-end : tie.Need-part-is-utf8-end
+part-is-utf8-end c = pointer-inside _ _ _ _ (sym (c .before .before .open-pointer .ensures) ∙ c .enum-told .given .1) .1
+
+is-utf8-requires : tie.Need-is-utf8-requires
+is-utf8-requires c κs = search needs
+
+parent-of-requires : tie.Need-parent-of-requires
+parent-of-requires c κs = search needs
+
+returns : tie.Need-returns
+returns c =
+    let at-open = c .before .before .before in
+    climb-refused _ _ _ (at-open .before .before .word-size .ensures .0) (at-open .before .half-size .ensures .0) (sym (at-open .open-pointer .ensures) ∙ c .before .why .given .1)
+
+returns-2 : tie.Need-returns-2
+returns-2 c =
+    let at-utf8 = c .before .before in
+    let at-told = at-utf8 .before .before in
+    let at-open = at-told .before .before in
+    c .parent-of .ensures
+    ∙ sym (climb-text _ _ _ (at-open .before .before .word-size .ensures .0) (at-open .before .half-size .ensures .0) (sym (at-open .open-pointer .ensures) ∙ at-told .enum-told .given .1) (sym (at-utf8 .is-utf8 .ensures) ∙ c .before .if1 .taken))
+
+returns-3 : tie.Need-returns-3
+returns-3 c =
+    let at-utf8 = c .before in
+    let at-told = at-utf8 .before .before in
+    let at-open = at-told .before .before in
+    climb-no-text _ _ _ (at-open .before .before .word-size .ensures .0) (at-open .before .half-size .ensures .0) (sym (at-open .open-pointer .ensures) ∙ at-told .enum-told .given .1) (sym (at-utf8 .is-utf8 .ensures) ∙ c .if1 .left)
+
+pub climb-spec : {M : Type 1} → statement M
+climb-spec =
+    tie.close
+    (tie.spec
+    word-size-requires
+    half-size-requires
+    add-end
+    open-pointer-requires
+    enum-known-why
+    enum-told
+    sub-is-utf8
+    part-is-utf8-start
+    part-is-utf8-end
+    is-utf8-requires
+    parent-of-requires
+    returns
+    returns-2
+    returns-3)

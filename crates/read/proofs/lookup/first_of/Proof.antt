@@ -1,0 +1,67 @@
+-- `read::lookup::first_of` meets its contract: what the search has still to say from here is what it had to say from the start.
+-- Assumes nothing.
+use Prim.Native.Nat.{_-_}
+use mathlib.Core.Path.{_≡_, sym, _∙_}
+use borrow.Author.Needs.{needs}
+use borrow.Author.Tests.{le-leb, lt-leb}
+use Rattle.words.specs.Choice.{pick}
+use Rattle.words.specs.Hash.{plain}
+use Rattle.read.specs.Find.{firstFrom, firstOf, itemMatches}
+use Rattle.read.proofs.FindLaws.{first-turn, first-over}
+use Rattle.read.proofs.lookup.first_of.Statement.{statement}
+use Rattle.read.proofs.lookup.first_of.Tie as tie
+
+abbrev Inv-loop : tie.InvT-loop
+Inv-loop file table hash key last count at₀ at = firstFrom (itemMatches plain file table key) count (last - at) at ≡ firstFrom (itemMatches plain file table key) count (last - at₀) at₀
+
+abbrev μ-loop : tie.MeasureT-loop
+μ-loop file table hash key last count at₀ at = last - at
+
+loop-holds : tie.Need-loop-holds Inv-loop μ-loop
+loop-holds c = search needs
+
+returns : tie.Need-returns Inv-loop μ-loop
+unfolding firstOf pick
+returns c = sym (first-turn _ _ _ _ (c .before .loop-test .taken) ∙ simp (le-leb _ _ (c .if1 .taken))) ∙ c .before .before .loop .inv
+
+item-matches-requires : tie.Need-item-matches-requires Inv-loop μ-loop
+item-matches-requires c κs = search needs
+
+returns-2 : tie.Need-returns-2 Inv-loop μ-loop
+unfolding firstOf pick
+returns-2 c =
+    let at-if1 = c .before .before in
+    sym (first-turn _ _ _ _ (at-if1 .before .loop-test .taken) ∙ simp (lt-leb _ _ (at-if1 .if1 .left), sym (c .before .item-matches .ensures) ∙ c .if2 .taken))
+    ∙ at-if1 .before .before .loop .inv
+
+add-at : tie.Need-add-at Inv-loop μ-loop
+add-at c = search needs
+
+loop-less : tie.Need-loop-less Inv-loop μ-loop
+loop-less c = search needs
+
+loop-again : tie.Need-loop-again Inv-loop μ-loop
+unfolding pick
+loop-again c =
+    let at-if1 = c .before .before in
+    sym (first-turn _ _ _ _ (at-if1 .before .loop-test .taken) ∙ simp (lt-leb _ _ (at-if1 .if1 .left), sym (c .before .item-matches .ensures) ∙ c .if2 .left))
+    ∙ at-if1 .before .before .loop .inv
+
+returns-3 : tie.Need-returns-3 Inv-loop μ-loop
+unfolding firstOf
+returns-3 c = sym (first-over _ _ _ _ (c .loop-test .left)) ∙ c .before .loop .inv
+
+pub first-of-spec : {M : Type 1} → statement M
+first-of-spec =
+    tie.close
+    (tie.spec
+    Inv-loop
+    μ-loop
+    loop-holds
+    returns
+    item-matches-requires
+    returns-2
+    add-at
+    loop-less
+    loop-again
+    returns-3)

@@ -1,0 +1,53 @@
+-- `read::lookup::lookup_in` meets its contract: what is found is an item of the table. Assumes nothing.
+use mathlib.Core.Path.{_≡_, sym, ap, _∙_, subst}
+use borrow.Author.Needs.{needs}
+use Rattle.words.specs.Choice.{pick}
+use Rattle.words.specs.Hash.{plain}
+use Rattle.read.specs.declared.lookup.Sought.{Sought}
+use Rattle.read.specs.Lookup.{lookupIn, atFound}
+use Rattle.read.proofs.FindLaws.{FoundBelow, found-below}
+use Rattle.read.proofs.lookup.lookup_in.Statement.{statement}
+use Rattle.read.proofs.lookup.lookup_in.Tie as tie
+
+is-utf8-requires : tie.Need-is-utf8-requires
+is-utf8-requires c κs = search needs
+
+find-item-requires : tie.Need-find-item-requires
+find-item-requires c κs = search needs
+
+enum-told : tie.Need-enum-told
+enum-told c = search needs
+
+enum-known-index : tie.Need-enum-known-index
+enum-known-index c = search needs
+
+item-at-requires : tie.Need-item-at-requires
+unfolding FoundBelow
+item-at-requires c κs = (c .before .before .before .before .before .before .before .before .pre, subst (FoundBelow _) (sym (c .before .before .before .find-item .ensures) ∙ c .before .index .given .1) (found-below plain _ _ _))
+
+returns : tie.Need-returns
+unfolding lookupIn atFound pick
+returns c = simp (sym (c .before .before .before .before .is-utf8 .ensures) ∙ c .before .before .before .if1 .taken, sym (c .before .before .find-item .ensures) ∙ c .enum-told .given .1)
+
+returns-2 : tie.Need-returns-2
+unfolding lookupIn atFound pick
+returns-2 c =
+    simp (sym (c .before .before .before .before .before .before .is-utf8 .ensures) ∙ c .before .before .before .before .before .if1 .taken, sym (c .before .before .before .before .find-item .ensures) ∙ c .before .before .index .given .1)
+    (ap Sought.Item (c .item-at .ensures))
+
+returns-3 : tie.Need-returns-3
+unfolding lookupIn pick
+returns-3 c = simp (sym (c .before .is-utf8 .ensures) ∙ c .if1 .left)
+
+pub lookup-in-spec : {M : Type 1} → statement M
+lookup-in-spec =
+    tie.close
+    (tie.spec
+    is-utf8-requires
+    find-item-requires
+    enum-told
+    enum-known-index
+    item-at-requires
+    returns
+    returns-2
+    returns-3)

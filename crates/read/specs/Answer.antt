@@ -1,0 +1,54 @@
+-- The number of document 01 that each answer stands for, 0 for a success, and the values that it carries, 0 where it has none.
+-- Assumes nothing.
+use Prim.Native.Nat.{ℕ, _-_}
+use mathlib.Core.List.{List, []}
+use Rattle.words.specs.Store.{part}
+use Rattle.layout.specs.Refusal.{number}
+use Rattle.read.specs.declared.lookup.Looked.{Looked}
+use Rattle.read.specs.declared.listing.Listed.{Listed}
+use Rattle.read.specs.declared.listing.Valued.{Valued}
+
+unfoldable pub lookedNumber : Looked → ℕ
+lookedNumber (Looked.Place start end) = 0
+lookedNumber (Looked.Refused why) = number why
+
+-- start and end of the place
+unfoldable pub lookedPlace : Looked → ℕ × ℕ
+lookedPlace (Looked.Place start end) = (start, end)
+lookedPlace (Looked.Refused why) = (0, 0)
+
+-- a view is that stretch of the file, and empty on a refusal
+unfoldable pub lookedBytes : List ℕ → Looked → List ℕ
+lookedBytes file (Looked.Place start end) = part file start (end - start)
+lookedBytes file (Looked.Refused why) = []
+
+unfoldable pub listedNumber : Listed → ℕ
+listedNumber (Listed.Key size next) = 0
+listedNumber (Listed.Refused why) = number why
+
+-- the key's length, and the next position
+unfoldable pub listedKey : Listed → ℕ × ℕ
+listedKey (Listed.Key size next) = (size, next .at)
+listedKey (Listed.Refused why) = (0, 0)
+
+unfoldable pub valuedNumber : Valued → ℕ
+valuedNumber (Valued.Value index start end next) = 0
+valuedNumber (Valued.Unopened why index next) = number why
+valuedNumber (Valued.Refused why) = number why
+
+-- the item's index and the next position, which stand with 2 and 3 of its pointer too
+unfoldable pub valuedItem : Valued → ℕ × ℕ
+valuedItem (Valued.Value index start end next) = (index, next .at)
+valuedItem (Valued.Unopened why index next) = (index, next .at)
+valuedItem (Valued.Refused why) = (0, 0)
+
+-- start and end of the place
+unfoldable pub valuedPlace : Valued → ℕ × ℕ
+valuedPlace (Valued.Value index start end next) = (start, end)
+valuedPlace (Valued.Unopened why index next) = (0, 0)
+valuedPlace (Valued.Refused why) = (0, 0)
+
+unfoldable pub valuedBytes : List ℕ → Valued → List ℕ
+valuedBytes file (Valued.Value index start end next) = part file start (end - start)
+valuedBytes file (Valued.Unopened why index next) = []
+valuedBytes file (Valued.Refused why) = []

@@ -1,0 +1,5 @@
+pub mod Chain
+pub mod Find
+pub mod Lookup
+pub mod Listing
+pub mod Answer

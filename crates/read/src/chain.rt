@@ -1,0 +1,114 @@
+// An item's key, through its parents: the step from an item to its parent, and whether an item's chain names a key.
+use layout::item::Item;
+use layout::item::item_at;
+use layout::pointer::Pointed;
+use layout::pointer::open_pointer;
+use layout::refusal::Refusal;
+use layout::table::Table;
+use text::compare::ends_with;
+use text::compare::same_bytes;
+use text::utf8::is_utf8;
+use words::align::Alignment;
+use words::wide::half_size;
+use words::wide::word_size;
+ghost use mathlib.Core.Path.{_≡_};
+ghost use Prim.Native.Nat.{_<_};
+ghost use Rattle.layout.specs.Table.{InFile};
+ghost use Rattle.read.specs.Chain.{parentOf, climbFrom, matchTail, matchItem, keyOf, names};
+
+// Where an item's chain goes on: it is a root, it has a parent, or the item is refused.
+pub enum Step {
+    Root,
+    Up(usize),
+    Refused(Refusal),
+}
+
+// What an item says of a key: yes or no, or that the front of the key is its parent's to name.
+pub enum Matched {
+    Ended(bool),
+    Rest { parent: usize, size: usize },
+}
+
+// The parent that an item names, in a table of so many items.
+pub fn parent_of(count: usize, parent: u32) -> Step
+    ensures { λ r. ⌜ r ≡ parentOf count parent ⌝ }
+{
+    if parent == 0xFFFF_FFFF {
+        return Step::Root;
+    }
+    let at = word_size(parent);
+    if at < count {
+        return Step::Up(at);
+    }
+    Step::Refused(Refusal::ParentOutside)
+}
+
+// The step from an item, whose fragment has to open and be UTF-8: 2, 9, then 10 for its parent.
+pub fn climb(file: &[u8], count: usize, item: Item) -> Step
+    ensures { λ r. ⌜ r ≡ climbFrom (now (file .entry)) count item ⌝ }
+{
+    let start = word_size(item.key);
+    let end = start + half_size(item.size);
+    match open_pointer(file.len(), start, end, Alignment::Key) {
+        Pointed::Refused(why) => Step::Refused(why),
+        Pointed::Inside => {
+            if is_utf8(&file[start..end]) {
+                parent_of(count, item.parent)
+            } else {
+                Step::Refused(Refusal::FragmentNotUtf8)
+            }
+        }
+    }
+}
+
+// Whether a key ends in a fragment, and what is left of it for the parent.
+fn match_tail(fragment: &[u8], parent: usize, key: &[u8]) -> Matched
+    ensures { λ r. ⌜ r ≡ matchTail (now (fragment .entry)) parent (now (key .entry)) ⌝ }
+{
+    if ends_with(key, key.len(), fragment) {
+        Matched::Rest {
+            parent,
+            size: key.len() - fragment.len(),
+        }
+    } else {
+        Matched::Ended(false)
+    }
+}
+
+// What the item at an index says of a key.
+fn match_item(file: &[u8], table: Table, index: usize, key: &[u8]) -> Matched
+    requires { ⌜ InFile (now file) table × (index < table .count) ⌝ }
+    ensures { λ r. ⌜ r ≡ matchItem (now (file .entry)) table index (now (key .entry)) ⌝ }
+{
+    let item = item_at(file, table, index);
+    let start = word_size(item.key);
+    let end = start + half_size(item.size);
+    match climb(file, table.count, item) {
+        Step::Refused(_) => Matched::Ended(false),
+        Step::Root => Matched::Ended(same_bytes(&file[start..end], key)),
+        Step::Up(parent) => match_tail(&file[start..end], parent, key),
+    }
+}
+
+// Whether the chain of the item at an index names a key. The key's tail is compared with each fragment on the way up.
+pub fn chain_names(file: &[u8], table: Table, index: usize, key: &[u8]) -> bool
+    requires { ⌜ InFile (now file) table × (index < table .count) ⌝ }
+    ensures { λ r. ⌜ r ≡ names (keyOf (now (file .entry)) table (table .count) index) (now (key .entry)) ⌝ }
+{
+    let mut at = index;
+    let mut end = key.len();
+    let mut left = table.count;
+    while 0 < left {
+        match match_item(file, table, at, &key[..end]) {
+            Matched::Ended(answer) => {
+                return answer;
+            }
+            Matched::Rest { parent, size } => {
+                at = parent;
+                end = size;
+            }
+        }
+        left -= 1;
+    }
+    false
+}

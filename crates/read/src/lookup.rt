@@ -1,0 +1,216 @@
+// Looking a key up: the bloom test, the bucket, its run, and what the item found points to.
+use crate::chain::chain_names;
+use layout::item::Item;
+use layout::item::item_at;
+use layout::pointer::Pointed;
+use layout::pointer::open_pointer;
+use layout::refusal::Refusal;
+use layout::table::Opened;
+use layout::table::Table;
+use layout::table::open_table;
+use text::utf8::is_utf8;
+use words::align::Alignment;
+use words::bits::bit_set;
+use words::field::word_at;
+use words::hash::djb_hash;
+use words::wide::word_size;
+ghost use mathlib.Core.Path.{_≡_};
+ghost use Prim.Native.Nat.{_<_};
+ghost use Rattle.words.specs.Hash.{plain, hashOf};
+ghost use Rattle.layout.specs.Table.{InFile};
+ghost use Rattle.read.specs.Find.{bloomPasses, runOf, itemMatches, firstOf, findItem};
+ghost use Rattle.read.specs.Lookup.{lookupIn, lookupItem, valueOf, nestedOf, lookupValue, lookupTable};
+
+// The positions of one bucket's items: from first, up to last.
+pub struct Run {
+    pub first: usize,
+    pub last: usize,
+}
+
+// The index of an item, or that there is none.
+pub enum Found {
+    At(usize),
+    Nothing,
+}
+
+// The item that a key names, or why there is none.
+pub enum Sought {
+    Item(Item),
+    Refused(Refusal),
+}
+
+// The bytes of the file that a key leads to: a value's, or a nested table's.
+pub enum Looked {
+    Place { start: u32, end: u32 },
+    Refused(Refusal),
+}
+
+// Whether a hash may be in the table, by its bloom words.
+pub fn bloom_passes(file: &[u8], table: Table, hash: u32) -> bool
+    requires { ⌜ InFile (now file) table ⌝ }
+    ensures { λ r. ⌜ r ≡ bloomPasses (now (file .entry)) table hash ⌝ }
+{
+    let blooms = table.blooms;
+    if blooms == 0 {
+        return true;
+    }
+    let position = word_size(hash) / 32 % blooms;
+    let word = word_at(file, table.start + 8 + 4 * position);
+    bit_set(word, hash)
+}
+
+// The run of a bucket.
+pub fn run_of(file: &[u8], table: Table, bucket: usize) -> Run
+    requires { ⌜ InFile (now file) table × (bucket < table .buckets) ⌝ }
+    ensures { λ r. ⌜ r ≡ runOf (now (file .entry)) table bucket ⌝ }
+{
+    let at = table.start + 8 + 4 * table.blooms + 4 * bucket;
+    let first = word_size(word_at(file, at));
+    if bucket + 1 < table.buckets {
+        Run {
+            first,
+            last: word_size(word_at(file, at + 4)),
+        }
+    } else {
+        Run {
+            first,
+            last: table.count,
+        }
+    }
+}
+
+// Whether the item at an index has the key's hash and its chain names the key.
+fn item_matches(file: &[u8], table: Table, hash: u32, index: usize, key: &[u8]) -> bool
+    requires { ⌜ InFile (now file) table × (index < table .count) × (hash ≡ hashOf (now key)) ⌝ }
+    ensures { λ r. ⌜ r ≡ itemMatches plain (now (file .entry)) table (now (key .entry)) index ⌝ }
+{
+    let item = item_at(file, table, index);
+    if item.hash == hash {
+        chain_names(file, table, index, key)
+    } else {
+        false
+    }
+}
+
+// The first item of a run that matches.
+fn first_of(file: &[u8], table: Table, hash: u32, run: Run, key: &[u8]) -> Found
+    requires { ⌜ InFile (now file) table × (hash ≡ hashOf (now key)) ⌝ }
+    ensures { λ r. ⌜ r ≡ firstOf plain (now (file .entry)) table (now (key .entry)) run ⌝ }
+{
+    let last = run.last;
+    let count = table.count;
+    let mut at = run.first;
+    while at < last {
+        if count <= at {
+            return Found::Nothing;
+        }
+        if item_matches(file, table, hash, at, key) {
+            return Found::At(at);
+        }
+        at += 1;
+    }
+    Found::Nothing
+}
+
+// The item that a key names.
+pub fn find_item(file: &[u8], table: Table, key: &[u8]) -> Found
+    requires { ⌜ InFile (now file) table ⌝ }
+    ensures { λ r. ⌜ r ≡ findItem plain (now (file .entry)) table (now (key .entry)) ⌝ }
+{
+    let buckets = table.buckets;
+    if buckets == 0 {
+        return Found::Nothing;
+    }
+    if table.count == 0 {
+        return Found::Nothing;
+    }
+    let hash = djb_hash(key);
+    if bloom_passes(file, table, hash) {
+        let run = run_of(file, table, word_size(hash) % buckets);
+        first_of(file, table, hash, run, key)
+    } else {
+        Found::Nothing
+    }
+}
+
+// The item of a key in an open table: 8, 12, or the item.
+fn lookup_in(file: &[u8], table: Table, key: &[u8]) -> Sought
+    requires { ⌜ InFile (now file) table ⌝ }
+    ensures { λ r. ⌜ r ≡ lookupIn plain (now (file .entry)) (now (key .entry)) table ⌝ }
+{
+    if is_utf8(key) {
+        match find_item(file, table, key) {
+            Found::Nothing => Sought::Refused(Refusal::KeyNotFound),
+            Found::At(index) => Sought::Item(item_at(file, table, index)),
+        }
+    } else {
+        Sought::Refused(Refusal::KeyNotUtf8)
+    }
+}
+
+// The item of a key in the table at a pointer: opening, then the same.
+fn lookup_item(file: &[u8], start: u32, end: u32, key: &[u8]) -> Sought
+    ensures { λ r. ⌜ r ≡ lookupItem plain (now (file .entry)) start end (now (key .entry)) ⌝ }
+{
+    match open_table(file, start, end) {
+        Opened::Refused(why) => Sought::Refused(why),
+        Opened::Table(table) => lookup_in(file, table, key),
+    }
+}
+
+// The value of an item: 13 for another kind, then 2 or 3 of its pointer.
+fn value_of(file: &[u8], item: Item) -> Looked
+    ensures { λ r. ⌜ r ≡ valueOf (now (file .entry)) item ⌝ }
+{
+    if item.kind != b'v' {
+        return Looked::Refused(Refusal::OtherKind);
+    }
+    match open_pointer(
+        file.len(),
+        word_size(item.from),
+        word_size(item.to),
+        Alignment::Value,
+    ) {
+        Pointed::Refused(why) => Looked::Refused(why),
+        Pointed::Inside => Looked::Place {
+            start: item.from,
+            end: item.to,
+        },
+    }
+}
+
+// The nested table of an item: 13 for another kind, then what opening it refuses.
+fn nested_of(file: &[u8], item: Item) -> Looked
+    ensures { λ r. ⌜ r ≡ nestedOf (now (file .entry)) item ⌝ }
+{
+    if item.kind != b'H' {
+        return Looked::Refused(Refusal::OtherKind);
+    }
+    match open_table(file, item.from, item.to) {
+        Opened::Refused(why) => Looked::Refused(why),
+        Opened::Table(_) => Looked::Place {
+            start: item.from,
+            end: item.to,
+        },
+    }
+}
+
+// The place of a key's value, in the table at a pointer.
+pub fn lookup_value(file: &[u8], start: u32, end: u32, key: &[u8]) -> Looked
+    ensures { λ r. ⌜ r ≡ lookupValue plain (now (file .entry)) start end (now (key .entry)) ⌝ }
+{
+    match lookup_item(file, start, end, key) {
+        Sought::Refused(why) => Looked::Refused(why),
+        Sought::Item(item) => value_of(file, item),
+    }
+}
+
+// The place of a key's nested table, in the table at a pointer.
+pub fn lookup_table(file: &[u8], start: u32, end: u32, key: &[u8]) -> Looked
+    ensures { λ r. ⌜ r ≡ lookupTable plain (now (file .entry)) start end (now (key .entry)) ⌝ }
+{
+    match lookup_item(file, start, end, key) {
+        Sought::Refused(why) => Looked::Refused(why),
+        Sought::Item(item) => nested_of(file, item),
+    }
+}
