@@ -1,6 +1,6 @@
 -- The order of refusals in the document's words: for each number, what was passed before it and what it is given for. Assumes nothing.
 use Prim.Native.Nat.{ℕ, suc, _+_, _%_, _≤_, _<_}
-use mathlib.Core.Path.{_≡_, refl, sym, ap, _∙_}
+use mathlib.Core.Path.{_≡_, refl, ap, _∙_}
 use mathlib.Core.List.{List}
 use mathlib.Core.Bool.{true, false}
 use native.Mathlib.Omega.{arith}
@@ -21,10 +21,7 @@ use Rattle.layout.specs.Item.{itemAt, rootMark}
 use Rattle.layout.specs.Answer.{pointedNumber, openedNumber}
 use Rattle.layout.proofs.AnswerLaws.{pointer-inside-is}
 use Rattle.read.specs.declared.lookup.Found.{Found}
-use Rattle.read.specs.declared.lookup.Looked.{Looked}
-use Rattle.read.specs.declared.listing.Cursor.{Cursor}
 use Rattle.read.specs.declared.listing.Listed.{Listed}
-use Rattle.read.specs.declared.listing.Valued.{Valued}
 use Rattle.read.specs.Chain.{fragmentOf, parentOf, afterPointer, climbFrom, Joined, append, joinStep, keyOf}
 use Rattle.read.specs.Find.{findItem}
 use Rattle.read.specs.Lookup.{atFound, lookupIn, atOpened, lookupItem, atPointer, atNested, valueOf, nestedOf, atItem, lookupValue, lookupTable}

@@ -2,7 +2,7 @@
 use Prim.Native.Nat.{ℕ, suc, _+_, _-_, _≤_, _<_}
 use mathlib.Core.Path.{_≡_, refl, sym, ap, _∙_}
 use mathlib.Core.List.{List}
-use mathlib.Core.Bool.{Bool, true, false}
+use mathlib.Core.Bool.{true, false}
 use native.Mathlib.Omega.{arith}
 use native.Mathlib.Nat.{add-sub-cancel-left}
 use lib.ListN.{length, take, drop}
@@ -11,7 +11,6 @@ use Rattle.words.specs.Choice.{pick}
 use Rattle.words.proofs.ChoiceLaws.{pick-with}
 use Rattle.words.proofs.StoreLaws.{length-part}
 use Rattle.text.specs.Utf8.{isUtf8}
-use Rattle.text.specs.Compare.{sameBytes}
 use Rattle.text.proofs.CompareLaws.{same-equal, same-refl}
 use Rattle.layout.specs.declared.refusal.Refusal.{Refusal}
 use Rattle.layout.specs.declared.refusal.Refusal.the-variants.{FragmentNotUtf8, ParentsEndless}

@@ -29,14 +29,15 @@ use Rattle.read.proofs.WriteLaws.{size-is}
 abbrev pub Told : Joined → List ℕ → ℕ → Listed → List ℕ → Type 0
 Told j out at said wrote = (said ≡ listed j (length out) at) × (wrote ≡ written j out)
 
+-- the key at the position of an item is the item's
+pub in-range : (file : List ℕ) (t : Table) (at : ℕ) → at < t .count → keyIn file at t ≡ keyOf file t (t .count) at
+unfolding keyIn pick
+in-range file t at h = simp (lt-leb _ _ h)
+
 module _ (file : List ℕ) (t : Table) (at : ℕ) (out : List ℕ) where
   pub told-past : t .count ≤ at → Told (keyIn file at t) out at (Listed.Refused PastTheLast) out
   unfolding keyIn pick listed written
   told-past h = (simp (le-leb _ _ h), simp (le-leb _ _ h))
-
-  pub in-range : at < t .count → keyIn file at t ≡ keyOf file t (t .count) at
-  unfolding keyIn pick
-  in-range h = simp (lt-leb _ _ h)
 
   refused-told : (j : Joined) {why : Refusal} → measure j ≡ Measured.Refused why → Told j out at (Listed.Refused why) out
   unfolding measure listed written
@@ -60,14 +61,14 @@ module _ (file : List ℕ) (t : Table) (at : ℕ) (out : List ℕ) where
 
   module _ (h : at < t .count) where
     pub told-refused : {why : Refusal} → measure (keyOf file t (t .count) at) ≡ Measured.Refused why → Told (keyIn file at t) out at (Listed.Refused why) out
-    told-refused e = rw (in-range h) (refused-told _ e)
+    told-refused e = rw (in-range file t at h) (refused-told _ e)
 
     pub told-long : {size : ℕ} → measure (keyOf file t (t .count) at) ≡ Measured.Size size → length out < size → Told (keyIn file at t) out at (Listed.Refused BufferTooShort) out
-    told-long e l = rw (in-range h) (long-told _ e l)
+    told-long e l = rw (in-range file t at h) (long-told _ e l)
 
     pub told-key : {size : ℕ} → measure (keyOf file t (t .count) at) ≡ Measured.Size size → size ≤ length out → {wrote : List ℕ} → wrote ≡ written (keyOf file t (t .count) at) out
         → Told (keyIn file at t) out at (Listed.Key size (record { at = at + 1 })) wrote
-    told-key e l w = rw (in-range h) (key-said _ e l, w)
+    told-key e l w = rw (in-range file t at h) (key-said _ e l, w)
 
 -- a position past the last item has no key
 pub key-in-range : (file : List ℕ) (at : ℕ) (t : Table) {k : List ℕ} → keyIn file at t ≡ Joined.joined k → at < t .count

@@ -1,12 +1,12 @@
 -- The loop over a chain decides what the definition says: a chain of one item more names a key just where the key ends in the item's
 -- fragment and the parent's chain names the front. Assumes nothing.
-use Prim.Native.Nat.{ℕ, zero, suc, _+_, _-_, _≤_, _<_}
+use Prim.Native.Nat.{ℕ, suc, _+_, _-_, _≤_, _<_}
 use mathlib.Core.Path.{_≡_, refl, sym, ap, _∙_, subst}
 use mathlib.Core.List.{List, [], _∷_, _++_}
 use mathlib.Core.Bool.{Bool, true, false, _&&_}
 use native.Mathlib.Omega.{arith}
 use lib.ListN.{length, take, drop, length-append}
-use lib.Seq.{take-length, take-take, take-at, drop-at, length-take-le}
+use lib.Seq.{take-length, take-take, drop-at, length-take-le}
 use lib.Dec.{eqb}
 use borrow.Author.Tests.{le-leb}
 use Rattle.words.specs.Choice.{pick}

@@ -1,7 +1,7 @@
 -- What reading promises beside its equations, as a reader of document 01 would say it. Assumes nothing.
 use Prim.Native.Nat.{ℕ, zero, suc, _+_, _%_, _≤_, _<_}
 use mathlib.Core.Path.{_≡_, refl, sym, ap, _∙_, subst}
-use mathlib.Core.List.{List, []}
+use mathlib.Core.List.{List}
 use mathlib.Core.Bool.{true, false}
 use native.Mathlib.Omega.{arith}
 use lib.ListN.{length, take, drop}
@@ -20,6 +20,7 @@ use Rattle.layout.specs.Pointer.{openPointer}
 use Rattle.layout.specs.Table.{openTable, InFile}
 use Rattle.layout.specs.Item.{itemAt, rootMark}
 use Rattle.read.specs.declared.chain.Step.{Step}
+use Rattle.read.specs.declared.lookup.Run.{Run}
 use Rattle.read.specs.declared.lookup.Found.{Found}
 use Rattle.read.specs.declared.lookup.Looked.{Looked}
 use Rattle.read.specs.declared.listing.Cursor.{Cursor}
@@ -47,33 +48,37 @@ pub record Named (rule : ℕ → ℕ) (file : List ℕ) (t : Table) (key : List 
   pub starts : itemAt file t i .from ≡ from
   pub ends : itemAt file t i .to ≡ to
 
+-- the run of the key's bucket
+abbrev pub runFor : (ℕ → ℕ) → List ℕ → Table → List ℕ → Run
+runFor rule file t key = runOf file t (hashBy rule key % t .buckets)
+
 module _ (rule : ℕ → ℕ) (file : List ℕ) (t : Table) (key : List ℕ) where
   -- what is found is an item of the table, has the key's hash, and its chain joins the key
   pub found-names : (i : ℕ) → findItem rule file t key ≡ Found.At i
       → (i < t .count) × (itemAt file t i .hash ≡ hashBy rule key) × (keyOf file t (t .count) i ≡ Joined.joined key)
   unfolding FindSays
   found-names i e =
-      let says = subst (FindSays rule file t key (runOf file t (hashBy rule key % t .buckets))) e (find-says rule file t key) in
+      let says = subst (FindSays rule file t key (runFor rule file t key)) e (find-says rule file t key) in
       let named = match-true rule file t key i (says .3) in
       (says .0, named .0, named .1)
 
   -- it lies in the run of the key's bucket, and no item before it in the run has the hash and joins the key
   pub found-first : (i : ℕ) → findItem rule file t key ≡ Found.At i
-      → (runOf file t (hashBy rule key % t .buckets) .first ≤ i) × (i < runOf file t (hashBy rule key % t .buckets) .last)
-      × ((k : ℕ) → runOf file t (hashBy rule key % t .buckets) .first ≤ k → k < i
+      → (runFor rule file t key .first ≤ i) × (i < runFor rule file t key .last)
+      × ((k : ℕ) → runFor rule file t key .first ≤ k → k < i
       → itemAt file t k .hash ≡ hashBy rule key → keyOf file t (t .count) k ≡ Joined.joined key → ⊥)
   unfolding FindSays
   found-first i e =
-      let says = subst (FindSays rule file t key (runOf file t (hashBy rule key % t .buckets))) e (find-says rule file t key) in
+      let says = subst (FindSays rule file t key (runFor rule file t key)) e (find-says rule file t key) in
       (says .1, says .2, λ k l h. match-false rule file t key k (says .4 k l h))
 
   -- what is not found has no item in its run that has the hash and joins the key
   pub not-found : findItem rule file t key ≡ Found.Nothing → (t .buckets ≡ 0 → ⊥) → bloomPasses file t (hashBy rule key) ≡ true
-      → (i : ℕ) → runOf file t (hashBy rule key % t .buckets) .first ≤ i → i < runOf file t (hashBy rule key % t .buckets) .last → i < t .count
+      → (i : ℕ) → runFor rule file t key .first ≤ i → i < runFor rule file t key .last → i < t .count
       → itemAt file t i .hash ≡ hashBy rule key → keyOf file t (t .count) i ≡ Joined.joined key → ⊥
   unfolding FindSays
   not-found e some passes i from to below =
-      let says = subst (FindSays rule file t key (runOf file t (hashBy rule key % t .buckets))) e (find-says rule file t key) in
+      let says = subst (FindSays rule file t key (runFor rule file t key)) e (find-says rule file t key) in
       match-false rule file t key i (says some passes i from to below)
 
 named : (rule : ℕ → ℕ) (file : List ℕ) (t : Table) (key : List ℕ) (i : ℕ) {item : Item} {kind from to : ℕ} → findItem rule file t key ≡ Found.At i
@@ -145,7 +150,7 @@ module _ (file : List ℕ) (start end at : ℕ) (out : List ℕ) {size : ℕ} {n
       let is : keyAt file start end at ≡ keyIn file at t = ap (keyOpened file at) opens in
       let key : keyIn file at t ≡ Joined.joined (take size (written (keyAt file start end at) out)) = sym is ∙ front _ out _ said .key in
       let below : at < t .count = key-in-range file at t key in
-      (below, sym (in-range file t at out below) ∙ key)
+      (below, sym (in-range file t at below) ∙ key)
 
   pub listed-key-names : {t : Table} → openTable file start end ≡ Opened.Table t → names (keyOf file t (t .count) at) (take size (written (keyAt file start end at) out)) ≡ true
   listed-key-names opens = joined-names _ _ (listed-key opens .1)
@@ -182,7 +187,7 @@ module _ (file : List ℕ) (t : Table) (i : ℕ) (lies : InFile file t) (below :
   pub own-parent-listed : (start end : ℕ) (room : ℕ) → openTable file start end ≡ Opened.Table t
       → listedNumber (listed (keyAt file start end i) room i) ≡ 11
   unfolding keyAt keyOpened listed listedNumber
-  own-parent-listed start end room table = rw (table, in-range file t i [] below, own-parent-ends (t .count))
+  own-parent-listed start end room table = rw (table, in-range file t i below, own-parent-ends (t .count))
 
   -- and it matches no key
   pub own-parent-no-match : (rule : ℕ → ℕ) (key : List ℕ) → itemMatches rule file t key i ≡ false

@@ -6,10 +6,8 @@ use mathlib.Core.Bool.{true}
 use native.Mathlib.Omega.{arith}
 use lib.ListN.{length}
 use borrow.Author.Tests.{eqb-true}
-use Rattle.words.specs.Choice.{pick}
 use Rattle.words.proofs.ChoiceLaws.{pick-with}
 use Rattle.text.specs.Utf8.{isUtf8}
-use Rattle.layout.specs.declared.refusal.Refusal.the-variants.{KeyNotUtf8}
 use Rattle.layout.specs.declared.pointer.Pointed.{Pointed}
 use Rattle.layout.specs.declared.table.Opened.{Opened}
 use Rattle.layout.specs.declared.table.Table.{Table}

@@ -16,7 +16,6 @@ use Rattle.layout.specs.Kind.{kindByte}
 use Rattle.layout.specs.Pointer.{openPointer}
 use Rattle.layout.specs.Table.{openTable}
 use Rattle.layout.specs.Item.{itemAt}
-use Rattle.read.specs.declared.listing.Cursor.{Cursor}
 use Rattle.read.specs.declared.listing.Measured.{Measured}
 use Rattle.read.specs.declared.listing.Listed.{Listed}
 use Rattle.read.specs.declared.listing.Valued.{Valued}

@@ -2,6 +2,7 @@
 mod open;
 mod say;
 mod small;
+mod tour;
 mod utf8;
 
 fn main() {
@@ -13,4 +14,5 @@ fn main() {
     utf8::sequences();
     open::pointers();
     open::tables();
+    tour::files();
 }

@@ -33,7 +33,9 @@ pub fn pointers() {
     pointer(16, 3, 4, Alignment::Key);
 }
 
-fn table(file: &[u8], start: u32, end: u32) {
+// What a table opens as; its item count, 0 where it does not open.
+pub fn table(file: &[u8], start: u32, end: u32) -> usize {
+    let mut items = 0;
     say::text(b"table ");
     say::number(start as u64);
     say::text(b" to ");
@@ -49,10 +51,12 @@ fn table(file: &[u8], start: u32, end: u32) {
             say::size(table.buckets);
             say::text(b", items ");
             say::size(table.count);
+            items = table.count;
         }
         Opened::Refused(why) => say::number(layout::refusal::number_of(why) as u64),
     }
     say::end();
+    items
 }
 
 // The pointer's errors, 4, then 5, 6 and 7 by the counts in the first two words.

@@ -5,6 +5,13 @@ pub fn text(s: &[u8]) {
     io::write_all(OUT, s);
 }
 
+// The first bytes of a slice.
+pub fn front(s: &[u8], size: usize) {
+    if size <= s.len() {
+        io::write_all(OUT, &s[..size]);
+    }
+}
+
 pub fn number(n: u64) {
     io::print_decimal(OUT, n);
 }
@@ -25,6 +32,14 @@ pub fn bytes(s: &[u8]) {
         io::write_all(OUT, b" ");
         i += 1;
     }
+}
+
+// A place in a file.
+pub fn place(start: u32, end: u32) {
+    io::write_all(OUT, b" ");
+    io::print_decimal(OUT, start as u64);
+    io::write_all(OUT, b" to ");
+    io::print_decimal(OUT, end as u64);
 }
 
 pub fn yes_no(b: bool) {

@@ -1,6 +1,6 @@
 -- `read::chain::chain_names` meets its contract: the invariant is `Climbing`, and the measure is the steps left.
 -- Assumes nothing.
-use mathlib.Core.Path.{_≡_, sym, _∙_}
+use mathlib.Core.Path.{sym, _∙_}
 use borrow.Author.Needs.{needs}
 use lib.Seq.{length-take-le}
 use Rattle.read.proofs.MatchLaws.{Climbing, start, ended, up, over}

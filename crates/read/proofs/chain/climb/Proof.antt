@@ -1,6 +1,6 @@
 -- `read::chain::climb` meets its contract: each return is a case of the definition, with the fragment's place in the file's widths.
 -- Assumes nothing.
-use mathlib.Core.Path.{_≡_, sym, _∙_}
+use mathlib.Core.Path.{sym, _∙_}
 use borrow.Author.Needs.{needs}
 use Rattle.layout.proofs.OpenLaws.{pointer-inside}
 use Rattle.read.proofs.ChainLaws.{climb-refused, climb-text, climb-no-text}

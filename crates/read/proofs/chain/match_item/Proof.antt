@@ -1,6 +1,6 @@
 -- `read::chain::match_item` meets its contract: each arm is a case of the definition, and a step that is taken has its fragment in the file.
 -- Assumes nothing.
-use mathlib.Core.Path.{_≡_, sym, ap, _∙_, subst}
+use mathlib.Core.Path.{sym, ap, _∙_, subst}
 use native.Mathlib.Omega.{arith}
 use borrow.Author.Needs.{needs}
 use Rattle.read.specs.declared.chain.Matched.{Matched}

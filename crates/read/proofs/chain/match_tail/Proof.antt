@@ -1,5 +1,5 @@
 -- `read::chain::match_tail` meets its contract: a key that ends in the fragment is at least as long. Assumes nothing.
-use mathlib.Core.Path.{_≡_, sym, _∙_}
+use mathlib.Core.Path.{sym, _∙_}
 use borrow.Author.Needs.{needs}
 use Rattle.words.specs.Choice.{pick}
 use Rattle.text.proofs.CompareLaws.{ends-split}

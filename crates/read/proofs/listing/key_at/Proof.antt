@@ -1,5 +1,5 @@
 -- `read::listing::key_at` meets its contract: a key's length decides the answer and what is written. Assumes nothing.
-use mathlib.Core.Path.{_≡_, sym, _∙_}
+use mathlib.Core.Path.{sym, _∙_}
 use borrow.Author.Needs.{needs}
 use Rattle.read.proofs.ListingLaws.{told-past, told-refused, told-long, told-key}
 use Rattle.read.proofs.listing.key_at.Statement.{statement}

@@ -1,5 +1,5 @@
 -- `read::lookup::item_matches` meets its contract: the hash at hand is the key's. Assumes nothing.
-use mathlib.Core.Path.{_≡_, _∙_}
+use mathlib.Core.Path.{_∙_}
 use borrow.Author.Needs.{needs}
 use Rattle.words.specs.Hash.{plain}
 use Rattle.read.proofs.FindLaws.{other-hash, same-hash}

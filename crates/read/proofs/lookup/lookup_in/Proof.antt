@@ -1,5 +1,5 @@
 -- `read::lookup::lookup_in` meets its contract: what is found is an item of the table. Assumes nothing.
-use mathlib.Core.Path.{_≡_, sym, ap, _∙_, subst}
+use mathlib.Core.Path.{sym, ap, _∙_, subst}
 use borrow.Author.Needs.{needs}
 use Rattle.words.specs.Choice.{pick}
 use Rattle.words.specs.Hash.{plain}

@@ -1,5 +1,5 @@
 -- `read::lookup::lookup_item` meets its contract: a table that opens lies in the file. Assumes nothing.
-use mathlib.Core.Path.{_≡_, sym, _∙_}
+use mathlib.Core.Path.{sym, _∙_}
 use borrow.Author.Needs.{needs}
 use Rattle.layout.proofs.OpenLaws.{opened-in-file}
 use Rattle.read.specs.Lookup.{lookupItem, atOpened}

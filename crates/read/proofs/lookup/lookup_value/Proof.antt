@@ -1,5 +1,5 @@
 -- `read::lookup::lookup_value` meets its contract: each arm is a case of the definition. Assumes nothing.
-use mathlib.Core.Path.{_≡_, sym, _∙_}
+use mathlib.Core.Path.{sym, _∙_}
 use borrow.Author.Needs.{needs}
 use Rattle.read.specs.Lookup.{lookupValue, atItem}
 use Rattle.read.proofs.lookup.lookup_value.Statement.{statement}
