@@ -1,0 +1,19 @@
+-- `gvdb::reading::gvdb_get` meets its contract: the lookup's answer as numbers. Assumes nothing.
+use mathlib.Core.Path.{ap, _∙_}
+use Rattle.gvdb.specs.Reading.{lookedAnswer}
+use borrow.Author.Needs.{needs}
+use Rattle.gvdb.proofs.reading.gvdb_get.Statement.{statement}
+use Rattle.gvdb.proofs.reading.gvdb_get.Tie as tie
+
+lookup-value-requires : tie.Need-lookup-value-requires
+lookup-value-requires c κs = search needs
+
+place-of-requires : tie.Need-place-of-requires
+place-of-requires c κs = search needs
+
+returns : tie.Need-returns
+unfolding lookedAnswer
+returns c = c .place-of .ensures ∙ ap lookedAnswer (c .before .lookup-value .ensures)
+
+pub gvdb-get-spec : {M : Type 1} → statement M
+gvdb-get-spec = tie.close (tie.spec lookup-value-requires place-of-requires returns)

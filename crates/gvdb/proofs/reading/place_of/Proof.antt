@@ -1,0 +1,27 @@
+-- `gvdb::reading::place_of` meets its contract: each arm by the variant that it matched. Assumes nothing.
+use mathlib.Core.Path.{_≡_, sym, ap, _∙_}
+use Rattle.gvdb.specs.Reading.{lookedAnswer}
+use borrow.Author.Needs.{needs}
+use Rattle.gvdb.proofs.reading.place_of.Statement.{statement}
+use Rattle.gvdb.proofs.reading.place_of.Tie as tie
+
+enum-known-looked : tie.Need-enum-known-looked
+enum-known-looked c = search needs
+
+enum-known-looked-2 : tie.Need-enum-known-looked-2
+enum-known-looked-2 c = search needs
+
+number-of-requires : tie.Need-number-of-requires
+number-of-requires c κs = search needs
+
+returns : tie.Need-returns
+unfolding lookedAnswer
+returns c = sym (ap lookedAnswer (c .before .looked .given .1))
+
+returns-2 : tie.Need-returns-2
+unfolding lookedAnswer
+returns-2 c = rw (c .number-of .ensures) (sym (ap lookedAnswer (c .before .before .looked2 .given .1)))
+
+pub place-of-spec : {M : Type 1} → statement M
+place-of-spec =
+    tie.close (tie.spec enum-known-looked enum-known-looked-2 number-of-requires returns returns-2)

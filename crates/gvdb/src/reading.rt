@@ -1,0 +1,164 @@
+// Reading a table: opening, lookups, listings.
+use layout::refusal::number_of;
+use layout::table::Opened;
+use read::listing::Cursor;
+use read::listing::Listed;
+use read::listing::Valued;
+use read::lookup::Looked;
+ghost use mathlib.Core.Path.{_≡_};
+ghost use lib.ListN.{length};
+ghost use Rattle.words.specs.Hash.{plain};
+ghost use Rattle.layout.specs.Table.{openTable};
+ghost use Rattle.read.specs.Lookup.{lookupValue, lookupTable};
+ghost use Rattle.read.specs.Listing.{keyAt, listed, written, valueAt};
+ghost use Rattle.gvdb.specs.Reading.{openedAnswer, lookedAnswer, listedAnswer, valuedAnswer};
+
+// What a table opens as.
+#[repr(C)]
+pub struct GvdbOpened {
+    pub number: u32,
+    pub items: u32,
+    pub buckets: u32,
+    pub blooms: u32,
+}
+
+// A place in the file: a value's, or a nested table's pointer.
+#[repr(C)]
+pub struct GvdbPlace {
+    pub number: u32,
+    pub start: u32,
+    pub end: u32,
+}
+
+// A key that was written: its length, and the next position.
+#[repr(C)]
+pub struct GvdbKey {
+    pub number: u32,
+    pub length: usize,
+    pub next: usize,
+}
+
+// A value: its place, its item, and the next position; item and position stand with 2 and 3 of its pointer too.
+#[repr(C)]
+pub struct GvdbValue {
+    pub number: u32,
+    pub start: u32,
+    pub end: u32,
+    pub index: usize,
+    pub next: usize,
+}
+
+#[no_mangle]
+pub extern "C" fn gvdb_open(file: &[u8], start: u32, end: u32) -> GvdbOpened
+    ensures { λ r. ⌜ r ≡ openedAnswer (openTable (now (file .entry)) start end) ⌝ }
+{
+    match layout::table::open_table(file, start, end) {
+        Opened::Table(table) => GvdbOpened {
+            number: 0,
+            items: table.count as u32,
+            buckets: table.buckets as u32,
+            blooms: table.blooms as u32,
+        },
+        Opened::Refused(why) => GvdbOpened {
+            number: number_of(why),
+            items: 0,
+            buckets: 0,
+            blooms: 0,
+        },
+    }
+}
+
+// A lookup's answer as numbers.
+fn place_of(looked: Looked) -> GvdbPlace
+    ensures { λ r. ⌜ r ≡ lookedAnswer looked ⌝ }
+{
+    match looked {
+        Looked::Place { start, end } => GvdbPlace {
+            number: 0,
+            start,
+            end,
+        },
+        Looked::Refused(why) => GvdbPlace {
+            number: number_of(why),
+            start: 0,
+            end: 0,
+        },
+    }
+}
+
+#[no_mangle]
+pub extern "C" fn gvdb_get(file: &[u8], start: u32, end: u32, key: &[u8]) -> GvdbPlace
+    ensures { λ r. ⌜ r ≡ lookedAnswer (lookupValue plain (now (file .entry)) start end (now (key .entry))) ⌝ }
+{
+    place_of(read::lookup::lookup_value(file, start, end, key))
+}
+
+#[no_mangle]
+pub extern "C" fn gvdb_get_table(file: &[u8], start: u32, end: u32, key: &[u8]) -> GvdbPlace
+    ensures { λ r. ⌜ r ≡ lookedAnswer (lookupTable plain (now (file .entry)) start end (now (key .entry))) ⌝ }
+{
+    place_of(read::lookup::lookup_table(file, start, end, key))
+}
+
+// The key at a position, written to the front of `out`. A refusal writes nothing.
+#[no_mangle]
+pub extern "C" fn gvdb_next_key(
+    file: &[u8],
+    start: u32,
+    end: u32,
+    position: usize,
+    out: &mut [u8],
+) -> GvdbKey
+    ensures said { λ r. ⌜ r ≡ listedAnswer (listed (keyAt (now (file .entry)) start end position) (length (now (out .entry))) position) ⌝ }
+    ensures wrote { λ _. ⌜ now (out .exit) ≡ written (keyAt (now (file .entry)) start end position) (now (out .entry)) ⌝ }
+{
+    let cursor = Cursor { at: position };
+    match cursor.next_key(file, start, end, out) {
+        Listed::Key { size, next } => GvdbKey {
+            number: 0,
+            length: size,
+            next: next.at,
+        },
+        Listed::Refused(why) => GvdbKey {
+            number: number_of(why),
+            length: 0,
+            next: 0,
+        },
+    }
+}
+
+// The first value at or after a position.
+#[no_mangle]
+pub extern "C" fn gvdb_next_value(file: &[u8], start: u32, end: u32, position: usize) -> GvdbValue
+    ensures { λ r. ⌜ r ≡ valuedAnswer (valueAt (now (file .entry)) start end position) ⌝ }
+{
+    let cursor = Cursor { at: position };
+    match cursor.next_value(file, start, end) {
+        Valued::Value {
+            index,
+            start: from,
+            end: to,
+            next,
+        } => GvdbValue {
+            number: 0,
+            start: from,
+            end: to,
+            index,
+            next: next.at,
+        },
+        Valued::Unopened { why, index, next } => GvdbValue {
+            number: number_of(why),
+            start: 0,
+            end: 0,
+            index,
+            next: next.at,
+        },
+        Valued::Refused(why) => GvdbValue {
+            number: number_of(why),
+            start: 0,
+            end: 0,
+            index: 0,
+            next: 0,
+        },
+    }
+}
