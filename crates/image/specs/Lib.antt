@@ -1,5 +1,8 @@
 pub mod Number
+pub mod Numbering
 pub mod Plan
 pub mod Image
 pub mod WellFormed
+pub mod Laid
+pub mod Fits
 pub mod Worked

@@ -1,1 +1,1 @@
-// The image of a table: definitions in specs/, with no function.
+// The image of a table: definitions in specs/ and their laws in proofs/, with no function.

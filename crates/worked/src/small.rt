@@ -100,7 +100,7 @@ fn order(a: &[u8], b: &[u8]) {
     say::text(b"\" before \"");
     say::text(b);
     say::text(b"\": ");
-    say::yes_no(text::order::less(a, b));
+    say::yes_no(text::keyorder::less(a, b));
     say::end();
 }
 

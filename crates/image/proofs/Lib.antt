@@ -1,0 +1,9 @@
+pub mod TimesLaws
+pub mod OrderLaws
+pub mod RunLaws
+pub mod NumberLaws
+pub mod LaidLaws
+pub mod PlanLaws
+pub mod ChildLaws
+pub mod SameLaws
+pub mod OpenLaws

@@ -1,0 +1,3 @@
+pub mod Sheet
+pub mod Slot
+pub mod Measure

@@ -1,0 +1,13 @@
+// A sheet measured, and laid as an image.
+pub mod measure;
+pub mod put;
+pub mod sheet;
+pub mod slot;
+pub mod table;
+pub mod whole;
+
+// Where what is measured would end, if that is within an image's bounds.
+pub enum Measured {
+    End(usize),
+    TooLong,
+}

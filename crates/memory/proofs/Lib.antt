@@ -1,0 +1,3 @@
+pub mod MemoryLaws
+pub mod FindLaws
+pub mod ItemLaws

@@ -1,0 +1,5 @@
+pub mod Memory
+pub mod Find
+pub mod Item
+pub mod Meaning
+pub mod Answer

@@ -1,0 +1,4 @@
+pub mod KeyLaws
+pub mod MergeLaws
+pub mod ChainLaws
+pub mod ItemLaws

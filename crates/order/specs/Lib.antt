@@ -1,0 +1,4 @@
+pub mod Key
+pub mod Merge
+pub mod Chain
+pub mod Items

@@ -1,0 +1,40 @@
+// The key of an item: a part of the arena, where the item's record in the words says.
+use text::keyorder::less;
+ghost use mathlib.Core.Path.{_≡_};
+ghost use Prim.Native.Nat.{_+_, _≤_};
+ghost use lib.ListN.{length};
+ghost use Rattle.words.specs.Store.{part};
+ghost use Rattle.text.specs.Order.{precedes};
+ghost use Rattle.order.specs.Key.{recordAt, keyAt};
+
+// The `size` bytes from `at` on, as many of them as there are.
+fn span_of(arena: &[u8], at: usize, size: usize) -> &[u8]
+    ensures { λ r. ⌜ now r ≡ part (now (arena .entry)) at size ⌝ }
+{
+    if arena.len() <= at {
+        return &arena[..0];
+    }
+    if arena.len() - at <= size {
+        return &arena[at..];
+    }
+    &arena[at..at + size]
+}
+
+// The key of item i.
+pub fn key_of<'a>(words: &[usize], arena: &'a [u8], i: usize) -> &'a [u8]
+    requires { ⌜ recordAt i + 12 ≤ length (now words) ⌝ }
+    ensures { λ r. ⌜ now r ≡ keyAt (now (words .entry)) (now (arena .entry)) i ⌝ }
+{
+    let at = 1288 + 12 * i;
+    let start = words[at + 3];
+    let size = words[at + 4];
+    span_of(arena, start, size)
+}
+
+// Whether the key of item a comes before that of item b.
+pub fn comes_before(words: &[usize], arena: &[u8], a: usize, b: usize) -> bool
+    requires { ⌜ (recordAt a + 12 ≤ length (now words)) × (recordAt b + 12 ≤ length (now words)) ⌝ }
+    ensures { λ r. ⌜ r ≡ precedes (keyAt (now (words .entry)) (now (arena .entry)) a) (keyAt (now (words .entry)) (now (arena .entry)) b) ⌝ }
+{
+    less(key_of(words, arena, a), key_of(words, arena, b))
+}
