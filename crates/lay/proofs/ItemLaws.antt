@@ -1,13 +1,12 @@
 -- A slot of a sheet that fits: its value by kind, where its item ends, and its item laid. Assumes nothing.
-use mathlib.Core.Path.{_≡_, refl, sym, ap, _∙_}
+use mathlib.Core.Path.{_≡_, sym, ap, _∙_}
 use mathlib.Core.Logic.{⊎-elim}
-use mathlib.Core.List.{List, _++_}
-use Prim.Native.Nat.{ℕ, _+_, _*_, _-_, _≤_, _<_, _^_}
+use mathlib.Core.List.{List}
+use Prim.Native.Nat.{ℕ, _+_, _-_, _≤_, _<_, _^_}
 use native.Mathlib.Omega.{arith}
 use lib.ListN.{length, length-append}
-use Rattle.words.specs.Store.{part, putAt}
+use Rattle.words.specs.Store.{putAt}
 use Rattle.words.proofs.StoreLaws.{length-part}
-use Rattle.image.specs.Plan.{wordsOf}
 use Rattle.image.specs.Laid.{Laid}
 use Rattle.image.proofs.TimesLaws.{eq-or-ne}
 use Rattle.image.proofs.LaidLaws.{laid-join}
@@ -18,17 +17,22 @@ use Rattle.lay.proofs.KindLaws.{kind-value, kind-table, kind-container}
 use Rattle.lay.proofs.SlotLaws.{cover-value, cover-table, cover-container, start-above, length-key}
 use Rattle.lay.proofs.PutLaws.{plain-bytes, plain-children}
 
-module _ (sheet arena : List ℕ) (fits : SheetFits sheet arena) (s : ℕ) (inside : s < sheetSlots) where
+-- a slot of a sheet that fits
+pub record AtSlot (sheet arena : List ℕ) (s : ℕ) : Type 0 where
+  pub fits : SheetFits sheet arena
+  pub inside : s < sheetSlots
+
+module _ {sheet arena : List ℕ} {s : ℕ} (g : AtSlot sheet arena s) where
   pub slot-in : SlotIn sheet s
-  slot-in = record { long = fits .long; inside = inside }
+  slot-in = record { long = g .fits .long; inside = g .inside }
 
   pub slot-fits : SlotFits sheet arena s
-  slot-fits = fits .slots s inside
+  slot-fits = g .fits .slots s (g .inside)
 
   pub cover-fits : CoverFits sheet s
   cover-fits = record {
     guest = slot-fits .guest;
-    items = λ e. omega (arith, fits .tables (slotWord sheet s 5) (slot-fits .guest e));
+    items = λ e. omega (arith, g .fits .tables (slotWord sheet s 5) (slot-fits .guest e));
     children = λ n m. omega (arith, slot-fits .children n m);
   }
 

@@ -6,3 +6,4 @@ pub mod TableLaws
 pub mod TurnLaws
 pub mod MeasureLaws
 pub mod ImageLaws
+pub mod Worked

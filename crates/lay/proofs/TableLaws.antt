@@ -1,7 +1,7 @@
 -- A table of a sheet: its plan by slots, the turns of the loop over its items, and the whole laid. Assumes nothing.
 use mathlib.Core.Path.{_≡_, refl, sym, ap, _∙_}
-use mathlib.Core.List.{List, [], _∷_, _++_, append-assoc}
-use Prim.Native.Nat.{ℕ, zero, suc, _+_, _*_, _-_, _≤_, _<_}
+use mathlib.Core.List.{List, [], _++_, append-assoc}
+use Prim.Native.Nat.{ℕ, suc, _+_, _*_, _-_, _≤_, _<_}
 use native.Mathlib.Numerals.{add-one}
 use native.Mathlib.Omega.{arith}
 use lib.ListN.{length, length-append}
@@ -24,10 +24,6 @@ place-is p at k = refl
 -- where the next item starts
 pub place-more : (p : Plan) (at k : ℕ) → place p at (k + 1) ≡ place p at k + length (itemBytes p k (place p at k))
 place-more p at k = rw add-one (place-next p at k ∙ sym (length-item p k (place p at k)))
-
--- an item ends within its table
-pub place-within : (p : Plan) (at k n : ℕ) → k < n → place p at k + length (itemBytes p k (place p at k)) ≤ place p at n
-place-within p at k n less = omega (arith, place-more p at k, place-rises p at (k + 1) n (omega arith))
 
 regroup : (p : Plan) (at : ℕ)
     → ((headBytes (p .count) ++ wordsOf (p .first) (p .count)) ++ records p (at + chunkSize (p .count)) (p .count)) ++ payload p (at + chunkSize (p .count)) (p .count)

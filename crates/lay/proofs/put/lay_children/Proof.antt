@@ -1,9 +1,9 @@
 -- `lay::put::lay_children` meets its contract. The invariant: the first j words are laid, and the rest is as it was. Assumes nothing.
 use mathlib.Core.Path.{_≡_, refl, ap, _∙_}
-use Prim.Native.Nat.{ℕ, _+_, _-_, _≤_}
+use Prim.Native.Nat.{_+_, _-_, _≤_}
 use native.Mathlib.Omega.{arith}
-use lib.ListN.{length}
 use borrow.Author.Needs.{needs}
+use lib.ListN.{length}
 use Rattle.words.specs.Store.{putAt}
 use Rattle.words.proofs.StoreLaws.{length-put}
 use Rattle.image.specs.Plan.{wordsOf}
@@ -11,8 +11,6 @@ use Rattle.lay.specs.Sheet.{childWord}
 use Rattle.lay.proofs.PutLaws.{words-start, words-turn, words-laid}
 use Rattle.lay.proofs.put.lay_children.Statement.{statement}
 use Rattle.lay.proofs.put.lay_children.Tie as tie
-use Rattle.lay.proofs.sheet.child_word.Reads as child-word-reads
-use Rattle.words.proofs.field.put_word.Reads as put-word-reads
 
 abbrev Inv-loop : tie.InvT-loop
 Inv-loop sheet image₀ from count at j₀ image j = (j ≤ count) × (length image ≡ length image₀) × (image ≡ putAt image₀ at (wordsOf (λ k. childWord sheet (from + k)) j))

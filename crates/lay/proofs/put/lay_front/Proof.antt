@@ -2,13 +2,11 @@
 use mathlib.Core.Path.{sym, ap}
 use Prim.Native.Nat.{ℕ, _+_}
 use native.Mathlib.Omega.{arith}
+use borrow.Author.Needs.{needs}
 use Rattle.lay.specs.Slot.{headBytes}
 use Rattle.lay.proofs.PutLaws.{put-then, length-head}
-use borrow.Author.Needs.{needs}
 use Rattle.lay.proofs.put.lay_front.Statement.{statement}
 use Rattle.lay.proofs.put.lay_front.Tie as tie
-use Rattle.lay.proofs.put.lay_buckets.Reads as lay-buckets-reads
-use Rattle.lay.proofs.put.lay_head.Reads as lay-head-reads
 
 lay-head-requires : tie.Need-lay-head-requires
 lay-head-requires c κs = search needs

@@ -1,9 +1,8 @@
 -- `lay::put::lay_head` meets its contract. Assumes nothing.
-use Rattle.lay.proofs.PutLaws.{put-head}
 use borrow.Author.Needs.{needs}
+use Rattle.lay.proofs.PutLaws.{put-head}
 use Rattle.lay.proofs.put.lay_head.Statement.{statement}
 use Rattle.lay.proofs.put.lay_head.Tie as tie
-use Rattle.words.proofs.field.put_word.Reads as put-word-reads
 
 put-word-requires : tie.Need-put-word-requires
 put-word-requires c κs = search needs

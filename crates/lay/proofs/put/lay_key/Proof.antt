@@ -1,15 +1,12 @@
 -- `lay::put::lay_key` meets its contract. Assumes nothing.
-use Rattle.lay.proofs.PutLaws.{part-end, put-key}
-use native.Mathlib.Omega.{arith}
 use mathlib.Core.Path.{_≡_}
-use Prim.Native.Nat.{ℕ, _+_}
-use Rattle.lay.specs.Sheet.{slotWord}
+use Prim.Native.Nat.{_+_}
+use native.Mathlib.Omega.{arith}
 use borrow.Author.Needs.{needs}
+use Rattle.lay.specs.Sheet.{slotWord}
+use Rattle.lay.proofs.PutLaws.{part-end, put-key}
 use Rattle.lay.proofs.put.lay_key.Statement.{statement}
 use Rattle.lay.proofs.put.lay_key.Tie as tie
-use Rattle.lay.proofs.put.lay_part.Reads as lay-part-reads
-use Rattle.lay.proofs.sheet.slot_word.Reads as slot-word-reads
-use Rattle.words.proofs.store.put_zeros.Reads as put-zeros-reads
 
 slot-word-requires : tie.Need-slot-word-requires
 slot-word-requires c κs = search needs

@@ -1,13 +1,12 @@
 -- `lay::put::lay_part` meets its contract. Assumes nothing.
-use native.Mathlib.Omega.{arith}
-use Prim.Native.Nat.{ℕ, _+_, _-_}
 use mathlib.Core.Path.{_≡_, ap, _∙_}
+use Prim.Native.Nat.{ℕ, _+_, _-_}
+use native.Mathlib.Omega.{arith}
+use borrow.Author.Needs.{needs}
 use Rattle.words.specs.Store.{part, putAt}
 use Rattle.lay.proofs.PutLaws.{part-laid}
-use borrow.Author.Needs.{needs}
 use Rattle.lay.proofs.put.lay_part.Statement.{statement}
 use Rattle.lay.proofs.put.lay_part.Tie as tie
-use Rattle.words.proofs.store.put_bytes.Reads as put-bytes-reads
 
 add-end : tie.Need-add-end
 add-end c = search needs

@@ -1,16 +1,13 @@
 -- `lay::put::lay_plain` meets its contract, for bytes and for children. Assumes nothing.
 use mathlib.Core.Path.{_≡_, sym, _∙_}
-use Prim.Native.Nat.{ℕ, _+_}
+use Prim.Native.Nat.{_+_}
 use native.Mathlib.Omega.{arith}
-use Rattle.lay.specs.Sheet.{kindValue, slotWord}
-use Rattle.lay.proofs.PutLaws.{bytes-laid, children-laid}
-use Rattle.lay.proofs.SlotLaws.{cover-value, cover-container}
 use borrow.Author.Needs.{needs}
+use Rattle.lay.specs.Sheet.{kindValue, slotWord}
+use Rattle.lay.proofs.SlotLaws.{cover-value, cover-container}
+use Rattle.lay.proofs.PutLaws.{bytes-laid, children-laid}
 use Rattle.lay.proofs.put.lay_plain.Statement.{statement}
 use Rattle.lay.proofs.put.lay_plain.Tie as tie
-use Rattle.lay.proofs.put.lay_children.Reads as lay-children-reads
-use Rattle.lay.proofs.put.lay_part.Reads as lay-part-reads
-use Rattle.lay.proofs.sheet.slot_word.Reads as slot-word-reads
 
 slot-word-requires : tie.Need-slot-word-requires
 slot-word-requires c κs = search needs

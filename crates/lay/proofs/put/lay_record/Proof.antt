@@ -1,13 +1,10 @@
 -- `lay::put::lay_record` meets its contract: two halves of three words. Assumes nothing.
 use mathlib.Core.Path.{ap}
 use Prim.Native.Nat.{ℕ, _+_}
-use Rattle.lay.proofs.PutLaws.{put-record}
 use borrow.Author.Needs.{needs}
+use Rattle.lay.proofs.PutLaws.{put-record}
 use Rattle.lay.proofs.put.lay_record.Statement.{statement}
 use Rattle.lay.proofs.put.lay_record.Tie as tie
-use Rattle.lay.proofs.put.lay_three.Reads as lay-three-reads
-use Rattle.lay.proofs.sheet.slot_word.Reads as slot-word-reads
-use Rattle.lay.proofs.slot.cover.Reads as cover-reads
 
 slot-word-requires : tie.Need-slot-word-requires
 slot-word-requires c κs = search needs

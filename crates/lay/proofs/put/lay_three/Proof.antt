@@ -1,9 +1,8 @@
 -- `lay::put::lay_three` meets its contract. Assumes nothing.
-use Rattle.lay.proofs.PutLaws.{put-three}
 use borrow.Author.Needs.{needs}
+use Rattle.lay.proofs.PutLaws.{put-three}
 use Rattle.lay.proofs.put.lay_three.Statement.{statement}
 use Rattle.lay.proofs.put.lay_three.Tie as tie
-use Rattle.words.proofs.field.put_word.Reads as put-word-reads
 
 cast-put-word : tie.Need-cast-put-word
 cast-put-word c = search needs

@@ -1,6 +1,6 @@
 -- `lay::sheet::child_word` meets its contract: it reads the word that the definition names. Assumes nothing.
-use Rattle.lay.specs.Sheet.{childWord}
 use borrow.Author.Needs.{needs}
+use Rattle.lay.specs.Sheet.{childWord}
 use Rattle.lay.proofs.sheet.child_word.Statement.{statement}
 use Rattle.lay.proofs.sheet.child_word.Tie as tie
 

@@ -1,6 +1,6 @@
 -- `lay::sheet::first_slot` meets its contract: it reads the word that the definition names. Assumes nothing.
-use Rattle.lay.specs.Sheet.{firstSlot}
 use borrow.Author.Needs.{needs}
+use Rattle.lay.specs.Sheet.{firstSlot}
 use Rattle.lay.proofs.sheet.first_slot.Statement.{statement}
 use Rattle.lay.proofs.sheet.first_slot.Tie as tie
 

@@ -1,6 +1,6 @@
 -- `lay::sheet::slot_count` meets its contract: it reads the word that the definition names. Assumes nothing.
-use Rattle.lay.specs.Sheet.{slotCount}
 use borrow.Author.Needs.{needs}
+use Rattle.lay.specs.Sheet.{slotCount}
 use Rattle.lay.proofs.sheet.slot_count.Statement.{statement}
 use Rattle.lay.proofs.sheet.slot_count.Tie as tie
 

@@ -1,6 +1,6 @@
 -- `lay::sheet::slot_word` meets its contract: it reads the word that the definition names. Assumes nothing.
-use Rattle.lay.specs.Sheet.{slotWord}
 use borrow.Author.Needs.{needs}
+use Rattle.lay.specs.Sheet.{slotWord}
 use Rattle.lay.proofs.sheet.slot_word.Statement.{statement}
 use Rattle.lay.proofs.sheet.slot_word.Tie as tie
 

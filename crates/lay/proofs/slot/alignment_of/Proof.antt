@@ -1,6 +1,6 @@
 -- `lay::slot::alignment_of` meets its contract. Assumes nothing.
-use Rattle.lay.proofs.KindLaws.{kind-value, kind-rest}
 use mathlib.Core.Path.{sym}
+use Rattle.lay.proofs.KindLaws.{kind-value, kind-rest}
 use Rattle.lay.proofs.slot.alignment_of.Statement.{statement}
 use Rattle.lay.proofs.slot.alignment_of.Tie as tie
 

@@ -1,13 +1,10 @@
 -- `lay::slot::cover` meets its contract, kind by kind. Assumes nothing.
+use mathlib.Core.Path.{_≡_, sym, ap, _∙_}
+use Prim.Native.Nat.{ℕ, _+_, _*_, _≤_}
+use native.Mathlib.Omega.{arith}
+use borrow.Author.Needs.{needs}
 use Rattle.lay.specs.Sheet.{slotWord, slotCount}
 use Rattle.lay.proofs.SlotLaws.{cover-value, cover-table, cover-container}
-use Prim.Native.Nat.{ℕ, _+_, _*_, _≤_}
-use mathlib.Core.Path.{_≡_, sym, ap, _∙_}
-use Rattle.lay.proofs.KindLaws.{kind-value, kind-table, kind-container}
-use Rattle.lay.specs.Slot.{slotCover}
-use native.Mathlib.Omega.{arith}
-use mathlib.Core.Path.{sym, ap, _∙_}
-use borrow.Author.Needs.{needs}
 use Rattle.lay.proofs.slot.cover.Statement.{statement}
 use Rattle.lay.proofs.slot.cover.Tie as tie
 

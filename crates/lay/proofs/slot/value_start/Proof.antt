@@ -1,11 +1,10 @@
 -- `lay::slot::value_start` meets its contract. Assumes nothing.
+use mathlib.Core.Path.{ap, _∙_}
+use Prim.Native.Nat.{ℕ, _+_}
+use borrow.Author.Needs.{needs}
+use Rattle.words.specs.Align.{aligned}
 use Rattle.lay.specs.Sheet.{byKind}
 use Rattle.lay.proofs.SlotLaws.{start-is}
-use Rattle.words.specs.Align.{aligned}
-use Prim.Native.Nat.{ℕ, _+_}
-use Rattle.lay.specs.Slot.{slotStart}
-use mathlib.Core.Path.{ap, _∙_}
-use borrow.Author.Needs.{needs}
 use Rattle.lay.proofs.slot.value_start.Statement.{statement}
 use Rattle.lay.proofs.slot.value_start.Tie as tie
 
@@ -25,7 +24,6 @@ align-offset-requires : tie.Need-align-offset-requires
 align-offset-requires c κs = search needs
 
 returns : tie.Need-returns
-unfolding slotStart
 returns c =
     let args = c .before .before .before .before .before .args in
     start-is (args .sheet .now) (args .slot) (args .at) (c .before .before .before .slot-word .ensures)

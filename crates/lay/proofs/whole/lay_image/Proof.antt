@@ -1,11 +1,9 @@
 -- `lay::whole::lay_image` meets its contract. Assumes nothing.
 use native.Mathlib.Omega.{arith}
-use Rattle.lay.proofs.ImageLaws.{length-image, image-laid}
 use borrow.Author.Needs.{needs}
+use Rattle.lay.proofs.ImageLaws.{length-image, image-laid}
 use Rattle.lay.proofs.whole.lay_image.Statement.{statement}
 use Rattle.lay.proofs.whole.lay_image.Tie as tie
-use Rattle.lay.proofs.table.lay_table.Reads as lay-table-reads
-use Rattle.words.proofs.store.put_zeros.Reads as put-zeros-reads
 
 put-zeros-requires : tie.Need-put-zeros-requires
 put-zeros-requires c κs =

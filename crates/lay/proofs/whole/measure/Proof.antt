@@ -1,11 +1,10 @@
 -- `lay::whole::measure` meets its contract. Assumes nothing.
 use mathlib.Core.Path.{sym, ap, _∙_}
-use Rattle.lay.proofs.ImageLaws.{length-image}
-use Rattle.lay.specs.Measure.{measured}
 use borrow.Author.Needs.{needs}
+use Rattle.lay.specs.Measure.{measured}
+use Rattle.lay.proofs.ImageLaws.{length-image}
 use Rattle.lay.proofs.whole.measure.Statement.{statement}
 use Rattle.lay.proofs.whole.measure.Tie as tie
-use Rattle.lay.proofs.measure.measure_table.Reads as measure-table-reads
 
 measure-table-requires : tie.Need-measure-table-requires
 measure-table-requires c κs = search needs
