@@ -32,9 +32,18 @@ pub struct Value {
     pub next: usize,
 }
 
+#[repr(C)]
+#[derive(PartialEq, Eq, Debug)]
+pub struct Check {
+    pub number: u32,
+    pub rule: u32,
+    pub item: usize,
+}
+
 #[link(name = "gvdb", kind = "static")]
 extern "C" {
     fn gvdb_open(file: *const u8, size: usize, start: u32, end: u32) -> Opened;
+    fn gvdb_check(file: *const u8, size: usize, start: u32, end: u32) -> Check;
     fn gvdb_get(file: *const u8, size: usize, start: u32, end: u32, key: *const u8, length: usize) -> Place;
     fn gvdb_get_table(file: *const u8, size: usize, start: u32, end: u32, key: *const u8, length: usize) -> Place;
     fn gvdb_next_key(file: *const u8, size: usize, start: u32, end: u32, position: usize, out: *mut u8, room: usize) -> Key;
@@ -59,4 +68,8 @@ pub fn next_key(file: &[u8], start: u32, end: u32, position: usize, out: &mut [u
 
 pub fn next_value(file: &[u8], start: u32, end: u32, position: usize) -> Value {
     unsafe { gvdb_next_value(file.as_ptr(), file.len(), start, end, position) }
+}
+
+pub fn check(file: &[u8], start: u32, end: u32) -> Check {
+    unsafe { gvdb_check(file.as_ptr(), file.len(), start, end) }
 }

@@ -1,9 +1,10 @@
-//! Walks GVDB files that GLib, dconf and gvdb-rs made, nested tables too, and writes one line for each: what opens, lists and is looked up.
+//! Walks GVDB files that GLib, dconf and gvdb-rs made, nested tables too, and writes one line for each: what opens, lists and is looked up, and what the
+//! check says.
 //! Use: real FOLDER
 
 mod ffi;
 
-use ffi::{get, get_table, next_key, next_value, open};
+use ffi::{check, get, get_table, next_key, next_value, open};
 
 #[derive(Default)]
 struct Sum {
@@ -13,6 +14,7 @@ struct Sum {
     found: u32,
     missed: u32,
     refused: u32,
+    broken: Vec<(u32, usize)>,
 }
 
 /// A table and those nested in it. Every key that lists is looked up; one that is found as a value lies where value listing has it.
@@ -24,6 +26,10 @@ fn walk(file: &[u8], start: u32, end: u32, sum: &mut Sum) {
     }
     sum.tables += 1;
     sum.items += opened.items;
+    let checked = check(file, start, end);
+    if checked.number != 0 {
+        sum.broken.push((checked.rule, checked.item));
+    }
     let mut places = Vec::new();
     let mut position = 0;
     loop {
@@ -75,6 +81,10 @@ fn main() {
         let word = |at: usize| u32::from_le_bytes(file[at..at + 4].try_into().expect("four bytes"));
         let mut sum = Sum::default();
         walk(&file, word(16), word(20), &mut sum);
-        println!("{name}: tables {}, items {}, values {}, found {}, not found {}, refused {}", sum.tables, sum.items, sum.values, sum.found, sum.missed, sum.refused);
+        let sound = match sum.broken.first() {
+            None => "sound".to_string(),
+            Some((rule, item)) => format!("rule {rule} broken by item {item}"),
+        };
+        println!("{name}: tables {}, items {}, values {}, found {}, not found {}, refused {}; {sound}", sum.tables, sum.items, sum.values, sum.found, sum.missed, sum.refused);
     }
 }

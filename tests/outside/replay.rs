@@ -1,11 +1,12 @@
 //! Replays lists of questions with gvdb-rs's answers against libgvdb.a. Each line is a command, a TAB and the answer; what the commands mean is
 //! said in the README of the list's maker. Lent buffers have guard bytes, and each refusal is held to leave them alone.
-//! Use: replay FILE...
+//! Use: replay FILE... [--checks OUT], which also writes what the check says of each table that is opened: file, start, end, number, rule, item.
 
 mod ffi;
 
-use ffi::{get, get_table, next_key, next_value, open};
+use ffi::{check, get, get_table, next_key, next_value, open};
 use std::collections::BTreeMap;
+use std::io::Write;
 use std::process::ExitCode;
 
 /// The document's number of an answer `err KIND`.
@@ -186,13 +187,25 @@ fn numbered(said: &str) -> Option<String> {
 
 fn main() -> ExitCode {
     let (mut compared, mut outside, mut wrong) = (0u32, 0u32, 0u32);
+    let mut paths: Vec<String> = std::env::args().skip(1).collect();
+    let mut checks = paths.iter().position(|p| p == "--checks").map(|at| {
+        let out = paths.remove(at + 1);
+        paths.remove(at);
+        std::io::BufWriter::new(std::fs::File::create(out).expect("the list of checks"))
+    });
     let mut by: BTreeMap<String, u32> = BTreeMap::new();
-    for path in std::env::args().skip(1) {
+    for path in paths {
         let text = std::fs::read_to_string(&path).unwrap_or_else(|e| panic!("{path}: {e}"));
         let mut state = State::default();
         for (line, row) in text.lines().enumerate() {
             let Some((command, said)) = row.split_once('\t') else { continue };
             let Some(ours) = state.answer(command, said) else { continue };
+            if let (Some(out), Some(pointer)) = (&mut checks, command.strip_prefix("open ")) {
+                let mut ends = pointer.split(' ').map(|n| n.parse::<u32>().expect("a number"));
+                let (start, end) = (ends.next().expect("a start"), ends.next().expect("an end"));
+                let said = check(&state.file, start, end);
+                writeln!(out, "{} {start} {end} {} {} {}", hex(&state.file), said.number, said.rule, said.item).expect("written");
+            }
             let Some(theirs) = numbered(said) else {
                 outside += 1;
                 continue;

@@ -8,7 +8,7 @@ use words::store::put_bytes;
 use words::store::put_zeros;
 ghost use mathlib.Core.Path.{_≡_};
 ghost use mathlib.Core.List.{_++_};
-ghost use Prim.Native.Nat.{ℕ, _+_, _*_, _-_, _≤_, _<_, _^_};
+ghost use Prim.Native.Nat.{ℕ, _+_, _*_, _≤_, _<_, _^_};
 ghost use lib.ListN.{length};
 ghost use Rattle.words.specs.Store.{part, putAt};
 ghost use Rattle.image.specs.Laid.{Laid};

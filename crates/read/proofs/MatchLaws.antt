@@ -39,7 +39,7 @@ ends-joined k f =
     rw (le-leb (length f) (length (k ++ f)) (omega arith), front, drop-at k f (length k) refl, take-length) (same-refl f)
 
 -- a joined key is a given one where that ends in the fragment and its front is what was joined above
-names-tail : (above : Joined) (f key : List ℕ)
+pub names-tail : (above : Joined) (f key : List ℕ)
     → names (append above f) key ≡ pick (endsAt key (length key) f) (names above (take (length key - length f) key)) false
 unfolding names append
 names-tail (Joined.broken why) f key = sym (pick-same _ false)

@@ -30,7 +30,7 @@ above Step.Root keyAt = Joined.joined []
 above (Step.Up parent) keyAt = keyAt parent
 above (Step.Refused why) keyAt = Joined.broken why
 
-joined-above : (s : Step) (f : List ℕ) (keyAt : ℕ → Joined) → joinStep s f keyAt ≡ append (above s keyAt) f
+pub joined-above : (s : Step) (f : List ℕ) (keyAt : ℕ → Joined) → joinStep s f keyAt ≡ append (above s keyAt) f
 unfolding joinStep above append
 joined-above Step.Root f keyAt = refl
 joined-above (Step.Up parent) f keyAt = refl

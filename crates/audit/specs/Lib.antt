@@ -1,0 +1,9 @@
+pub mod Marks
+pub mod Back
+pub mod Own
+pub mod Place
+pub mod Rules
+pub mod Survey
+pub mod Answer
+pub mod Sound
+pub mod Broken

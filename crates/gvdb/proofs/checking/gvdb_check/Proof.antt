@@ -1,0 +1,51 @@
+-- `gvdb::checking::gvdb_check` meets its contract: the check's answer as numbers. Assumes nothing.
+use mathlib.Core.Path.{_≡_, sym, ap, _∙_}
+use Rattle.audit.specs.Answer.{checkedNumber, checkedRule, checkedItem}
+use Rattle.gvdb.specs.Checking.{checkedAnswer}
+use borrow.Author.Needs.{needs}
+use Rattle.gvdb.proofs.checking.gvdb_check.Statement.{statement}
+use Rattle.gvdb.proofs.checking.gvdb_check.Tie as tie
+
+check-table-requires : tie.Need-check-table-requires
+check-table-requires c κs = search needs
+
+enum-told : tie.Need-enum-told
+enum-told c = search needs
+
+enum-known-rule : tie.Need-enum-known-rule
+enum-known-rule c = search needs
+
+number-of-requires : tie.Need-number-of-requires
+number-of-requires c κs = search needs
+
+enum-known-why : tie.Need-enum-known-why
+enum-known-why c = search needs
+
+number-of-requires-2 : tie.Need-number-of-requires-2
+number-of-requires-2 c κs = search needs
+
+returns : tie.Need-returns
+unfolding checkedAnswer checkedNumber checkedRule checkedItem
+returns c = ap checkedAnswer (sym (c .enum-told .given .1) ∙ c .before .before .check-table .ensures)
+
+returns-2 : tie.Need-returns-2
+unfolding checkedAnswer checkedNumber checkedRule checkedItem
+returns-2 c = rw (c .number-of .ensures) (ap checkedAnswer (sym (c .before .before .rule .given .1) ∙ c .before .before .before .before .check-table .ensures))
+
+returns-3 : tie.Need-returns-3
+unfolding checkedAnswer checkedNumber checkedRule checkedItem
+returns-3 c = rw (c .number-of2 .ensures) (ap checkedAnswer (sym (c .before .before .why .given .1) ∙ c .before .before .before .before .check-table .ensures))
+
+pub gvdb-check-spec : {M : Type 1} → statement M
+gvdb-check-spec =
+    tie.close
+    (tie.spec
+    check-table-requires
+    enum-told
+    enum-known-rule
+    number-of-requires
+    enum-known-why
+    number-of-requires-2
+    returns
+    returns-2
+    returns-3)

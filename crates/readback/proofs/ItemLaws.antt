@@ -1,0 +1,183 @@
+-- Each item of a table that an image holds reads back: its number, its key, its record, and what it holds. Assumes nothing.
+use mathlib.Core.Path.{_≡_, refl, sym, ap, _∙_}
+use mathlib.Core.List.{List}
+use Prim.Native.Nat.{ℕ, zero, suc, _+_, _%_, _≤_, _<_}
+use native.Mathlib.Omega.{arith}
+use lib.ListN.{length}
+use Rattle.words.specs.Align.{aligned}
+use Rattle.words.specs.Hash.{hashBy}
+use Rattle.layout.specs.declared.table.Opened.{Opened}
+use Rattle.layout.specs.Table.{openTable, longestFile}
+use Rattle.layout.specs.Item.{itemAt}
+use Rattle.layout.specs.Kind.{kindByte}
+use Rattle.read.specs.declared.lookup.Found.{Found}
+use Rattle.read.specs.Chain.{Joined, keyOf}
+use Rattle.read.specs.Find.{findItem}
+use Rattle.model.specs.Table.{Content, State, Has, kindOf}
+use Rattle.image.specs.Number.{indexIn, numberOf, itemOf}
+use Rattle.image.specs.Plan.{Plan, chunkSize, place, valueStart, planBytes}
+use Rattle.image.specs.Image.{alignOf, childrenOf, childWords, parentNumber, valueOf, planOf, tableBytes}
+use Rattle.image.specs.WellFormed.{WellFormed, Writable}
+use Rattle.image.specs.Laid.{Holds}
+use Rattle.image.specs.Fits.{PlanFits, laidItem}
+use Rattle.image.proofs.NumberLaws.{item-within, number-within, item-number}
+use Rattle.image.proofs.PlanLaws.{length-plan, read-value, value-ends}
+use Rattle.image.proofs.OpenLaws.{laid-opens, laid-item}
+use Rattle.readback.specs.Keys.{PlanKeys, PlanRuns}
+use Rattle.readback.specs.Back.{endOf, tableOpened, planAt, valuePlace, coversAt, ItemBack, NestedBack}
+use Rattle.readback.proofs.KeyLaws.{key-whole}
+use Rattle.readback.proofs.FindLaws.{find-there, find-nothing}
+use Rattle.readback.proofs.TableLaws.{plan-fits, plan-keys, plan-runs}
+
+-- ---- a table that may be written
+
+-- fills its table chunk
+chunk-room : (rule : ℕ → ℕ) (state : State) (d u at : ℕ) → Writable state d u → chunkSize (length (state u .members)) ≤ length (tableBytes rule state d u at)
+unfolding Writable tableBytes planOf
+chunk-room rule state zero u at good = absurd good
+chunk-room rule state (suc d) u at good = omega (arith, length-plan (planAt rule state d u) at)
+
+module _ (state : State) (d t : ℕ) (good : Writable state (suc d) t) where
+  pub well-formed : WellFormed (state t)
+  unfolding Writable
+  well-formed = good .0
+
+  pub nested-writable : (i u : ℕ) → Has (state t .members) i → state t .content i ≡ Content.nested u → Writable state d u
+  unfolding Writable
+  nested-writable = good .1
+
+  module _ (rule : ℕ → ℕ) where
+    pub fits-plan : PlanFits (planAt rule state d t)
+    fits-plan = plan-fits rule (λ u start. tableBytes rule state d u start) state (state t) well-formed (λ i u l e at. chunk-room rule state d u at (nested-writable i u l e))
+
+    pub keys-plan : PlanKeys (planAt rule state d t) (λ k. state t .key (itemOf rule (state t) k)) (λ k. indexIn (state t .members) (itemOf rule (state t) k))
+    keys-plan = plan-keys rule (λ u start. tableBytes rule state d u start) state (state t) well-formed
+
+    pub runs-plan : PlanRuns rule (planAt rule state d t) (λ k. state t .key (itemOf rule (state t) k))
+    runs-plan = plan-runs rule (λ u start. tableBytes rule state d u start) state (state t) well-formed
+
+    -- an item's number, and the item of that number
+    pub number-small : (i : ℕ) → Has (state t .members) i → numberOf rule (state t) i < length (state t .members)
+    number-small i l = number-within rule (state t) (well-formed .once) i l
+
+    pub numbered-item : (i : ℕ) → Has (state t .members) i → itemOf rule (state t) (numberOf rule (state t) i) ≡ i
+    numbered-item i l = item-number rule (state t) (well-formed .once) i l
+
+start-eight : (p : Plan) (k s : ℕ) → p .align k ≡ 8 → valueStart p k s % 8 ≡ 0
+unfolding valueStart aligned
+start-eight p k s e = rw e (omega arith)
+
+start-four : (p : Plan) (k s : ℕ) → p .align k ≡ 4 → valueStart p k s % 4 ≡ 0
+unfolding valueStart aligned
+start-four p k s e = rw e (omega arith)
+
+-- ---- in an image that holds it
+
+module _ (rule : ℕ → ℕ) (img : List ℕ) (state : State) (d t at : ℕ) (held : Holds img at (tableBytes rule state (suc d) t at)) (short : length img ≤ longestFile)
+    (even : at % 4 ≡ 0) (good : Writable state (suc d) t) where
+  plan-held : Holds img at (planBytes (planAt rule state d t) at)
+  unfolding tableBytes
+  plan-held = held
+
+  -- the table opens with all its items
+  pub opens : openTable img at (endOf state t at) ≡ Opened.Table (tableOpened state t at)
+  unfolding planOf
+  opens = laid-opens img (planAt rule state d t) at plan-held short even
+
+  -- the key of a number is the whole key of the item with that number
+  pub key-of-number : (k : ℕ) → k < length (state t .members)
+      → keyOf img (tableOpened state t at) (length (state t .members)) k ≡ Joined.joined (state t .key (itemOf rule (state t) k))
+  unfolding planOf
+  key-of-number k l = key-whole img (planAt rule state d t) at plan-held short (fits-plan state d t good rule) _ _ (keys-plan state d t good rule) k l
+
+  pub key-back : (i : ℕ) → Has (state t .members) i
+      → keyOf img (tableOpened state t at) (length (state t .members)) (numberOf rule (state t) i) ≡ Joined.joined (state t .key i)
+  key-back i l =
+      key-of-number (numberOf rule (state t) i) (number-small state d t good rule i l)
+      ∙ ap (λ (j : ℕ). Joined.joined (state t .key j)) (numbered-item state d t good rule i l)
+
+  -- the key of an item is found at its number, and a key that no item has is not found
+  pub found-back : (i : ℕ) → Has (state t .members) i → findItem rule img (tableOpened state t at) (state t .key i) ≡ Found.At (numberOf rule (state t) i)
+  unfolding planOf
+  found-back i l =
+      ap (λ (j : ℕ). findItem rule img (tableOpened state t at) (state t .key j)) (sym (numbered-item state d t good rule i l))
+      ∙ find-there rule img (planAt rule state d t) at plan-held short (fits-plan state d t good rule) _ _ (keys-plan state d t good rule) (runs-plan state d t good rule)
+      (numberOf rule (state t) i) (number-small state d t good rule i l)
+
+  pub not-found-back : (x : List ℕ) → ((i : ℕ) → Has (state t .members) i → state t .key i ≡ x → ⊥) → findItem rule img (tableOpened state t at) x ≡ Found.Nothing
+  unfolding planOf
+  not-found-back x none =
+      find-nothing rule img (planAt rule state d t) at plan-held short (fits-plan state d t good rule) _ _ (keys-plan state d t good rule) x
+      (λ k l e. none (itemOf rule (state t) k) (item-within rule (state t) (well-formed state d t good .once) k l) e)
+
+  -- the value as laid, and where it ends
+  pub value-held : (i : ℕ) → Has (state t .members) i
+      → Holds img (valuePlace rule state d t at i)
+      (valueOf rule (λ u start. tableBytes rule state d u start) state (state t) i (state t .content i) (valuePlace rule state d t at i))
+  unfolding planOf valuePlace
+  value-held i l =
+      rw (numbered-item state d t good rule i l) at
+      (read-value img (planAt rule state d t) at plan-held (numberOf rule (state t) i) (number-small state d t good rule i l))
+
+  pub value-inside : (i : ℕ) → Has (state t .members) i → valuePlace rule state d t at i + coversAt rule state d t i ≤ length img
+  unfolding planOf valuePlace
+  value-inside i l =
+      let k = numberOf rule (state t) i in
+      let b = number-small state d t good rule i l in
+      let p = planAt rule state d t in
+      let v = valueStart p k (place p (endOf state t at) k) in
+      let total : v + p .covers k ≤ length img = omega (arith, fits-plan state d t good rule .covered k v b, value-ends img p at plan-held k b) in
+      rw (numbered-item state d t good rule i l) at total
+
+  -- the record at an item's number
+  pub item-back : (i : ℕ) → Has (state t .members) i → ItemBack rule img state d t at i (itemAt img (tableOpened state t at) (numberOf rule (state t) i))
+  unfolding planOf laidItem valuePlace
+  item-back i l =
+      let e = numbered-item state d t good rule i l in
+      rw (laid-item img (planAt rule state d t) at plan-held short (fits-plan state d t good rule) (numberOf rule (state t) i) (number-small state d t good rule i l))
+      (record {
+        hash = ap (λ (j : ℕ). hashBy rule (state t .key j)) e;
+        parent = ap (λ (j : ℕ). parentNumber rule (state t) j) e;
+        kind = ap (λ (j : ℕ). kindByte (kindOf (state t .content j))) e;
+        from = refl;
+        to = ap (λ (j : ℕ). valuePlace rule state d t at i + coversAt rule state d t j) e;
+        fits = value-inside i l;
+      })
+
+  -- a value starts at a multiple of 8, a table and a container's children at one of 4
+  align-number : (i : ℕ) → Has (state t .members) i → planAt rule state d t .align (numberOf rule (state t) i) ≡ alignOf (state t .content i)
+  unfolding planOf
+  align-number i l = ap (λ (j : ℕ). alignOf (state t .content j)) (numbered-item state d t good rule i l)
+
+  pub place-eight : (i : ℕ) → Has (state t .members) i → alignOf (state t .content i) ≡ 8 → valuePlace rule state d t at i % 8 ≡ 0
+  unfolding valuePlace
+  place-eight i l e = start-eight (planAt rule state d t) (numberOf rule (state t) i) _ (align-number i l ∙ e)
+
+  pub place-four : (i : ℕ) → Has (state t .members) i → alignOf (state t .content i) ≡ 4 → valuePlace rule state d t at i % 4 ≡ 0
+  unfolding valuePlace
+  place-four i l e = start-four (planAt rule state d t) (numberOf rule (state t) i) _ (align-number i l ∙ e)
+
+  -- what stands at the place of an item that holds bytes, a table, or children
+  pub bytes-held : (i : ℕ) (value : List ℕ) → Has (state t .members) i → state t .content i ≡ Content.bytes value → Holds img (valuePlace rule state d t at i) value
+  unfolding valueOf
+  bytes-held i value l is = rw is at (value-held i l)
+
+  pub nested-held : (i u : ℕ) → Has (state t .members) i → state t .content i ≡ Content.nested u → NestedBack rule img state d u (valuePlace rule state d t at i)
+  unfolding valueOf
+  nested-held i u l is = record {
+    held = rw is at (value-held i l);
+    even = place-four i l (rw is);
+    writable = nested-writable state d t good i u l is;
+  }
+
+  pub children-held : (i : ℕ) → Has (state t .members) i → state t .content i ≡ Content.container
+      → Holds img (valuePlace rule state d t at i) (childWords rule (state t) (childrenOf (state t) i))
+  unfolding valueOf
+  children-held i l is = rw is at (value-held i l)
+
+-- a nested table opens, with all its items
+pub nested-opens : (rule : ℕ → ℕ) (img : List ℕ) (state : State) (d u from : ℕ) → length img ≤ longestFile → NestedBack rule img state d u from
+    → openTable img from (endOf state u from) ≡ Opened.Table (tableOpened state u from)
+unfolding Writable
+nested-opens rule img state zero u from short n = absurd (n .writable)
+nested-opens rule img state (suc d) u from short n = opens rule img state d u from (n .held) short (n .even) (n .writable)

@@ -1,0 +1,53 @@
+-- Where a table of the model and its items stand in a file that holds the table, and how they read there. Assumes nothing: these are
+-- definitions.
+use Prim.Native.Nat.{ℕ, _+_, _%_, _≤_}
+use mathlib.Core.Path.{_≡_}
+use mathlib.Core.List.{List}
+use lib.ListN.{length}
+use Rattle.words.specs.Hash.{hashBy}
+use Rattle.layout.specs.declared.table.Table.{Table}
+use Rattle.layout.specs.declared.item.Item.{Item}
+use Rattle.layout.specs.Kind.{kindByte}
+use Rattle.model.specs.Table.{State, kindOf}
+use Rattle.image.specs.Number.{numberOf}
+use Rattle.image.specs.Plan.{Plan, chunkSize, place, valueStart}
+use Rattle.image.specs.Image.{parentNumber, coversOf, planOf, tableBytes}
+use Rattle.image.specs.WellFormed.{Writable}
+use Rattle.image.specs.Laid.{Holds}
+use Rattle.image.specs.Fits.{openedAs}
+
+-- table t at `at` ends, for its pointer, where its table chunk does
+abbrev pub endOf : State → ℕ → ℕ → ℕ
+endOf state t at = at + chunkSize (length (state t .members))
+
+-- what opens there: a table of as many items
+abbrev pub tableOpened : State → ℕ → ℕ → Table
+tableOpened state t at = openedAs at (length (state t .members))
+
+module _ (rule : ℕ → ℕ) where
+  -- table t with its items by number, nested tables as deep as d goes
+  abbrev pub planAt : State → ℕ → ℕ → Plan
+  planAt state d t = planOf rule (λ u start. tableBytes rule state d u start) state (state t)
+
+  -- where the value of item i starts, and how much of it the value pointer covers
+  unfoldable pub valuePlace : State → ℕ → ℕ → ℕ → ℕ → ℕ
+  valuePlace state d t at i =
+      valueStart (planAt state d t) (numberOf rule (state t) i) (place (planAt state d t) (endOf state t at) (numberOf rule (state t) i))
+
+  abbrev pub coversAt : State → ℕ → ℕ → ℕ → ℕ
+  coversAt state d t i = coversOf rule (λ u start. tableBytes rule state d u start) state (state t) i (state t .content i)
+
+  -- the record at the number of item i: the hash of its whole key, its parent's number, its kind, and the place of its value
+  pub record ItemBack (file : List ℕ) (state : State) (d t at i : ℕ) (item : Item) : Type 0 where
+    pub hash : item .hash ≡ hashBy rule (state t .key i)
+    pub parent : item .parent ≡ parentNumber rule (state t) i
+    pub kind : item .kind ≡ kindByte (kindOf (state t .content i))
+    pub from : item .from ≡ valuePlace state d t at i
+    pub to : item .to ≡ valuePlace state d t at i + coversAt state d t i
+    pub fits : valuePlace state d t at i + coversAt state d t i ≤ length file
+
+  -- table u stands at `from`, whole, with what is nested in it as deep as d goes
+  pub record NestedBack (file : List ℕ) (state : State) (d u from : ℕ) : Type 0 where
+    pub held : Holds file from (tableBytes rule state d u from)
+    pub even : from % 4 ≡ 0
+    pub writable : Writable state d u
