@@ -1,3 +1,5 @@
 pub mod MemoryLaws
 pub mod FindLaws
 pub mod ItemLaws
+pub mod MadeLaws
+pub mod Unique

@@ -18,6 +18,8 @@ pub const MOST_TABLES: usize = 64;
 
 pub const DEEPEST: usize = 8;
 
+pub const LAST_SEPARATOR: usize = 127;
+
 // The header's words.
 pub const LENGTH: usize = 0;
 

@@ -5,3 +5,4 @@ pub mod TableLaws
 pub mod ItemLaws
 pub mod ReadBack
 pub mod ImageBack
+pub mod Worked

@@ -1,3 +1,4 @@
 pub mod Keys
 pub mod Back
 pub mod Told
+pub mod Sample

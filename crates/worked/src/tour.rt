@@ -1,5 +1,6 @@
 // A walk through each file of data/: what its root table opens as, its keys and values as they list, and what lookups answer.
 use crate::say;
+use audit::check::Checked;
 use layout::refusal::number_of;
 use read::listing::Cursor;
 use read::listing::Listed;
@@ -78,6 +79,22 @@ fn lookup(file: &[u8], start: u32, end: u32, key: &[u8]) {
     say::end();
 }
 
+// What the check says of the root table.
+fn check(file: &[u8], start: u32, end: u32) {
+    say::text(b"  check: ");
+    match audit::check::check_table(file, start, end) {
+        Checked::Sound => say::text(b"sound"),
+        Checked::Broken { rule, item } => {
+            say::text(b"rule ");
+            say::number(rule as u64);
+            say::text(b" broken by item ");
+            say::size(item);
+        }
+        Checked::Refused(why) => say::number(number_of(why) as u64),
+    }
+    say::end();
+}
+
 fn lookups(file: &[u8], start: u32, end: u32) {
     lookup(file, start, end, b"");
     lookup(file, start, end, b"a");
@@ -126,6 +143,7 @@ fn file(name: &[u8], named: bool) {
         let start = words::field::word_at(&space, 16);
         let end = words::field::word_at(&space, 20);
         let items = crate::open::table(&space[..size], start, end);
+        check(&space[..size], start, end);
         list(&space[..size], start, end, items);
         lookups(&space[..size], start, end);
         if named {
@@ -144,6 +162,12 @@ pub fn files() {
     file(b"beyond.gvdb", false);
     file(b"no_buckets.gvdb", false);
     file(b"nested.gvdb", true);
+    file(b"rule_1.gvdb", false);
+    file(b"rule_2.gvdb", false);
+    file(b"rule_3.gvdb", false);
+    file(b"rule_4.gvdb", false);
+    file(b"rule_5.gvdb", false);
+    file(b"rule_6.gvdb", false);
     file(b"gvdbrs-test1.gvdb", true);
     file(b"gvdbrs-test2.gvdb", true);
     file(b"gvdbrs-test3.gresource", true);

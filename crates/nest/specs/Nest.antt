@@ -1,0 +1,56 @@
+-- The insert of a table into another: 29, 24 for the receiver, 24 for the guest, 25, 8, 20, 21, 26, 22, 23. Assumes nothing: these are
+-- definitions.
+use Prim.Native.Nat.{ℕ, _+_}
+use mathlib.Core.Bool.{_&&_}
+use mathlib.Core.List.{List, [], _∷_}
+use lib.ListN.{length}
+use lib.Dec.{ltb, eqb}
+use Rattle.words.specs.Choice.{pick}
+use Rattle.words.specs.Store.{putAt}
+use Rattle.layout.specs.declared.refusal.Refusal.the-variants.{MemoryBroken, TableUnknown, TableInItself}
+use Rattle.model.specs.declared.Inserted.{Inserted}
+use Rattle.model.specs.Builder.{mostTables, deepest, most}
+use Rattle.memory.specs.Memory.{tableAt, itemTotal, tableHeight, itemTable, itemKind, itemGuest, tableKind, sound, memory, Outcome, outcome}
+use Rattle.memory.specs.Item.{stored}
+use Rattle.tables.specs.Table.{takes}
+use Rattle.build.specs.Insert.{refused, keyed, insertWalked}
+
+-- the height of the table that item i holds, as that table's record says, where i is an item of table t that holds one; else 0
+unfoldable pub heldAt : List ℕ → ℕ → ℕ → ℕ
+heldAt ws t i =
+    pick (eqb (itemTable ws i) t && (eqb (itemKind ws i) tableKind && ltb (itemGuest ws i) mostTables)) (tableHeight ws (itemGuest ws i)) 0
+
+-- the greatest height of the tables that table t holds, or 0; its own height is one more
+unfoldable pub heldHeight : List ℕ → ℕ → ℕ
+heldHeight ws t = most (heldAt ws t) (itemTotal ws)
+
+-- table t placed, with its height
+unfoldable pub placeTable : List ℕ → ℕ → ℕ → List ℕ
+placeTable ws t height = putAt ws (tableAt t + 1) (1 ∷ height ∷ [])
+
+-- the guest is placed where its insert is accepted
+unfoldable pub whenAccepted : Inserted → List ℕ → List ℕ → List ℕ
+whenAccepted Inserted.New accepted refused = accepted
+whenAccepted (Inserted.Replaced kind) accepted refused = accepted
+whenAccepted (Inserted.Refused why) accepted refused = refused
+
+unfoldable pub settled : ℕ → ℕ → Outcome Inserted → Outcome Inserted
+settled guest height o =
+    outcome (o .answer) (memory (whenAccepted (o .answer) (placeTable (o .after .words) guest height) (o .after .words)) (o .after .arena))
+
+-- 26 where the receiver would pass the greatest height
+unfoldable pub nested : List ℕ → List ℕ → ℕ → List ℕ → ℕ → Outcome Inserted
+nested ws ar t key guest =
+    settled guest (heldHeight ws guest + 1)
+    (insertWalked ws ar t key (stored tableKind [] guest) (ltb deepest (heldHeight ws guest + 1 + 1)))
+
+unfoldable pub tableSound : List ℕ → List ℕ → ℕ → List ℕ → ℕ → Outcome Inserted
+tableSound ws ar t key guest =
+    pick (takes ws t)
+    (pick (takes ws guest)
+    (pick (eqb t guest) (refused TableInItself ws ar) (keyed ws ar key (nested ws ar t key guest)))
+    (refused TableUnknown ws ar))
+    (refused TableUnknown ws ar)
+
+unfoldable pub insertTable : List ℕ → List ℕ → ℕ → List ℕ → ℕ → Outcome Inserted
+insertTable ws ar t key guest = pick (sound ws (length ar)) (tableSound ws ar t key guest) (refused MemoryBroken ws ar)

@@ -1,0 +1,113 @@
+// The insert of a table into another.
+use crate::height::held_height;
+use build::insert::Job;
+use build::insert::insert_walked;
+use layout::refusal::Refusal;
+use memory::place::DEEPEST;
+use memory::place::LONGEST_KEY;
+use memory::place::PLACED;
+use memory::place::TABLE_KIND;
+use memory::place::TABLE_SIZE;
+use memory::place::TABLES_FROM;
+use memory::rules::judge;
+use model::Inserted;
+use tables::add::takes_items;
+use text::utf8::is_utf8;
+use words::wide::word_size;
+ghost use mathlib.Core.Path.{_≡_};
+ghost use Prim.Native.Nat.{_≤_, _<_};
+ghost use lib.ListN.{length};
+ghost use Rattle.model.specs.Builder.{mostTables};
+ghost use Rattle.memory.specs.Memory.{leastWords, tableTotal, Sound, memory, outcome};
+ghost use Rattle.build.specs.Insert.{Ready};
+ghost use Rattle.nest.specs.Nest.{placeTable, nested, tableSound, insertTable};
+
+// Marks a table as placed, with its height.
+fn place_table(words: &mut [usize], table: usize, height: usize)
+    requires { ⌜ (leastWords ≤ length (now words)) × (table < mostTables) ⌝ }
+    ensures { λ _. ⌜ now (words .exit) ≡ placeTable (now (words .entry)) table height ⌝ }
+{
+    let at = TABLES_FROM + TABLE_SIZE * table + PLACED;
+    words[at] = 1;
+    words[at + 1] = height;
+}
+
+// Inserts the guest's item, and places the guest where that is not refused.
+fn insert_nested(
+    words: &mut [usize],
+    arena: &mut [u8],
+    table: usize,
+    key: &[u8],
+    guest: usize,
+) -> Inserted
+    requires { ⌜ Ready (now words) (now arena) table (now key) ⌝ }
+    requires { ⌜ guest < tableTotal (now words) ⌝ }
+    ensures { λ r. ⌜ outcome r (memory (now (words .exit)) (now (arena .exit))) ≡ nested (now (words .entry)) (now (arena .entry)) table (now (key .entry)) guest ⌝ }
+{
+    let held = held_height(words, guest);
+    let deep = DEEPEST - 1 <= held;
+    let job = Job {
+        table,
+        kind: TABLE_KIND,
+        guest,
+    };
+    let r = insert_walked(words, arena, job, key, &key[..0], deep);
+    match r {
+        Inserted::Refused(why) => Inserted::Refused(why),
+        Inserted::New => {
+            place_table(words, guest, held + 1);
+            Inserted::New
+        }
+        Inserted::Replaced(kind) => {
+            place_table(words, guest, held + 1);
+            Inserted::Replaced(kind)
+        }
+    }
+}
+
+// Both tables take inserts (24), they are two (25), and the key is one (8, 20).
+fn table_sound(
+    words: &mut [usize],
+    arena: &mut [u8],
+    table: usize,
+    key: &[u8],
+    guest: usize,
+) -> Inserted
+    requires { ⌜ Sound (now words) (length (now arena)) ⌝ }
+    ensures { λ r. ⌜ outcome r (memory (now (words .exit)) (now (arena .exit))) ≡ tableSound (now (words .entry)) (now (arena .entry)) table (now (key .entry)) guest ⌝ }
+{
+    if !takes_items(words, arena, table) {
+        return Inserted::Refused(Refusal::TableUnknown);
+    }
+    if !takes_items(words, arena, guest) {
+        return Inserted::Refused(Refusal::TableUnknown);
+    }
+    if table == guest {
+        return Inserted::Refused(Refusal::TableInItself);
+    }
+    if !is_utf8(key) {
+        return Inserted::Refused(Refusal::KeyNotUtf8);
+    }
+    if LONGEST_KEY < key.len() {
+        return Inserted::Refused(Refusal::KeyTooLong);
+    }
+    insert_nested(words, arena, table, key, guest)
+}
+
+// Inserts a table under a key of another: 29, 24 for the receiver, 24 for the guest, 25, 8, 20, 21, 26, 22, 23, or the news.
+pub fn insert_table(
+    words: &mut [usize],
+    arena: &mut [u8],
+    table: u32,
+    key: &[u8],
+    guest: u32,
+) -> Inserted
+    ensures { λ r. ⌜ outcome r (memory (now (words .exit)) (now (arena .exit))) ≡ insertTable (now (words .entry)) (now (arena .entry)) table (now (key .entry)) guest ⌝ }
+{
+    if !judge(words, arena) {
+        return Inserted::Refused(Refusal::MemoryBroken);
+    }
+    let t = word_size(table);
+    let g = word_size(guest);
+    table_sound(words, arena, t, key, g)
+}

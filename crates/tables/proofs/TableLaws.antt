@@ -1,0 +1,130 @@
+-- The laws of new tables and of the count of a table's items. Assumes nothing.
+use Prim.Native.Nat.{ℕ, suc, _+_, _≤_, _<_}
+use native.Mathlib.Numerals.{add-one}
+use native.Mathlib.Omega.{arith}
+use mathlib.Core.Path.{_≡_, refl, ap, _∙_}
+use mathlib.Core.Bool.{true, false}
+use mathlib.Core.List.{List, [], _∷_}
+use borrow.Author.Tests.{eqb-true, ltb-true, eq-eqb, ne-eqb, lt-ltb, le-ltb, le-leb, lt-leb}
+use lib.Dec.{eqb, ltb}
+use lib.ListN.{length, getD, set}
+use Rattle.words.specs.Choice.{pick}
+use Rattle.words.specs.Store.{putAt}
+use Rattle.words.proofs.ChoiceLaws.{both}
+use Rattle.layout.specs.declared.refusal.Refusal.the-variants.{MemoryBroken, TableUnknown, TooManyTables, SeparatorOutside}
+use Rattle.model.specs.declared.Numbered.{Numbered}
+use Rattle.model.specs.declared.Counted.{Counted}
+use Rattle.model.specs.Builder.{mostTables, separatorOf}
+use Rattle.memory.specs.Memory.{tableAt, tableTotal, itemTotal, tablePlaced, itemTable, sound, memory, outcome}
+use Rattle.tables.specs.Table.{takes, unnumbered, addTable, newTable, countOf, itemCount}
+
+-- ---- a separator, by its length
+
+pub separator-none : (s : List ℕ) → length s ≡ 0 → 256 ≡ separatorOf s
+unfolding separatorOf
+separator-none [] e = refl
+separator-none (b ∷ s) e = absurd (omega arith)
+
+pub separator-long : (s : List ℕ) → (length s ≡ 0 → ⊥) → (length s ≡ 1 → ⊥) → 0 ≡ separatorOf s
+unfolding separatorOf
+separator-long [] n0 n1 = absurd (n0 refl)
+separator-long (b ∷ []) n0 n1 = absurd (n1 refl)
+separator-long (b ∷ c ∷ s) n0 n1 = refl
+
+pub separator-low : (s : List ℕ) (b : ℕ) → length s ≡ 1 → b ≡ getD s 0 0 → b ≤ 127 → b ≡ separatorOf s
+unfolding separatorOf pick
+separator-low [] b e is l = absurd (let z : 0 ≡ 1 = e in omega arith)
+separator-low (x ∷ []) b e is l = let f : b ≡ x = is in simp (← f, le-leb _ _ l)
+separator-low (x ∷ y ∷ s) b e is l = absurd (omega arith)
+
+pub separator-high : (s : List ℕ) (b : ℕ) → length s ≡ 1 → b ≡ getD s 0 0 → 127 < b → 0 ≡ separatorOf s
+unfolding separatorOf pick
+separator-high [] b e is l = absurd (let z : 0 ≡ 1 = e in omega arith)
+separator-high (x ∷ []) b e is l = let f : b ≡ x = is in simp (← f, lt-leb _ _ l)
+separator-high (x ∷ y ∷ s) b e is l = absurd (omega arith)
+
+-- ---- a table that takes items
+
+pub takes-unknown : (ws : List ℕ) (t : ℕ) → tableTotal ws ≤ t → false ≡ takes ws t
+unfolding takes
+takes-unknown ws t h = simp (le-ltb _ _ h)
+
+pub takes-known : (ws : List ℕ) (t placed : ℕ) → t < tableTotal ws → placed ≡ tablePlaced ws t → eqb placed 0 ≡ takes ws t
+unfolding takes
+takes-known ws t placed h e = simp (lt-ltb _ _ h, e)
+
+pub takes-facts : (ws : List ℕ) (t : ℕ) → takes ws t ≡ true → (t < tableTotal ws) × (tablePlaced ws t ≡ 0)
+unfolding takes
+takes-facts ws t e = let h = both (ltb t (tableTotal ws)) (eqb (tablePlaced ws t) 0) e in (ltb-true _ _ (h .0), eqb-true _ _ (h .1))
+
+-- ---- a new table
+
+module _ (ws ar : List ℕ) (separator : ℕ) where
+  pub tables-many : mostTables ≤ tableTotal ws → unnumbered TooManyTables ws ar ≡ addTable ws ar separator
+  unfolding addTable pick
+  tables-many h = simp (le-leb _ _ h)
+
+  three-stores : (l : List ℕ) (at a b d : ℕ) → set (set (set l at a) (at + 1) b) (at + 2) d ≡ putAt l at (a ∷ b ∷ d ∷ [])
+  unfolding putAt
+  three-stores l at a b d =
+      let i1 : at + 1 ≡ suc at = omega arith in
+      let i2 : at + 2 ≡ suc (suc at) = omega arith in
+      cc
+
+  one-store : (l : List ℕ) (at a : ℕ) → set l at a ≡ putAt l at (a ∷ [])
+  unfolding putAt
+  one-store l at a = refl
+
+  pub table-added : tableTotal ws < mostTables → (number : ℕ) → number ≡ tableTotal ws
+      → outcome (Numbered.Table number)
+      (memory (set (set (set (set ws (tableAt (tableTotal ws)) separator) (tableAt (tableTotal ws) + 1) 0) (tableAt (tableTotal ws) + 2) 0) 2 (tableTotal ws + 1)) ar)
+      ≡ addTable ws ar separator
+  unfolding addTable pick
+  table-added l number is =
+      simp (lt-leb _ _ l, is)
+      (ap (λ (w : List ℕ). outcome (Numbered.Table (tableTotal ws)) (memory w ar))
+      (ap (λ (w : List ℕ). set w 2 (tableTotal ws + 1)) (three-stores ws (tableAt (tableTotal ws)) separator 0 0) ∙ one-store _ 2 (tableTotal ws + 1)))
+
+module _ (ws ar separator : List ℕ) where
+  pub table-unsound : sound ws (length ar) ≡ false → unnumbered MemoryBroken ws ar ≡ newTable ws ar separator
+  unfolding newTable pick
+  table-unsound e = simp e
+
+  module _ (ok : sound ws (length ar) ≡ true) (b : ℕ) (is : b ≡ separatorOf separator) where
+    pub table-outside : b ≡ 0 → unnumbered SeparatorOutside ws ar ≡ newTable ws ar separator
+    unfolding newTable pick
+    table-outside h = simp (ok, ← is, eq-eqb _ _ h)
+
+    pub table-inside : (b ≡ 0 → ⊥) → addTable ws ar b ≡ newTable ws ar separator
+    unfolding newTable pick
+    table-inside h = simp (ok, ← is, ne-eqb _ _ h)
+
+-- ---- the count of a table's items
+
+module _ (ws : List ℕ) (t : ℕ) where
+  pub count-none : 0 ≡ countOf ws t 0
+  unfolding countOf
+  count-none = refl
+
+  module _ (i own count : ℕ) (is : own ≡ itemTable ws i) (so-far : count ≡ countOf ws t i) where
+    pub count-pass : (own ≡ t → ⊥) → count ≡ countOf ws t (i + 1)
+    unfolding countOf pick
+    count-pass ne = rw add-one (simp (← is, ne-eqb _ _ ne, ← so-far))
+
+    pub count-one : own ≡ t → count + 1 ≡ countOf ws t (i + 1)
+    unfolding countOf pick
+    count-one e = rw (add-one i) (simp (← is, eq-eqb _ _ e, ← so-far) (add-one count))
+
+module _ (ws ar : List ℕ) (t : ℕ) where
+  pub count-unsound : sound ws (length ar) ≡ false → Counted.Refused MemoryBroken ≡ itemCount ws ar t
+  unfolding itemCount pick
+  count-unsound e = simp e
+
+  module _ (ok : sound ws (length ar) ≡ true) where
+    pub count-unknown : tableTotal ws ≤ t → Counted.Refused TableUnknown ≡ itemCount ws ar t
+    unfolding itemCount pick
+    count-unknown h = simp (ok, le-ltb _ _ h)
+
+    pub count-known : (n : ℕ) → t < tableTotal ws → n ≡ countOf ws t (itemTotal ws) → Counted.Items n ≡ itemCount ws ar t
+    unfolding itemCount pick
+    count-known n h e = simp (ok, lt-ltb _ _ h, e)

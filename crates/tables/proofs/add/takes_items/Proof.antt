@@ -1,0 +1,20 @@
+-- `tables::add::takes_items` meets its contract. Assumes nothing.
+use Rattle.tables.proofs.TableLaws.{takes-unknown, takes-known}
+use borrow.Author.Needs.{needs}
+use Rattle.tables.proofs.add.takes_items.Statement.{statement}
+use Rattle.tables.proofs.add.takes_items.Tie as tie
+
+shared-slice-read-if1 : tie.Need-shared-slice-read-if1
+shared-slice-read-if1 c = search needs
+
+returns : tie.Need-returns
+returns c = takes-unknown _ _ (c .if1 .taken)
+
+table-word-requires : tie.Need-table-word-requires
+table-word-requires c κs = search needs
+
+returns-2 : tie.Need-returns-2
+returns-2 c = takes-known _ _ _ (c .before .if1 .left) (c .table-word .ensures)
+
+pub takes-items-spec : {M : Type 1} → statement M
+takes-items-spec = tie.close (tie.spec shared-slice-read-if1 returns table-word-requires returns-2)

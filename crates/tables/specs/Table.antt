@@ -1,0 +1,46 @@
+-- A new table: 29, 28, 27; and the count of a table's items: 29, 24. Assumes nothing: these are definitions.
+use Prim.Native.Nat.{ℕ, zero, suc, _+_}
+use mathlib.Core.Bool.{Bool, _&&_}
+use mathlib.Core.List.{List, [], _∷_}
+use lib.ListN.{length}
+use lib.Dec.{ltb, leb, eqb}
+use Rattle.words.specs.Choice.{pick}
+use Rattle.words.specs.Store.{putAt}
+use Rattle.layout.specs.declared.refusal.Refusal.{Refusal}
+use Rattle.layout.specs.declared.refusal.Refusal.the-variants.{MemoryBroken, TableUnknown, TooManyTables, SeparatorOutside}
+use Rattle.model.specs.declared.Numbered.{Numbered}
+use Rattle.model.specs.declared.Counted.{Counted}
+use Rattle.model.specs.Builder.{mostTables, separatorOf}
+use Rattle.memory.specs.Memory.{tableAt, tableTotal, itemTotal, tablePlaced, itemTable, sound, memory, Outcome, outcome}
+
+-- the table is known and not placed
+unfoldable pub takes : List ℕ → ℕ → Bool
+takes ws t = ltb t (tableTotal ws) && eqb (tablePlaced ws t) 0
+
+abbrev pub unnumbered : Refusal → List ℕ → List ℕ → Outcome Numbered
+unnumbered why ws ar = outcome (Numbered.Refused why) (memory ws ar)
+
+-- the next table, not placed
+unfoldable pub addTable : List ℕ → List ℕ → ℕ → Outcome Numbered
+addTable ws ar separator =
+    pick (leb mostTables (tableTotal ws)) (unnumbered TooManyTables ws ar)
+    (outcome (Numbered.Table (tableTotal ws))
+    (memory (putAt (putAt ws (tableAt (tableTotal ws)) (separator ∷ 0 ∷ 0 ∷ [])) 2 ((tableTotal ws + 1) ∷ [])) ar))
+
+unfoldable pub newTable : List ℕ → List ℕ → List ℕ → Outcome Numbered
+newTable ws ar separator =
+    pick (sound ws (length ar))
+    (pick (eqb (separatorOf separator) 0) (unnumbered SeparatorOutside ws ar) (addTable ws ar (separatorOf separator)))
+    (unnumbered MemoryBroken ws ar)
+
+-- how many of the first n items are of table t
+unfoldable pub countOf : List ℕ → ℕ → ℕ → ℕ
+countOf ws t zero = 0
+countOf ws t (suc n) = pick (eqb (itemTable ws n) t) (suc (countOf ws t n)) (countOf ws t n)
+
+-- a table that is placed has its count too
+unfoldable pub itemCount : List ℕ → List ℕ → ℕ → Counted
+itemCount ws ar t =
+    pick (sound ws (length ar))
+    (pick (ltb t (tableTotal ws)) (Counted.Items (countOf ws t (itemTotal ws))) (Counted.Refused TableUnknown))
+    (Counted.Refused MemoryBroken)

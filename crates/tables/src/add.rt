@@ -1,0 +1,86 @@
+// New tables, and whether a table takes items.
+use layout::refusal::Refusal;
+use memory::place::LAST_SEPARATOR;
+use memory::place::MOST_TABLES;
+use memory::place::NO_SEPARATOR;
+use memory::place::PLACED;
+use memory::place::TABLE_SIZE;
+use memory::place::TABLES;
+use memory::place::TABLES_FROM;
+use memory::place::table_word;
+use memory::rules::judge;
+use model::Numbered;
+use words::wide::byte_size;
+ghost use mathlib.Core.Path.{_≡_};
+ghost use Prim.Native.Nat.{_<_, _^_};
+ghost use lib.ListN.{length};
+ghost use Rattle.model.specs.Builder.{separatorOf};
+ghost use Rattle.memory.specs.Memory.{Sound, memory, outcome};
+ghost use Rattle.tables.specs.Table.{takes, addTable, newTable};
+
+// A number that fits the answers' width.
+pub fn narrow(n: usize) -> u32
+    requires { ⌜ n < 2 ^ 32 ⌝ }
+    ensures { λ r. ⌜ r ≡ n ⌝ }
+{
+    n as u32
+}
+
+// A separator as its word: 0 for one outside the domain.
+fn separator_word(separator: &[u8]) -> usize
+    ensures { λ r. ⌜ r ≡ separatorOf (now (separator .entry)) ⌝ }
+{
+    if separator.len() == 0 {
+        return NO_SEPARATOR;
+    }
+    if separator.len() != 1 {
+        return 0;
+    }
+    let b = byte_size(separator[0]);
+    if b <= LAST_SEPARATOR {
+        return b;
+    }
+    0
+}
+
+// Whether the table is known and not placed.
+pub fn takes_items(words: &[usize], arena: &[u8], table: usize) -> bool
+    requires { ⌜ Sound (now words) (length (now arena)) ⌝ }
+    ensures { λ r. ⌜ r ≡ takes (now (words .entry)) table ⌝ }
+{
+    if words[TABLES] <= table {
+        return false;
+    }
+    table_word(words, table, PLACED) == 0
+}
+
+// The next table, with a separator's word.
+fn add_table(words: &mut [usize], arena: &[u8], separator: usize) -> Numbered
+    requires { ⌜ Sound (now words) (length (now arena)) ⌝ }
+    ensures { λ r. ⌜ outcome r (memory (now (words .exit)) (now (arena .entry))) ≡ addTable (now (words .entry)) (now (arena .entry)) separator ⌝ }
+{
+    let t = words[TABLES];
+    if MOST_TABLES <= t {
+        return Numbered::Refused(Refusal::TooManyTables);
+    }
+    let at = TABLES_FROM + TABLE_SIZE * t;
+    words[at] = separator;
+    words[at + 1] = 0;
+    words[at + 2] = 0;
+    words[TABLES] = t + 1;
+    Numbered::Table(narrow(t))
+}
+
+// A new, empty table with the separator: 29, 28, 27.
+pub fn new_table(words: &mut [usize], arena: &[u8], separator: &[u8]) -> Numbered
+    ensures { λ r. ⌜ outcome r (memory (now (words .exit)) (now (arena .entry))) ≡ newTable (now (words .entry)) (now (arena .entry)) (now (separator .entry)) ⌝ }
+{
+    if !judge(words, arena) {
+        return Numbered::Refused(Refusal::MemoryBroken);
+    }
+    let byte = separator_word(separator);
+    if byte == 0 {
+        return Numbered::Refused(Refusal::SeparatorOutside);
+    }
+    add_table(words, arena, byte)
+}
