@@ -29,7 +29,7 @@ tableSize = 4
 abbrev pub headsFrom : ℕ
 headsFrom = 264
 
--- as many heads as links
+-- the buckets of the index, each with its head
 abbrev pub buckets : ℕ
 buckets = 1024
 

@@ -1,0 +1,28 @@
+-- `gvdb::building::gvdb_insert_table` meets its contract: the insert's answer as numbers, and its memory. Assumes nothing.
+use mathlib.Core.Path.{_≡_, sym, ap, _∙_}
+use Rattle.memory.specs.Memory.{outcome, memory}
+use Rattle.gvdb.specs.Building.{told, insertedAnswer}
+use borrow.Author.Needs.{needs}
+use Rattle.gvdb.proofs.building.gvdb_insert_table.Statement.{statement}
+use Rattle.gvdb.proofs.building.gvdb_insert_table.Tie as tie
+
+insert-table-requires : tie.Need-insert-table-requires
+insert-table-requires c κs = search needs
+
+inserted-of-requires : tie.Need-inserted-of-requires
+inserted-of-requires c κs = search needs
+
+same-length : tie.Need-same-length
+same-length c = search needs
+
+same-length-2 : tie.Need-same-length-2
+same-length-2 c = search needs
+
+returns : tie.Need-returns
+unfolding told
+returns c = rw (c .inserted-of .ensures) (ap (told insertedAnswer) (c .before .before .before .before .before .insert-table .ensures))
+
+pub gvdb-insert-table-spec : {M : Type 1} → statement M
+gvdb-insert-table-spec =
+    tie.close
+    (tie.spec insert-table-requires inserted-of-requires same-length same-length-2 returns)

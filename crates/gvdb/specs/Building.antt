@@ -1,0 +1,23 @@
+-- The document's number and values of each answer to a builder call, as they cross to C. Assumes nothing.
+use Rattle.model.specs.declared.Inserted.{Inserted}
+use Rattle.model.specs.declared.Numbered.{Numbered}
+use Rattle.model.specs.declared.Counted.{Counted}
+use Rattle.memory.specs.Memory.{Outcome, outcome}
+use Rattle.tables.specs.Answer.{numberedNumber, numberedTable, countedNumber, countedItems}
+use Rattle.build.specs.Answer.{insertedNumber, insertedKind}
+use Rattle.gvdb.specs.declared.building.GvdbTable.{GvdbTable}
+use Rattle.gvdb.specs.declared.building.GvdbInserted.{GvdbInserted}
+use Rattle.gvdb.specs.declared.building.GvdbCount.{GvdbCount}
+
+-- an outcome with its answer as numbers; the memory is the same
+unfoldable pub told : {A B : Type 0} → (A → B) → Outcome A → Outcome B
+told answer o = outcome (answer (o .answer)) (o .after)
+
+unfoldable pub numberedAnswer : Numbered → GvdbTable
+numberedAnswer numbered = record { number = numberedNumber numbered; table = numberedTable numbered }
+
+unfoldable pub insertedAnswer : Inserted → GvdbInserted
+insertedAnswer inserted = record { number = insertedNumber inserted; replaced = insertedKind inserted }
+
+unfoldable pub countedAnswer : Counted → GvdbCount
+countedAnswer counted = record { number = countedNumber counted; count = countedItems counted }

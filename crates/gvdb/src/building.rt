@@ -1,0 +1,129 @@
+// Building tables over lent memory.
+use layout::kind::byte_of;
+use layout::refusal::number_of;
+use memory::fresh::Started;
+use model::Counted;
+use model::Inserted;
+use model::Numbered;
+use words::wide::byte_word;
+ghost use mathlib.Core.Path.{_≡_};
+ghost use Rattle.memory.specs.Memory.{leastWords, memory, outcome, freshStart};
+ghost use Rattle.memory.specs.Answer.{startedNumber};
+ghost use Rattle.tables.specs.Table.{newTable, itemCount};
+ghost use Rattle.build.specs.Insert.{insertValue};
+ghost use Rattle.nest.specs.Nest.{insertTable};
+ghost use Rattle.gvdb.specs.Building.{told, numberedAnswer, countedAnswer, insertedAnswer};
+
+// A new table's number.
+#[repr(C)]
+pub struct GvdbTable {
+    pub number: u32,
+    pub table: u32,
+}
+
+// What an insert replaced: 0 for a new key, else the byte of the old kind.
+#[repr(C)]
+pub struct GvdbInserted {
+    pub number: u32,
+    pub replaced: u32,
+}
+
+// How many items a table has, containers included.
+#[repr(C)]
+pub struct GvdbCount {
+    pub number: u32,
+    pub count: u32,
+}
+
+// The least length of the builder's words.
+#[no_mangle]
+pub extern "C" fn gvdb_memory_words() -> usize
+    ensures { λ r. ⌜ r ≡ leastWords ⌝ }
+{
+    memory::fresh::memory_words()
+}
+
+// An empty builder, whatever the memory held.
+#[no_mangle]
+pub extern "C" fn gvdb_fresh(words: &mut [usize], arena: &[u8]) -> u32
+    ensures { λ r. ⌜ outcome r (memory (now (words .exit)) (now (arena .entry))) ≡ told startedNumber (freshStart (now (words .entry)) (now (arena .entry))) ⌝ }
+{
+    match memory::fresh::fresh(words, arena) {
+        Started::Ready => 0,
+        Started::Refused(why) => number_of(why),
+    }
+}
+
+#[no_mangle]
+pub extern "C" fn gvdb_new_table(words: &mut [usize], arena: &[u8], separator: &[u8]) -> GvdbTable
+    ensures { λ r. ⌜ outcome r (memory (now (words .exit)) (now (arena .entry))) ≡ told numberedAnswer (newTable (now (words .entry)) (now (arena .entry)) (now (separator .entry))) ⌝ }
+{
+    match tables::add::new_table(words, arena, separator) {
+        Numbered::Table(table) => GvdbTable { number: 0, table },
+        Numbered::Refused(why) => GvdbTable {
+            number: number_of(why),
+            table: 0,
+        },
+    }
+}
+
+// An insert's answer as numbers.
+fn inserted_of(inserted: Inserted) -> GvdbInserted
+    ensures { λ r. ⌜ r ≡ insertedAnswer inserted ⌝ }
+{
+    match inserted {
+        Inserted::New => GvdbInserted {
+            number: 0,
+            replaced: 0,
+        },
+        Inserted::Replaced(kind) => GvdbInserted {
+            number: 0,
+            replaced: byte_word(byte_of(kind)),
+        },
+        Inserted::Refused(why) => GvdbInserted {
+            number: number_of(why),
+            replaced: 0,
+        },
+    }
+}
+
+#[no_mangle]
+pub extern "C" fn gvdb_insert(
+    words: &mut [usize],
+    arena: &mut [u8],
+    table: u32,
+    key: &[u8],
+    value: &[u8],
+) -> GvdbInserted
+    ensures { λ r. ⌜ outcome r (memory (now (words .exit)) (now (arena .exit))) ≡ told insertedAnswer (insertValue (now (words .entry)) (now (arena .entry)) table (now (key .entry)) (now (value .entry))) ⌝ }
+{
+    let inserted = build::insert::insert_value(words, arena, table, key, value);
+    inserted_of(inserted)
+}
+
+#[no_mangle]
+pub extern "C" fn gvdb_insert_table(
+    words: &mut [usize],
+    arena: &mut [u8],
+    table: u32,
+    key: &[u8],
+    guest: u32,
+) -> GvdbInserted
+    ensures { λ r. ⌜ outcome r (memory (now (words .exit)) (now (arena .exit))) ≡ told insertedAnswer (insertTable (now (words .entry)) (now (arena .entry)) table (now (key .entry)) guest) ⌝ }
+{
+    let inserted = nest::insert::insert_table(words, arena, table, key, guest);
+    inserted_of(inserted)
+}
+
+#[no_mangle]
+pub extern "C" fn gvdb_item_count(words: &[usize], arena: &[u8], table: u32) -> GvdbCount
+    ensures { λ r. ⌜ r ≡ countedAnswer (itemCount (now (words .entry)) (now (arena .entry)) table) ⌝ }
+{
+    match tables::count::item_count(words, arena, table) {
+        Counted::Items(count) => GvdbCount { number: 0, count },
+        Counted::Refused(why) => GvdbCount {
+            number: number_of(why),
+            count: 0,
+        },
+    }
+}
