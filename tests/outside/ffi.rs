@@ -40,9 +40,42 @@ pub struct Check {
     pub item: usize,
 }
 
+#[repr(C)]
+pub struct Table {
+    pub number: u32,
+    pub table: u32,
+}
+
+#[repr(C)]
+pub struct Inserted {
+    pub number: u32,
+    pub replaced: u32,
+}
+
+#[repr(C)]
+pub struct Count {
+    pub number: u32,
+    pub count: u32,
+}
+
+#[repr(C)]
+pub struct Image {
+    pub number: u32,
+    pub start: u32,
+    pub end: u32,
+    pub length: u32,
+}
+
 #[link(name = "gvdb", kind = "static")]
 extern "C" {
     fn gvdb_open(file: *const u8, size: usize, start: u32, end: u32) -> Opened;
+    fn gvdb_memory_words() -> usize;
+    fn gvdb_fresh(words: *mut usize, count: usize, arena: *const u8, room: usize) -> u32;
+    fn gvdb_new_table(words: *mut usize, count: usize, arena: *const u8, room: usize, separator: *const u8, length: usize) -> Table;
+    fn gvdb_insert(words: *mut usize, count: usize, arena: *mut u8, room: usize, table: u32, key: *const u8, length: usize, value: *const u8, size: usize) -> Inserted;
+    fn gvdb_insert_table(words: *mut usize, count: usize, arena: *mut u8, room: usize, table: u32, key: *const u8, length: usize, guest: u32) -> Inserted;
+    fn gvdb_item_count(words: *const usize, count: usize, arena: *const u8, room: usize, table: u32) -> Count;
+    fn gvdb_write(words: *const usize, count: usize, arena: *const u8, room: usize, table: u32, image: *mut u8, size: usize) -> Image;
     fn gvdb_check(file: *const u8, size: usize, start: u32, end: u32) -> Check;
     fn gvdb_get(file: *const u8, size: usize, start: u32, end: u32, key: *const u8, length: usize) -> Place;
     fn gvdb_get_table(file: *const u8, size: usize, start: u32, end: u32, key: *const u8, length: usize) -> Place;
@@ -72,4 +105,43 @@ pub fn next_value(file: &[u8], start: u32, end: u32, position: usize) -> Value {
 
 pub fn check(file: &[u8], start: u32, end: u32) -> Check {
     unsafe { gvdb_check(file.as_ptr(), file.len(), start, end) }
+}
+
+/// A builder over memory of its own.
+#[derive(Clone, PartialEq, Eq)]
+pub struct Builder {
+    pub words: Vec<usize>,
+    pub arena: Vec<u8>,
+}
+
+impl Builder {
+    /// A fresh start on memory that held something else.
+    pub fn fresh(room: usize) -> Builder {
+        let mut builder = Builder { words: vec![0x5A5A_5A5A_5A5A; unsafe { gvdb_memory_words() }], arena: vec![0xC3; room] };
+        let number = unsafe { gvdb_fresh(builder.words.as_mut_ptr(), builder.words.len(), builder.arena.as_ptr(), room) };
+        assert_eq!(number, 0);
+        builder
+    }
+
+    pub fn new_table(&mut self, separator: &[u8]) -> Table {
+        unsafe { gvdb_new_table(self.words.as_mut_ptr(), self.words.len(), self.arena.as_ptr(), self.arena.len(), separator.as_ptr(), separator.len()) }
+    }
+
+    pub fn insert(&mut self, table: u32, key: &[u8], value: &[u8]) -> Inserted {
+        let (words, arena) = (&mut self.words, &mut self.arena);
+        unsafe { gvdb_insert(words.as_mut_ptr(), words.len(), arena.as_mut_ptr(), arena.len(), table, key.as_ptr(), key.len(), value.as_ptr(), value.len()) }
+    }
+
+    pub fn insert_table(&mut self, table: u32, key: &[u8], guest: u32) -> Inserted {
+        let (words, arena) = (&mut self.words, &mut self.arena);
+        unsafe { gvdb_insert_table(words.as_mut_ptr(), words.len(), arena.as_mut_ptr(), arena.len(), table, key.as_ptr(), key.len(), guest) }
+    }
+
+    pub fn item_count(&self, table: u32) -> Count {
+        unsafe { gvdb_item_count(self.words.as_ptr(), self.words.len(), self.arena.as_ptr(), self.arena.len(), table) }
+    }
+
+    pub fn write(&self, table: u32, image: &mut [u8]) -> Image {
+        unsafe { gvdb_write(self.words.as_ptr(), self.words.len(), self.arena.as_ptr(), self.arena.len(), table, image.as_mut_ptr(), image.len()) }
+    }
 }

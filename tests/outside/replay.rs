@@ -4,7 +4,7 @@
 
 mod ffi;
 
-use ffi::{check, get, get_table, next_key, next_value, open};
+use ffi::{check, Builder, get, get_table, next_key, next_value, open};
 use std::collections::BTreeMap;
 use std::io::Write;
 use std::process::ExitCode;
@@ -24,6 +24,11 @@ fn number(kind: &str) -> Option<u32> {
         "loop" => 11,
         "notfound" => 12,
         "kindunknown" | "kindother" => 13,
+        "notcontainer" => 21,
+        "unknown" | "placed" => 24,
+        "self" => 25,
+        "separator" => 28,
+        "emptykey" => 30,
         _ => return None,
     })
 }
@@ -68,8 +73,12 @@ fn key_at(file: &[u8], start: u32, end: u32, position: usize) -> Result<Vec<u8>,
     Ok(listed)
 }
 
+/// Room that no list uses up.
+const ROOM: usize = 1 << 22;
+
 #[derive(Default)]
 struct State {
+    builder: Option<Builder>,
     written: Vec<u8>,
     loaded: Vec<u8>,
     file: Vec<u8>,
@@ -107,7 +116,11 @@ impl State {
         let rest: Vec<&str> = words.collect();
         match name {
             "reset" => *self = State::default(),
-            "write" => self.written = said.strip_prefix("ok ").map(unhex).unwrap_or_default(),
+            "new" | "insert" | "inserttable" => return Some(self.build(name, &rest)),
+            "write" => {
+                self.written = said.strip_prefix("ok ").map(unhex).unwrap_or_default();
+                return Some(self.write(rest[0].parse().expect("a table"), said));
+            }
             "file" => self.load(unhex(rest[0])),
             "image" => self.load(self.written.clone()),
             "damage" => self.damage(&rest.join(" ")),
@@ -115,6 +128,68 @@ impl State {
             _ => {}
         }
         None
+    }
+
+    fn builder(&mut self) -> &mut Builder {
+        self.builder.get_or_insert_with(|| Builder::fresh(ROOM))
+    }
+
+    /// A builder call; a refusal is held to leave the memory as it was.
+    fn build(&mut self, name: &str, rest: &[&str]) -> String {
+        let builder = self.builder();
+        let before = builder.clone();
+        let number = match name {
+            "new" => {
+                let separator = if rest[0] == "none" { Vec::new() } else { unhex(rest[0]) };
+                let made = builder.new_table(&separator);
+                if made.number == 0 {
+                    return format!("ok {}", made.table);
+                }
+                made.number
+            }
+            _ => {
+                let table = rest[0].parse().expect("a table");
+                let inserted = match name {
+                    "insert" => builder.insert(table, &unhex(rest[1]), &unhex(rest[2])),
+                    _ => builder.insert_table(table, &unhex(rest[1]), rest[2].parse().expect("a guest")),
+                };
+                if inserted.number == 0 {
+                    let counted = builder.item_count(table);
+                    assert_eq!(counted.number, 0);
+                    assert!(matches!(inserted.replaced, 0 | 118 | 72 | 76));
+                    return format!("ok {}", counted.count);
+                }
+                inserted.number
+            }
+        };
+        assert!(*builder == before, "a refusal changed the builder");
+        format!("err {number}")
+    }
+
+    /// A write into a buffer with room to spare, one that just fits and one a byte too short; compared from byte 24, where gvdb-rs has its header.
+    fn write(&mut self, table: u32, said: &str) -> String {
+        let builder = self.builder();
+        let before = builder.clone();
+        let mut image = vec![GUARD; ROOM];
+        let answer = builder.write(table, &mut image);
+        assert!(*builder == before, "a write changed the builder");
+        if answer.number != 0 {
+            assert!(image.iter().all(|b| *b == GUARD), "a refusal wrote");
+            return format!("err {}", answer.number);
+        }
+        let length = answer.length as usize;
+        assert!(image[length..].iter().all(|b| *b == GUARD), "bytes past the image changed");
+        assert!(image[..24].iter().all(|b| *b == 0) && answer.start == 24);
+        let mut exact = vec![GUARD; length];
+        assert_eq!(builder.write(table, &mut exact).number, 0);
+        assert!(exact[..] == image[..length]);
+        let mut short = vec![GUARD; length - 1];
+        assert_eq!(builder.write(table, &mut short).number, 31);
+        assert!(short.iter().all(|b| *b == GUARD), "31 wrote");
+        assert_eq!(check(&image[..length], answer.start, answer.end).number, 0, "the image is not sound");
+        let theirs = said.strip_prefix("ok ").map(unhex).unwrap_or_default();
+        let head = &theirs[..24.min(theirs.len())];
+        format!("ok {}", hex(&[head, &image[24..length]].concat()))
     }
 
     fn read(&self, name: &str, rest: &[&str]) -> String {

@@ -1,13 +1,12 @@
 -- The numbers of the check's answers: 0 just for a sound table, 40 just where a rule is broken, with the rule and the item; any other is
 -- that of opening. Assumes nothing.
 use Prim.Native.Nat.{ℕ}
-use mathlib.Core.Path.{_≡_, refl, sym, ap, _∙_}
+use mathlib.Core.Path.{_≡_, ap}
 use mathlib.Core.List.{List}
 use Rattle.layout.specs.declared.refusal.Refusal.{Refusal}
 use Rattle.layout.specs.declared.table.Opened.{Opened}
 use Rattle.layout.specs.Refusal.{number}
 use Rattle.layout.specs.Table.{openTable}
-use Rattle.audit.specs.declared.check.Checked.{Checked}
 use Rattle.audit.specs.Rules.{checkTable}
 use Rattle.audit.specs.Answer.{checkedNumber, checkedRule, checkedItem}
 use Rattle.audit.specs.Sound.{SoundTable}

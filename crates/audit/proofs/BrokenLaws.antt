@@ -1,7 +1,7 @@
 -- What is answered with 40 names the first item that does not keep every rule, and its first broken rule; what is refused is what opening
 -- refuses. Assumes nothing.
-use Prim.Native.Nat.{ℕ, zero, suc, _+_, _≤_, _<_}
-use mathlib.Core.Path.{_≡_, refl, sym, ap, _∙_}
+use Prim.Native.Nat.{ℕ, zero, suc, _+_}
+use mathlib.Core.Path.{_≡_, refl}
 use mathlib.Core.Logic.{_↔_}
 use mathlib.Core.List.{List}
 use native.Mathlib.Omega.{arith}
@@ -12,9 +12,9 @@ use Rattle.layout.specs.declared.table.Table.{Table}
 use Rattle.layout.specs.Table.{openTable}
 use Rattle.audit.specs.declared.check.Checked.{Checked}
 use Rattle.audit.specs.Rules.{brokenRule, firstBroken, checkIn, checkOpened, checkTable}
-use Rattle.audit.specs.Broken.{Keeps, Breaks, BrokenAt, NamesTheFirst}
+use Rattle.audit.specs.Broken.{Breaks, BrokenAt, NamesTheFirst}
 use Rattle.audit.proofs.KeepLaws.{breaks-none-keeps, keeps-breaks-none, breaks-number, broken-breaks}
-use Rattle.audit.proofs.FirstLaws.{First, broken-first, first-broken}
+use Rattle.audit.proofs.FirstLaws.{broken-first, first-broken}
 
 module _ (rule : ℕ → ℕ) (file : List ℕ) (start end : ℕ) where
   broken-at : {broken item : ℕ} (o : Opened) → openTable file start end ≡ o → checkOpened rule file o ≡ Checked.Broken broken item → BrokenAt rule file start end broken item

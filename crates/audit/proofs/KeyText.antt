@@ -1,6 +1,6 @@
 -- A joined key is UTF-8, since its fragments are: so lookup of it never answers 8. Assumes nothing.
 use Prim.Native.Nat.{ℕ, zero, suc}
-use mathlib.Core.Path.{_≡_, refl}
+use mathlib.Core.Path.{_≡_}
 use mathlib.Core.List.{List}
 use mathlib.Core.Bool.{true}
 use native.Mathlib.Omega.{arith}
@@ -9,13 +9,12 @@ use Rattle.text.specs.Utf8.{isUtf8}
 use Rattle.text.proofs.Utf8Parts.{utf8-append}
 use Rattle.layout.specs.declared.refusal.Refusal.{Refusal}
 use Rattle.layout.specs.declared.table.Table.{Table}
-use Rattle.layout.specs.declared.item.Item.{Item}
 use Rattle.layout.specs.Item.{itemAt}
 use Rattle.read.specs.declared.chain.Step.{Step}
 use Rattle.read.specs.Chain.{fragmentOf, climbFrom, Joined, append, joinStep, keyOf}
 use Rattle.read.specs.Find.{findItem}
 use Rattle.read.proofs.ChainLaws.{climb-or}
-use Rattle.audit.specs.Own.{bytesOf}
+use Rattle.own.specs.Key.{bytesOf}
 use Rattle.audit.specs.Rules.{isJoined, soughtAt, indexOf}
 
 unfoldable KeyText : Joined → Type 0

@@ -1,12 +1,6 @@
 pub mod MarksLaws
-pub mod BackLaws
-pub mod OwnLaws
-pub mod PartLaws
-pub mod PlaceLaws
-pub mod PassLaws
 pub mod KeyText
 pub mod RuleLaws
-pub mod SameLaws
 pub mod KeepLaws
 pub mod ChildLaws
 pub mod SurveyLaws

@@ -1,16 +1,16 @@
 -- The tests of the rules, from what the calls answer. Assumes nothing.
-use Prim.Native.Nat.{ℕ, suc, _+_, _*_, _≤_, _<_, _-_, _/_, _%_}
-use mathlib.Core.Path.{_≡_, refl, sym, ap, _∙_, subst}
+use Prim.Native.Nat.{ℕ, suc, _+_, _*_, _≤_, _<_, _-_, _%_}
+use mathlib.Core.Path.{_≡_, refl, sym, ap, _∙_}
 use mathlib.Core.List.{List}
 use mathlib.Core.Bool.{Bool, true, false}
 use native.Mathlib.Omega.{arith}
 use native.Mathlib.Nat.{sub-zero}
 use lib.ListN.{length}
 use lib.Dec.{eqb}
-use borrow.Author.Tests.{eq-eqb, ne-eqb, ltb-true}
+use borrow.Author.Tests.{eq-eqb, ne-eqb}
 use Rattle.words.specs.Choice.{pick}
 use Rattle.words.specs.Below.{allBelow}
-use Rattle.words.proofs.ChoiceLaws.{pick-with, both}
+use Rattle.words.proofs.ChoiceLaws.{both}
 use Rattle.layout.specs.declared.refusal.Refusal.{Refusal}
 use Rattle.layout.specs.declared.pointer.Pointed.{Pointed}
 use Rattle.layout.specs.declared.table.Table.{Table}
@@ -23,10 +23,11 @@ use Rattle.read.specs.declared.chain.Step.{Step}
 use Rattle.read.specs.declared.lookup.Found.{Found}
 use Rattle.read.specs.Chain.{Joined, keyOf, parentOf}
 use Rattle.read.specs.Find.{findItem}
-use Rattle.audit.specs.declared.back.Own.{Own}
+use Rattle.own.specs.declared.tally.Own.{Own}
 use Rattle.audit.specs.declared.check.Checked.{Checked}
-use Rattle.audit.specs.Own.{bytesOf, ownKey, keyRule}
-use Rattle.audit.specs.Rules.{isJoined, isAt, soughtAt, keyLists, keyFinds, isInside, listOpens, valueOpens, childCount, among, childGood, childrenGood, listsIt, parentKeeps, parentGood, brokenRule, firstBroken, checkIn}
+use Rattle.own.specs.Key.{bytesOf, ownKey}
+use Rattle.audit.specs.Survey.{keyRule}
+use Rattle.audit.specs.Rules.{isJoined, isAt, keyLists, keyFinds, isInside, listOpens, valueOpens, childCount, among, childGood, childrenGood, listsIt, parentKeeps, parentGood, brokenRule, firstBroken, checkIn}
 use Rattle.audit.proofs.KeyText.{sought-own}
 
 -- ---- rules 1 and 2, with the item's own key at hand
@@ -105,18 +106,6 @@ module _ (file : List ℕ) (item : Item) where
   list-room is opens =
       let inside = inside-fits (length file) (item .from) (item .to) 4 (both _ _ (sym (opens-list is) ∙ opens) .0) in
       (inside .0, omega arith)
-
--- ---- a parent that is an item
-
-unfoldable UpBelow : ℕ → Step → Type 0
-UpBelow count Step.Root = Unit
-UpBelow count (Step.Up parent) = parent < count
-UpBelow count (Step.Refused why) = Unit
-
-pub parent-below : (count parent : ℕ) {p : ℕ} → parentOf count parent ≡ Step.Up p → p < count
-unfolding parentOf UpBelow
-parent-below count parent e =
-    subst (UpBelow count) e (pick-with (UpBelow count) _ _ _ (λ _. tt) (λ _. pick-with (UpBelow count) _ _ _ (λ h. ltb-true _ _ h) (λ _. tt)))
 
 -- ---- the first rule that is broken, rule by rule
 

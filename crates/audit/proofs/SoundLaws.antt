@@ -1,6 +1,6 @@
 -- The check passes exactly the sound tables: a table that lies in the file and whose items keep every rule is sound, and the other way
 -- round. Assumes nothing.
-use Prim.Native.Nat.{ℕ, _+_, _≤_, _<_}
+use Prim.Native.Nat.{ℕ, _<_}
 use mathlib.Core.Path.{_≡_, refl, sym, ap, _∙_, subst}
 use mathlib.Core.Logic.{inl, inr}
 use mathlib.Core.List.{List}
@@ -18,7 +18,7 @@ use Rattle.layout.proofs.OpenLaws.{opened-in-file}
 use Rattle.read.specs.declared.chain.Step.{Step}
 use Rattle.read.specs.Chain.{parentOf}
 use Rattle.audit.specs.declared.check.Checked.{Checked}
-use Rattle.audit.specs.Rules.{keyLists, keyFinds, childAt, childCount, among, childGood, childrenGood, listsIt, parentKeeps, parentGood, brokenRule, firstBroken, checkIn, checkOpened, checkTable}
+use Rattle.audit.specs.Rules.{keyLists, keyFinds, childAt, childCount, among, childrenGood, listsIt, parentKeeps, parentGood, brokenRule, firstBroken, checkIn, checkOpened, checkTable}
 use Rattle.audit.specs.Sound.{InList, SoundIn, SoundTable, PassesExactlyTheSound}
 use Rattle.audit.specs.Broken.{Keeps}
 use Rattle.audit.proofs.KeepLaws.{breaks-none-keeps, keeps-breaks-none}

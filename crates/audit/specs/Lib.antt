@@ -1,7 +1,4 @@
 pub mod Marks
-pub mod Back
-pub mod Own
-pub mod Place
 pub mod Rules
 pub mod Survey
 pub mod Answer

@@ -1,4 +1,5 @@
--- What the marks say: a child is marked exactly when the container that it names lists it. Assumes nothing.
+-- What the functions of the check say: rules 1 and 2 together, and the marks, by which a child is marked exactly when the container that
+-- it names lists it. Assumes nothing.
 use Prim.Native.Nat.{ℕ, _*_, _≤_, _<_}
 use mathlib.Core.Path.{_≡_}
 use mathlib.Core.List.{List}
@@ -10,7 +11,11 @@ use Rattle.layout.specs.declared.table.Table.{Table}
 use Rattle.layout.specs.declared.item.Item.{Item}
 use Rattle.layout.specs.Item.{itemAt}
 use Rattle.audit.specs.Marks.{marked, withMark}
-use Rattle.audit.specs.Rules.{valueOpens, listsIt, childrenGood}
+use Rattle.audit.specs.Rules.{keyLists, keyFinds, valueOpens, childrenGood, listsIt}
+
+-- which of rules 1 and 2 an item breaks first; 0 for neither
+unfoldable pub keyRule : (ℕ → ℕ) → List ℕ → Table → ℕ → ℕ
+keyRule rule file t index = pick (keyLists file t index) (pick (keyFinds rule file t index) 0 2) 1
 
 -- an item that names the container and is not marked yet
 unfoldable pub freshChild : List ℕ → Table → ℕ → List ℕ → ℕ → Bool

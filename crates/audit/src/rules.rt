@@ -1,13 +1,13 @@
 // The rules of an item that are tested by themselves: 1 and 2 of its key, 4 of its value, and whether a container lists an index.
-use crate::back::Own;
-use crate::back::own_key;
-use crate::own::find_own;
 use layout::item::Item;
 use layout::pointer::Pointed;
 use layout::pointer::open_pointer;
 use layout::table::Opened;
 use layout::table::Table;
 use layout::table::open_table;
+use own::search::find_own;
+use own::tally::Own;
+use own::tally::own_key;
 use read::lookup::Found;
 use words::align::Alignment;
 use words::field::word_at;
@@ -18,8 +18,8 @@ ghost use lib.ListN.{length};
 ghost use Rattle.words.specs.Hash.{plain};
 ghost use Rattle.layout.specs.Table.{InFile, openTable};
 ghost use Rattle.layout.specs.Pointer.{openPointer};
-ghost use Rattle.audit.specs.Own.{keyRule};
 ghost use Rattle.audit.specs.Rules.{isInside, isTable, listOpens, valueOpens, among, childCount, listsIt};
+ghost use Rattle.audit.specs.Survey.{keyRule};
 
 // Rules 1 and 2: the number of the one that the item's key breaks, or 0.
 pub fn key_rule(file: &[u8], table: Table, index: usize) -> u32

@@ -1,2 +1,3 @@
 pub mod WholeLaws
+pub mod WholeFacts
 pub mod Unique

@@ -1,5 +1,5 @@
 -- `audit::check::broken_rule` meets its contract: each return is a rule of the cascade; the survey stopped where rule 5 is broken first. Assumes nothing.
-use mathlib.Core.Path.{_≡_, refl, sym, ap, _∙_, subst}
+use mathlib.Core.Path.{sym, _∙_}
 use borrow.Author.Tests.{not-true, not-false}
 use Rattle.words.specs.Hash.{plain}
 use Rattle.audit.proofs.RuleLaws.{breaks-key, breaks-3, breaks-4, breaks-5, breaks-6, breaks-none}

@@ -1,5 +1,5 @@
 -- `audit::check::check_table` meets its contract: each arm is a case of the definition. Assumes nothing.
-use mathlib.Core.Path.{_≡_, refl, sym, ap, _∙_, subst}
+use mathlib.Core.Path.{sym, ap, _∙_}
 use Rattle.layout.proofs.OpenLaws.{opened-in-file}
 use Rattle.words.specs.Hash.{plain}
 use Rattle.audit.specs.Rules.{checkTable, checkOpened}

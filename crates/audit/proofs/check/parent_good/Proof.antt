@@ -1,7 +1,8 @@
 -- `audit::check::parent_good` meets its contract: where the parent was walked, the mark says whether it lists the item. Assumes nothing.
-use mathlib.Core.Path.{_≡_, refl, sym, ap, _∙_, subst}
+use mathlib.Core.Path.{sym, ap, _∙_}
 use Rattle.audit.specs.Rules.{parentKeeps, listsIt}
-use Rattle.audit.proofs.RuleLaws.{parent-keeps, parent-below}
+use Rattle.audit.proofs.RuleLaws.{parent-keeps}
+use Rattle.own.proofs.PlaceLaws.{parent-below}
 use Rattle.audit.proofs.SurveyLaws.{six-marked}
 use borrow.Author.Needs.{needs}
 use Rattle.audit.proofs.check.parent_good.Statement.{statement}

@@ -1,5 +1,4 @@
 -- `audit::rules::child_count` meets its contract: it is the definition. Assumes nothing.
-use mathlib.Core.Path.{_≡_, refl, sym, ap, _∙_, subst}
 use native.Mathlib.Omega.{arith}
 use Rattle.audit.specs.Rules.{childCount}
 use borrow.Author.Needs.{needs}

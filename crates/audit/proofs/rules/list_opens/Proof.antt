@@ -1,5 +1,5 @@
 -- `audit::rules::list_opens` meets its contract: each arm is a case of the definition. Assumes nothing.
-use mathlib.Core.Path.{_≡_, refl, sym, ap, _∙_, subst}
+use mathlib.Core.Path.{sym, _∙_}
 use Rattle.layout.proofs.OpenLaws.{pointer-inside}
 use Rattle.audit.proofs.RuleLaws.{list-refused, list-inside}
 use borrow.Author.Needs.{needs}

@@ -1,5 +1,5 @@
 -- `audit::rules::lists_it` meets its contract: each return is a case of the definition. Assumes nothing.
-use mathlib.Core.Path.{_≡_, refl, sym, ap, _∙_, subst}
+use mathlib.Core.Path.{sym, _∙_}
 use native.Mathlib.Omega.{arith}
 use borrow.Author.Tests.{not-true, not-false}
 use Rattle.audit.proofs.RuleLaws.{lists-other, lists-shut, lists-open, list-room}

@@ -1,5 +1,5 @@
 -- `audit::rules::nested_opens` meets its contract: each arm is a case of the definition. Assumes nothing.
-use mathlib.Core.Path.{_≡_, refl, sym, ap, _∙_, subst}
+use mathlib.Core.Path.{sym, ap, _∙_}
 use Rattle.audit.specs.Rules.{isTable}
 use borrow.Author.Needs.{needs}
 use Rattle.audit.proofs.rules.nested_opens.Statement.{statement}

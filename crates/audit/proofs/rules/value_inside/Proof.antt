@@ -1,5 +1,5 @@
 -- `audit::rules::value_inside` meets its contract: each arm is a case of the definition. Assumes nothing.
-use mathlib.Core.Path.{_≡_, refl, sym, ap, _∙_, subst}
+use mathlib.Core.Path.{sym, _∙_}
 use Rattle.audit.specs.Rules.{isInside}
 use borrow.Author.Needs.{needs}
 use Rattle.audit.proofs.rules.value_inside.Statement.{statement}

@@ -1,5 +1,5 @@
 -- `audit::survey::mark_child` meets its contract: each return is a case of the definition. Assumes nothing.
-use mathlib.Core.Path.{_≡_, refl, sym, ap, _∙_, subst}
+use mathlib.Core.Path.{refl, sym, _∙_}
 use Rattle.words.specs.Choice.{pick}
 use Rattle.audit.specs.Survey.{afterChild}
 use Rattle.audit.proofs.ChildLaws.{fresh-outside, fresh-strange, fresh-own}

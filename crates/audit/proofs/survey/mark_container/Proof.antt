@@ -1,5 +1,5 @@
 -- `audit::survey::mark_container` meets its contract: an item that is no container, or breaks rule 4, lists nothing. Assumes nothing.
-use mathlib.Core.Path.{_≡_, refl, sym, ap, _∙_, subst}
+use mathlib.Core.Path.{sym, _∙_}
 use native.Mathlib.Omega.{arith}
 use borrow.Author.Tests.{not-true, not-false}
 use Rattle.audit.proofs.RuleLaws.{children-other, children-all, lists-other, lists-shut, lists-open, list-room}

@@ -1,0 +1,43 @@
+// Writing an image.
+use layout::refusal::number_of;
+use write::Written;
+ghost use mathlib.Core.Path.{_≡_};
+ghost use lib.ListN.{length};
+ghost use Rattle.write.specs.Write.{writeAnswer, imageAfter};
+ghost use Rattle.gvdb.specs.Writing.{writtenAnswer};
+
+// The root pointer, and the image's length.
+#[repr(C)]
+pub struct GvdbImage {
+    pub number: u32,
+    pub start: u32,
+    pub end: u32,
+    pub length: u32,
+}
+
+// The image of a table, laid into the front of `image`. The builder stays as it was; a refusal writes nothing.
+#[no_mangle]
+pub extern "C" fn gvdb_write(
+    words: &[usize],
+    arena: &[u8],
+    table: u32,
+    image: &mut [u8],
+) -> GvdbImage
+    ensures said { λ r. ⌜ r ≡ writtenAnswer (writeAnswer (now (words .entry)) (now (arena .entry)) table (length (now (image .entry)))) ⌝ }
+    ensures wrote { λ _. ⌜ now (image .exit) ≡ imageAfter (now (words .entry)) (now (arena .entry)) table (now (image .entry)) ⌝ }
+{
+    match write::write::write(words, arena, table, image) {
+        Written::Image { start, end, length } => GvdbImage {
+            number: 0,
+            start,
+            end,
+            length,
+        },
+        Written::Refused(why) => GvdbImage {
+            number: number_of(why),
+            start: 0,
+            end: 0,
+            length: 0,
+        },
+    }
+}

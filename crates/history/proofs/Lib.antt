@@ -1,0 +1,11 @@
+pub mod Index
+pub mod Made
+pub mod Replaced
+pub mod Low
+pub mod Right
+pub mod Way
+pub mod Grow
+pub mod Calls
+pub mod Value
+pub mod Nest
+pub mod History

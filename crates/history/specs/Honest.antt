@@ -1,0 +1,15 @@
+-- Memory that only the builder wrote, and that holds what is right. Assumes nothing: these are definitions.
+use Prim.Native.Nat.{ℕ}
+use mathlib.Core.List.{List}
+use Rattle.memory.specs.Memory.{tableTotal, itemTotal}
+use Rattle.history.specs.Items.{Table, itemOf, tableOf}
+use Rattle.history.specs.Tidy.{Tidy}
+use Rattle.history.specs.Right.{Right}
+
+-- with the tables g in the place of those that the words say
+pub record Good (g : ℕ → Table) (ws ar : List ℕ) : Type 0 where
+  pub tidy : Tidy ws ar
+  pub right : Right (tableTotal ws) (itemTotal ws) g (itemOf ws ar)
+
+abbrev pub Honest : List ℕ → List ℕ → Type 0
+Honest ws ar = Good (tableOf ws) ws ar

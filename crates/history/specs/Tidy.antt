@@ -1,0 +1,27 @@
+-- Memory that only the builder wrote: every key and value lies within the room used, the index of chains is right, and the links are
+-- empty. Assumes nothing: these are definitions.
+use Prim.Native.Nat.{ℕ, zero, suc, _+_, _%_, _≤_, _<_}
+use mathlib.Core.Path.{_≡_}
+use mathlib.Core.List.{List}
+use lib.ListN.{length}
+use lib.Dec.{eqb}
+use Rattle.words.specs.Choice.{pick}
+use Rattle.words.specs.Hash.{hashOf}
+use Rattle.memory.specs.Memory.{word, buckets, links, headAt, linkAt, itemTotal, roomUsed, itemHash, itemOlder, keyStart, keySize, valueStart, valueSize, keyOf, emptyMark, Sound}
+
+-- the last number below m that is in bucket b, or the empty mark
+unfoldable pub lastIn : (ℕ → ℕ) → ℕ → ℕ → ℕ
+lastIn bucket b zero = emptyMark
+lastIn bucket b (suc m) = pick (eqb (bucket m) b) m (lastIn bucket b m)
+
+abbrev pub bucketOf : List ℕ → ℕ → ℕ
+bucketOf ws i = itemHash ws i % buckets
+
+pub record Tidy (ws ar : List ℕ) : Type 0 where
+  pub sound-memory : Sound ws (length ar)
+  pub keys : (i : ℕ) → i < itemTotal ws → keyStart ws i + keySize ws i ≤ roomUsed ws
+  pub values : (i : ℕ) → i < itemTotal ws → valueStart ws i + valueSize ws i ≤ roomUsed ws
+  pub hashes : (i : ℕ) → i < itemTotal ws → itemHash ws i ≡ hashOf (keyOf ws ar i)
+  pub heads : (b : ℕ) → b < buckets → word ws (headAt b) ≡ lastIn (bucketOf ws) b (itemTotal ws)
+  pub olders : (i : ℕ) → i < itemTotal ws → itemOlder ws i ≡ lastIn (bucketOf ws) (bucketOf ws i) i
+  pub clear : (j : ℕ) → j < links → word ws (linkAt j) ≡ emptyMark

@@ -1,0 +1,3 @@
+pub mod Tally
+pub mod Key
+pub mod Place

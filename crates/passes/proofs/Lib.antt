@@ -1,0 +1,4 @@
+pub mod ChildLaws
+pub mod LaidLaws
+pub mod Passes
+pub mod Worked

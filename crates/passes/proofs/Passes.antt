@@ -1,0 +1,70 @@
+-- Whatever is laid, passes the check: one table, all that is nested in it, a whole image. Assumes nothing.
+use mathlib.Core.Path.{_≡_, refl}
+use mathlib.Core.List.{List}
+use Prim.Native.Nat.{ℕ, zero, suc, _%_, _≤_}
+use native.Mathlib.Omega.{arith}
+use lib.ListN.{length, take}
+use lib.Seq.{take-length}
+use Rattle.words.specs.Store.{putAt, zeros}
+use Rattle.words.proofs.StoreLaws.{length-zeros, length-put, part-put}
+use Rattle.layout.specs.Table.{longestFile}
+use Rattle.audit.specs.Sound.{SoundTable}
+use Rattle.audit.proofs.SoundLaws.{passes-exactly-the-sound}
+use Rattle.model.specs.Table.{State}
+use Rattle.image.specs.Image.{headerSize, depth, tableBytes, imageOf}
+use Rattle.image.specs.WellFormed.{Writable}
+use Rattle.image.specs.Laid.{Holds}
+use Rattle.image.proofs.LaidLaws.{holds-put, holds-next}
+use Rattle.readback.specs.Back.{endOf, tableOpened, valuePlace}
+use Rattle.readback.proofs.ReadBack.{opens-back, table-looked, nested-back}
+use Rattle.passes.specs.Passing.{AllPass, LaidTablePasses, LaidTablesAllPass, ImagePasses}
+use Rattle.passes.proofs.LaidLaws.{laid-sound}
+
+-- a laid table is sound
+pub table-sound : (rule : ℕ → ℕ) (file : List ℕ) (state : State) (d t at : ℕ) → Holds file at (tableBytes rule state (suc d) t at) → length file ≤ longestFile → at % 4 ≡ 0
+    → Writable state (suc d) t → SoundTable rule file at (endOf state t at)
+unfolding SoundTable
+table-sound rule file state d t at held short even good =
+    (tableOpened state t at, opens-back rule file state d t at held short even good, laid-sound rule file state d t at held short even good)
+
+-- so the check passes it
+pub check-passes : LaidTablePasses
+check-passes rule file state d t at held short even good =
+    passes-exactly-the-sound rule file at (endOf state t at) .1 (table-sound rule file state d t at held short even good)
+
+-- the table and all that is nested in it, to the last level
+pub all-pass : LaidTablesAllPass
+unfolding AllPass Writable
+all-pass rule file state zero t at held short even good = good
+all-pass rule file state (suc d) t at held short even good = (
+  check-passes rule file state d t at held short even good,
+  λ i u l is. let n = nested-back rule file state d t at held short even good i u l is in (
+    valuePlace rule state d t at i,
+    table-looked rule file state d t at held short even good i u l is,
+    all-pass rule file state d u (valuePlace rule state d t at i) (n .held) short (n .even) (n .writable),
+  ),
+)
+
+module _ (rule : ℕ → ℕ) (state : State) (root : ℕ) (good : Writable state depth root) where
+  -- any file that begins with the image, whatever stands behind it
+  pub front-passes : (file : List ℕ) → length file ≤ longestFile → Holds file 0 (imageOf rule state root) → AllPass rule file state depth root headerSize
+  unfolding imageOf
+  front-passes file short held =
+      all-pass rule file state depth root headerSize
+      (holds-next file 0 (zeros headerSize) (tableBytes rule state depth root headerSize) headerSize (omega (arith, length-zeros headerSize)) held) short refl good
+
+  -- the image by itself
+  pub alone-passes : length (imageOf rule state root) ≤ longestFile → AllPass rule (imageOf rule state root) state depth root headerSize
+  unfolding Holds
+  alone-passes short = front-passes (imageOf rule state root) short (take-length (imageOf rule state root))
+
+  -- the front of a buffer of any length, as long as the image
+  pub taken-passes : (buffer : List ℕ) → length (imageOf rule state root) ≤ length buffer → length (imageOf rule state root) ≤ longestFile
+      → AllPass rule (take (length (imageOf rule state root)) (putAt buffer 0 (imageOf rule state root))) state depth root headerSize
+  taken-passes buffer fits short = rw (part-put buffer 0 (imageOf rule state root) (omega arith)) (alone-passes short)
+
+-- a buffer that the image was put to the front of
+pub image-passes : ImagePasses
+image-passes rule state root good buffer short fits =
+    front-passes rule state root good (putAt buffer 0 (imageOf rule state root)) (rw (length-put buffer 0 (imageOf rule state root)) short)
+    (holds-put buffer 0 (imageOf rule state root) (omega arith))

@@ -1,0 +1,38 @@
+-- The conditions of the statements can be met: an image with an item of each kind passes, and so does the table nested in it. Assumes
+-- nothing.
+use mathlib.Core.Path.{_≡_, refl}
+use mathlib.Core.List.{List, [], _∷_}
+use Prim.Native.Nat.{ℕ, _+_}
+use native.Mathlib.Omega.{arith}
+use Rattle.words.specs.Choice.{pick}
+use Rattle.words.specs.Hash.{plain}
+use Rattle.read.specs.declared.lookup.Looked.{Looked}
+use Rattle.read.specs.Lookup.{lookupTable}
+use Rattle.audit.specs.declared.check.Checked.{Checked}
+use Rattle.audit.specs.Rules.{checkTable}
+use Rattle.model.specs.Table.{times, entryAt, membersBelow, rowsOf}
+use Rattle.image.specs.Plan.{chunkSize}
+use Rattle.image.specs.Image.{imageOf}
+use Rattle.readback.specs.Sample.{sample}
+use Rattle.readback.proofs.Worked.{root-writable, size}
+use Rattle.passes.specs.Passing.{AllPass}
+use Rattle.passes.proofs.Passes.{alone-passes}
+
+-- "a/" with its child "a/b", which holds 07, and "t", a table that holds "x" with 09
+abbrev image : List ℕ
+image = imageOf plain sample 0
+
+all : AllPass plain image sample 8 0 24
+all = alone-passes plain sample 0 root-writable (omega (arith, size))
+
+-- the root table of three items, from 24 to 116
+pub root-passes : checkTable plain image 24 116 ≡ Checked.Sound
+unfolding AllPass sample rowsOf membersBelow entryAt pick chunkSize
+root-passes = all .0
+
+-- and the table of one item at the place that lookup of "t" answers
+pub nested-passes : (from : ℕ) × (lookupTable plain image 24 116 (116 ∷ []) ≡ Looked.Place from (from + 36)) × (checkTable plain image from (from + 36) ≡ Checked.Sound)
+unfolding AllPass sample rowsOf membersBelow entryAt times pick chunkSize
+nested-passes =
+    let (from, place, there) = all .1 2 1 (omega arith) refl in
+    (from, place, there .0)

@@ -1,0 +1,5 @@
+pub mod OwnLaws
+pub mod StateLaws
+pub mod TableLaws
+pub mod FillLaws
+pub mod RosterLaws

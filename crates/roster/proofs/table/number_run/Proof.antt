@@ -1,0 +1,65 @@
+-- `roster::table::number_run` meets its contract: the hashes of the run, then its numbers. Assumes nothing.
+use mathlib.Core.Path.{_≡_, sym, ap, _∙_}
+use mathlib.Core.List.{List}
+use Prim.Native.Nat.{ℕ}
+use native.Mathlib.Omega.{arith}
+use lib.ListN.{length, replicate}
+use lib.Seq.{length-take-le}
+use Rattle.words.specs.Store.{putAt}
+use Rattle.image.specs.Number.{numbered}
+use Rattle.order.specs.Chain.{starts}
+use Rattle.order.proofs.ChainLaws.{empty-fresh}
+use Rattle.roster.proofs.TableLaws.{hashes-front}
+use borrow.Author.Needs.{needs}
+use Rattle.roster.proofs.table.number_run.Statement.{statement}
+use Rattle.roster.proofs.table.number_run.Tie as tie
+
+slice-aggregate-hash-all : tie.Need-slice-aggregate-hash-all
+slice-aggregate-hash-all c = search needs
+
+hash-all-requires : tie.Need-hash-all-requires
+hash-all-requires c κs = search needs
+
+array-share-prefix-hashes : tie.Need-array-share-prefix-hashes
+array-share-prefix-hashes c = search needs
+
+slice-aggregate-number : tie.Need-slice-aggregate-number
+slice-aggregate-number c = let s = c .before .before .before .before .before .before .before .before .before in sym (length-take-le (length (s .args .run .now)) (c .before .before .hash-all .last .1 .1 .1 .0) (omega (arith, s .pre .0, c .before .before .hash-all .kept .1 .1 .1 .0)))
+
+slice-aggregate-number-2 : tie.Need-slice-aggregate-number-2
+slice-aggregate-number-2 c = search needs
+
+number-requires : tie.Need-number-requires
+number-requires c κs =
+    let s = c .before .before .before .before .before .before .before .before .before .before .before .before in
+    let call = c .before .before .before .before .before .hash-all in
+    let long = length-take-le (length (s .args .run .now)) (call .last .1 .1 .1 .0) (omega (arith, s .pre .0, call .kept .1 .1 .1 .0)) in
+    (record { few = omega (arith, long, s .pre .0); in-links = omega (arith, long, s .pre .0); in-order = omega (arith, long, s .pre); in-firsts = omega (arith, long, s .pre) }, empty-fresh 1024)
+
+same-length : tie.Need-same-length
+same-length c = search needs
+
+same-length-2 : tie.Need-same-length-2
+same-length-2 c = search needs
+
+returns : tie.Need-returns
+returns c =
+    let s = c .before .before .before .before .before .before .before .before .before .before .before .before .before .before .before .before .before .before in
+    let call = c .before .before .before .before .before .number in
+    let hashed = c .before .before .before .before .before .before .before .before .before .before .before .hash-all in
+    let front = hashes-front (s .args .words .now) (s .args .arena .now) (s .args .run .now) (replicate 1024 0) (hashed .last .1 .1 .1 .0) (omega (arith, s .pre .0)) (hashed .ensures) in
+    (call .ensures .0 ∙ ap (λ (l : List ℕ). putAt (s .args .order .now) 0 (numbered l)) front, call .ensures .1 .0 ∙ ap (λ (l : List ℕ). putAt (s .args .firsts .now) 0 (starts l)) front)
+
+pub number-run-spec : {M : Type 1} → statement M
+number-run-spec =
+    tie.close
+    (tie.spec
+    slice-aggregate-hash-all
+    hash-all-requires
+    array-share-prefix-hashes
+    slice-aggregate-number
+    slice-aggregate-number-2
+    number-requires
+    same-length
+    same-length-2
+    returns)

@@ -1,0 +1,57 @@
+-- A roster: the items of every table in the order of their numbers, flat in words.
+--   2t, 2t + 1   table t (64 of them): its first slot, and its count of items, which stand in the slots behind one another
+--   128 + s      the item in slot s (1,024 of them)
+--   1152 + i     the number of item i in its table (1,024 of them)
+--   2176 + s     the word of bucket (s - first slot) of the table that slot s is of (1,024 of them)
+-- Assumes nothing: these are definitions.
+use Prim.Native.Nat.{ℕ, _+_, _*_, _≤_, _<_}
+use mathlib.Core.Path.{_≡_}
+use mathlib.Core.List.{List}
+use lib.ListN.{length, getD}
+use Rattle.words.specs.Hash.{plain}
+use Rattle.model.specs.Table.{State, rowsOf}
+use Rattle.model.specs.Builder.{mostTables, mostItems}
+use Rattle.memory.specs.Memory.{itemTotal, itemTable}
+use Rattle.memory.specs.Meaning.{meaning}
+use Rattle.image.specs.Number.{hashesOf, bucketStart, itemOf, numberOf}
+
+abbrev pub slotsFrom : ℕ
+slotsFrom = 128
+
+abbrev pub numbersFrom : ℕ
+numbersFrom = 1152
+
+abbrev pub bucketsFrom : ℕ
+bucketsFrom = 2176
+
+abbrev pub rosterSize : ℕ
+rosterSize = 3200
+
+-- the tables that a builder's memory means
+unfoldable pub stateOf : List ℕ → List ℕ → State
+stateOf ws ar = rowsOf (meaning ws ar .items)
+
+module _ (roster : List ℕ) where
+  unfoldable pub firstSlot : ℕ → ℕ
+  firstSlot t = getD roster (2 * t) 0
+
+  unfoldable pub slotCount : ℕ → ℕ
+  slotCount t = getD roster (2 * t + 1) 0
+
+  unfoldable pub slotItem : ℕ → ℕ
+  slotItem s = getD roster (slotsFrom + s) 0
+
+  unfoldable pub itemNumber : ℕ → ℕ
+  itemNumber i = getD roster (numbersFrom + i) 0
+
+  unfoldable pub bucketWord : ℕ → ℕ
+  bucketWord s = getD roster (bucketsFrom + s) 0
+
+-- the roster says what the definitions of `image` say of every table
+pub record Rostered (ws ar roster : List ℕ) : Type 0 where
+  pub long : length roster ≡ rosterSize
+  pub counts : (t : ℕ) → t < mostTables → slotCount roster t ≡ length (stateOf ws ar t .members)
+  pub inside : (t : ℕ) → t < mostTables → firstSlot roster t + slotCount roster t ≤ mostItems
+  pub items : (t k : ℕ) → t < mostTables → k < slotCount roster t → slotItem roster (firstSlot roster t + k) ≡ itemOf plain (stateOf ws ar t) k
+  pub numbers : (i : ℕ) → i < itemTotal ws → itemNumber roster i ≡ numberOf plain (stateOf ws ar (itemTable ws i)) i
+  pub buckets : (t b : ℕ) → t < mostTables → b < slotCount roster t → bucketWord roster (firstSlot roster t + b) ≡ bucketStart (hashesOf plain (stateOf ws ar t)) b

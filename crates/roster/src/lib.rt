@@ -1,0 +1,4 @@
+// The items of every table in the order of their numbers.
+pub mod collect;
+pub mod fill;
+pub mod table;

@@ -1,0 +1,55 @@
+// The items of one table by their numbers, and the words of its buckets.
+use crate::collect::in_order;
+use memory::place::EMPTY;
+use order::items::hash_all;
+use order::items::items_at;
+use order::number::number;
+ghost use mathlib.Core.Path.{_≡_};
+ghost use Prim.Native.Nat.{_≤_};
+ghost use lib.ListN.{length};
+ghost use Rattle.words.specs.Store.{putAt};
+ghost use Rattle.model.specs.Builder.{mostItems};
+ghost use Rattle.image.specs.Number.{numbered};
+ghost use Rattle.order.specs.Key.{Known};
+ghost use Rattle.order.specs.Chain.{starts};
+ghost use Rattle.order.specs.Items.{hashesIn};
+ghost use Rattle.roster.specs.Fill.{Fit, Laid};
+
+// Numbers the items of `run`: `order` gets the place of each number, `firsts` the first number of each bucket.
+fn number_run(
+    words: &[usize],
+    arena: &[u8],
+    run: &[usize],
+    order: &mut [usize],
+    firsts: &mut [usize],
+)
+    requires { ⌜ Known (now words) (now run) × (length (now run) ≤ mostItems) ⌝ }
+    requires { ⌜ (mostItems ≤ length (now order)) × (mostItems ≤ length (now firsts)) ⌝ }
+    ensures { λ _. ⌜ now (order .exit) ≡ putAt (now (order .entry)) 0 (numbered (hashesIn (now (words .entry)) (now (arena .entry)) (now (run .entry)))) ⌝ }
+    ensures { λ _. ⌜ now (firsts .exit) ≡ putAt (now (firsts .entry)) 0 (starts (hashesIn (now (words .entry)) (now (arena .entry)) (now (run .entry)))) ⌝ }
+{
+    let n = run.len();
+    let mut hashes = [0usize; 1024];
+    let mut links = [EMPTY; 1024];
+    hash_all(words, arena, run, &mut hashes);
+    number(&hashes[..n], &mut links, order, firsts);
+}
+
+// Puts the item of each number of table t to the front of `items`, and the word of each bucket to that of `firsts`. Answers how many.
+pub fn number_table(
+    words: &[usize],
+    arena: &[u8],
+    t: usize,
+    items: &mut [usize],
+    firsts: &mut [usize],
+) -> usize
+    requires { ⌜ Fit (now words) × (mostItems ≤ length (now items)) × (mostItems ≤ length (now firsts)) ⌝ }
+    ensures { λ r. ⌜ Laid (now (words .entry)) (now (arena .entry)) t r (now (items .exit)) (now (firsts .exit)) ⌝ }
+{
+    let mut run = [0usize; 1024];
+    let mut order = [0usize; 1024];
+    let n = in_order(words, arena, t, &mut run);
+    number_run(words, arena, &run[..n], &mut order, firsts);
+    items_at(&run[..n], &order[..n], items);
+    n
+}

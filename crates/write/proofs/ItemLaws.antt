@@ -1,0 +1,231 @@
+-- An item of a memory as its slot has it, and as the table that is meant has it. Assumes nothing.
+use mathlib.Core.Path.{_≡_, refl, sym, ap, _∙_}
+use mathlib.Core.Bool.{true, false}
+use mathlib.Core.Logic.{_⊎_, inl, inr, ⊎-elim}
+use mathlib.Core.List.{List, [], _∷_, _++_, append-nil}
+use Prim.Native.Nat.{ℕ, zero, suc, _+_, _-_, _≤_, _<_}
+use native.Mathlib.Omega.{arith}
+use borrow.Author.Tests.{eq-eqb, ne-eqb}
+use lib.Dec.{eqb}
+use lib.ListN.{length, getD, take, drop, length-append, List·getD-append}
+use lib.Seq.{take-nil, getD-at, take-suc, take-all, drop-drop}
+use Rattle.words.specs.Choice.{pick}
+use Rattle.words.specs.Store.{part}
+use Rattle.words.specs.Hash.{plain, hashBy}
+use Rattle.words.proofs.ChoiceLaws.{pick-true, pick-false}
+use Rattle.layout.specs.Kind.{kindByte}
+use Rattle.model.specs.Table.{Content, Rows, kindOf, isContainer, isChild, fragmentAt, noItem}
+use Rattle.memory.specs.Memory.{itemTotal, itemTable, itemHash, keyStart, keySize, itemParent, itemKind, valueStart, valueSize, itemGuest, keyOf, valueKind, tableKind, containerKind, emptyMark}
+use Rattle.memory.specs.Meaning.{contentOf}
+use Rattle.image.specs.Number.{numberOf}
+use Rattle.image.specs.Plan.{word, wordsOf}
+use Rattle.image.specs.Image.{parentNumber, childWords}
+use Rattle.image.proofs.ChildLaws.{words-append}
+use Rattle.image.proofs.TimesLaws.{eq-or-ne, lt-or-ge}
+use Rattle.lay.specs.Sheet.{byKind}
+use Rattle.lay.proofs.KindLaws.{kind-value, kind-table, kind-container}
+use Rattle.roster.specs.Roster.{stateOf, itemNumber, Rostered}
+use Rattle.write.specs.Sheeted.{parentAt, kids, childTest, skipped, parentWord}
+use Rattle.write.proofs.StateLaws.{Right, key-is, content-is, above-is, content-past, key-length}
+use Rattle.write.proofs.SlotLaws.{child-none, child-own, child-some, skip-none, skip-own}
+use Rattle.write.proofs.KinLaws.{parent-own, parent-past, kids-more, kids-miss}
+use Rattle.write.proofs.RosterLaws.{by-child}
+
+-- ---- what an item holds, by its kind
+
+module _ (ws ar : List ℕ) (i : ℕ) where
+  pub content-value : itemKind ws i ≡ valueKind → contentOf ws ar i ≡ Content.bytes (part ar (valueStart ws i) (valueSize ws i))
+  unfolding contentOf pick
+  content-value e = rw (eq-eqb _ _ e)
+
+  pub content-table : itemKind ws i ≡ tableKind → contentOf ws ar i ≡ Content.nested (itemGuest ws i)
+  unfolding contentOf pick
+  content-table e = rw (ne-eqb (itemKind ws i) 118 (λ f. omega arith), eq-eqb (itemKind ws i) 72 e)
+
+  pub content-container : itemKind ws i ≡ containerKind → contentOf ws ar i ≡ Content.container
+  unfolding contentOf pick
+  content-container e = rw (ne-eqb (itemKind ws i) 118 (λ f. omega arith), ne-eqb (itemKind ws i) 72 (λ f. omega arith))
+
+-- ---- the numbers of children as words
+
+no-words : (table : Rows) (l : List ℕ) → wordsOf (λ j. numberOf plain table (getD l j 0)) 0 ≡ childWords plain table (take 0 l)
+unfolding wordsOf childWords
+no-words table l = refl
+
+one-word : (table : Rows) (c : ℕ) → childWords plain table (c ∷ []) ≡ word (numberOf plain table c)
+unfolding childWords
+one-word table c = append-nil (word (numberOf plain table c))
+
+more-words : (table : Rows) (l : List ℕ) (n : ℕ) → n < length l → wordsOf (λ j. numberOf plain table (getD l j 0)) n ≡ childWords plain table (take n l)
+    → wordsOf (λ j. numberOf plain table (getD l j 0)) (suc n) ≡ childWords plain table (take (suc n) l)
+unfolding wordsOf
+more-words table l n h e = rw (take-suc l n 0 h, words-append, one-word) (ap (λ (x : List ℕ). x ++ word (numberOf plain table (getD l n 0))) e)
+
+pub children-words : (table : Rows) (l : List ℕ) → wordsOf (λ j. numberOf plain table (getD l j 0)) (length l) ≡ childWords plain table l
+children-words table l = first (length l) (omega arith) ∙ ap (childWords plain table) (take-all (length l) l (omega arith))
+  where
+    first : (n : ℕ) → n ≤ length l → wordsOf (λ j. numberOf plain table (getD l j 0)) n ≡ childWords plain table (take n l)
+    first zero h = no-words table l
+    first (suc n) h = more-words table l n h (first n (omega arith))
+
+-- ---- a child has the parent word that it is listed by
+
+no-kids : (ws : List ℕ) (b j : ℕ) → j < length (kids ws b 0) → parentAt ws (getD (kids ws b 0) j 0) ≡ b
+unfolding kids
+no-kids ws b j h = absurd (omega arith)
+
+kids-hit : (ws : List ℕ) (b n : ℕ) → parentAt ws n ≡ b → kids ws b (suc n) ≡ kids ws b n ++ (n ∷ [])
+kids-hit ws b n e = kids-more ws b n ∙ ap (λ (x : List ℕ). kids ws b n ++ x) (pick-true (n ∷ []) [] (eq-eqb _ _ e))
+
+more-kids : (ws : List ℕ) (b n : ℕ) → parentAt ws n ≡ b → (j : ℕ) → j < length (kids ws b (suc n)) → ((k : ℕ) → k < length (kids ws b n) → parentAt ws (getD (kids ws b n) k 0) ≡ b)
+    → parentAt ws (getD (kids ws b (suc n)) j 0) ≡ b
+more-kids ws b n e j h rest =
+    let g : j < length (kids ws b n ++ (n ∷ [])) = rw (kids-hit ws b n e) at h in
+    rw (kids-hit ws b n e)
+    (⊎-elim
+    (λ less. ap (parentAt ws) (List·getD-append (kids ws b n) (n ∷ []) 0 j less) ∙ rest j less)
+    (λ more. let q : j ≡ length (kids ws b n) = omega (arith, length-append (kids ws b n) (n ∷ [])) in
+    ap (parentAt ws) (getD-at (kids ws b n) n [] 0 j (sym q)) ∙ e)
+    (lt-or-ge j (length (kids ws b n))))
+
+pub kid-of : (ws : List ℕ) (b n j : ℕ) → j < length (kids ws b n) → parentAt ws (getD (kids ws b n) j 0) ≡ b
+kid-of ws b zero j h = no-kids ws b j h
+kid-of ws b (suc n) j h =
+    ⊎-elim
+    (λ e. more-kids ws b n e j h (λ k l. kid-of ws b n k l))
+    (λ ne. rw (kids-miss ws b n ne) (kid-of ws b n j (rw (kids-miss ws b n ne) at h)))
+    (eq-or-ne (parentAt ws n) b)
+
+drop-part : (l : List ℕ) (at size n : ℕ) → drop n (part l at size) ≡ part l (at + n) (size - n)
+drop-part l at size n = drop-take n size (drop at l) ∙ ap (take (size - n)) (drop-drop n at l)
+  where
+    drop-take : (n m : ℕ) (l : List ℕ) → drop n (take m l) ≡ take (m - n) (drop n l)
+    drop-take zero m l = let e : m - 0 ≡ m = omega arith in rw e
+    drop-take (suc n) zero l = let e : 0 - suc n ≡ 0 = omega arith in rw e
+    drop-take (suc n) (suc m) [] = sym (take-nil (suc m - suc n))
+    drop-take (suc n) (suc m) (x ∷ l) = let e : suc m - suc n ≡ m - n = omega arith in rw e (drop-take n m l)
+
+module _ (ws ar roster : List ℕ) (r : Right ws ar) (ro : Rostered ws ar roster) where
+  -- ---- children
+
+  holds-children : (t j : ℕ) → j < itemTotal ws → isContainer (stateOf ws ar t .content j) ≡ eqb (itemKind ws j) containerKind
+  holds-children t j l =
+      ap isContainer (content-is ws ar t j l)
+      ∙ ⊎-elim
+      (λ k. ap isContainer (content-value ws ar j k) ∙ sym (ne-eqb (itemKind ws j) 76 (λ f. omega arith)))
+      (λ m. ⊎-elim
+      (λ k. ap isContainer (content-table ws ar j k) ∙ sym (ne-eqb (itemKind ws j) 76 (λ f. omega arith)))
+      (λ k. ap isContainer (content-container ws ar j k) ∙ sym (eq-eqb (itemKind ws j) 76 k))
+      m)
+      (r .kind j l)
+
+  module _ (t i : ℕ) (l : i < itemTotal ws) (own : itemTable ws i ≡ t) where
+    above-none : itemParent ws i ≡ 0 → stateOf ws ar t .above i ≡ noItem
+    above-none z = above-is ws ar t i l ∙ pick-true noItem (itemParent ws i - 1) (eq-eqb _ _ z)
+
+    above-some : (itemParent ws i ≡ 0 → ⊥) → stateOf ws ar t .above i ≡ itemParent ws i - 1
+    above-some n = above-is ws ar t i l ∙ pick-false noItem (itemParent ws i - 1) (ne-eqb _ _ n)
+
+    above-in : (itemParent ws i ≡ 0 → ⊥) → itemParent ws i - 1 < itemTotal ws
+    above-in n = omega (arith, r .parent i l n .earlier)
+
+    child-is : isChild (stateOf ws ar t) i ≡ childTest ws i
+    unfolding isChild
+    child-is =
+        ⊎-elim
+        (λ z. ap (λ (j : ℕ). isContainer (stateOf ws ar t .content j)) (above-none z)
+        ∙ ap isContainer (content-past ws ar t noItem (omega (arith, r .sound .items))) ∙ child-none ws i (itemParent ws i) refl z)
+        (λ n. ap (λ (j : ℕ). isContainer (stateOf ws ar t .content j)) (above-some n)
+        ∙ holds-children t (itemParent ws i - 1) (above-in n) ∙ child-own ws i (itemParent ws i) (itemKind ws (itemParent ws i - 1)) refl n refl)
+        (eq-or-ne (itemParent ws i) 0)
+
+    -- ---- the fields of its slot
+
+    pub hash-is : itemHash ws i ≡ hashBy plain (stateOf ws ar t .key i)
+    hash-is = r .hash i l ∙ ap (hashBy plain) (sym (key-is ws ar t i l))
+
+    pub parent-is : parentWord ws roster i ≡ parentNumber plain (stateOf ws ar t) i
+    unfolding parentWord parentNumber
+    parent-is = rw child-is (by (by-child ws i))
+      where
+        number : childTest ws i ≡ true → itemNumber roster (itemParent ws i - 1) ≡ numberOf plain (stateOf ws ar t) (stateOf ws ar t .above i)
+        number e =
+            let n = child-some ws i e in
+            ro .numbers (itemParent ws i - 1) (above-in n) ∙ ap (λ (u : ℕ). numberOf plain (stateOf ws ar u) (itemParent ws i - 1)) (r .parent i l n .same ∙ own)
+            ∙ ap (numberOf plain (stateOf ws ar t)) (sym (above-some n))
+
+        by : (childTest ws i ≡ true) ⊎ (childTest ws i ≡ false)
+            → pick (childTest ws i) (itemNumber roster (itemParent ws i - 1)) emptyMark ≡ pick (childTest ws i) (numberOf plain (stateOf ws ar t) (stateOf ws ar t .above i)) noItem
+        by (inl e) = pick-true (itemNumber roster (itemParent ws i - 1)) emptyMark e ∙ number e ∙ sym (pick-true (numberOf plain (stateOf ws ar t) (stateOf ws ar t .above i)) noItem e)
+        by (inr e) = pick-false (itemNumber roster (itemParent ws i - 1)) emptyMark e ∙ sym (pick-false (numberOf plain (stateOf ws ar t) (stateOf ws ar t .above i)) noItem e)
+
+    whole-key : part ar (keyStart ws i) (keySize ws i) ≡ stateOf ws ar t .key i
+    unfolding keyOf
+    whole-key = sym (key-is ws ar t i l)
+
+    pub fragment-is : part ar (keyStart ws i + skipped ws i) (keySize ws i - skipped ws i) ≡ fragmentAt (stateOf ws ar t) i
+    unfolding fragmentAt
+    fragment-is = rw child-is (by (by-child ws i))
+      where
+        cut : childTest ws i ≡ true → length (stateOf ws ar t .key (stateOf ws ar t .above i)) ≡ skipped ws i
+        cut e =
+            let n = child-some ws i e in
+            ap (λ (j : ℕ). length (stateOf ws ar t .key j)) (above-some n) ∙ ap length (key-is ws ar t (itemParent ws i - 1) (above-in n))
+            ∙ key-length ws ar (itemParent ws i - 1) (r .key (itemParent ws i - 1) (above-in n))
+            ∙ skip-own ws i e (itemParent ws i) (keySize ws (itemParent ws i - 1)) refl refl
+
+        by : (childTest ws i ≡ true) ⊎ (childTest ws i ≡ false)
+            → part ar (keyStart ws i + skipped ws i) (keySize ws i - skipped ws i)
+            ≡ pick (childTest ws i) (drop (length (stateOf ws ar t .key (stateOf ws ar t .above i))) (stateOf ws ar t .key i)) (stateOf ws ar t .key i)
+        by (inl e) =
+            sym (pick-true (drop (length (stateOf ws ar t .key (stateOf ws ar t .above i))) (stateOf ws ar t .key i)) (stateOf ws ar t .key i) e
+            ∙ ap (λ (n : ℕ). drop n (stateOf ws ar t .key i)) (cut e) ∙ ap (drop (skipped ws i)) (sym whole-key)
+            ∙ drop-part ar (keyStart ws i) (keySize ws i) (skipped ws i))
+        by (inr e) =
+            let z : skipped ws i ≡ 0 = sym (skip-none ws i e) in
+            let a : keyStart ws i + skipped ws i ≡ keyStart ws i = omega arith in
+            let b : keySize ws i - skipped ws i ≡ keySize ws i = omega arith in
+            rw (a, b) (whole-key ∙ sym (pick-false (drop (length (stateOf ws ar t .key (stateOf ws ar t .above i))) (stateOf ws ar t .key i)) (stateOf ws ar t .key i) e))
+
+    pub kind-is : itemKind ws i ≡ kindByte (kindOf (stateOf ws ar t .content i))
+    kind-is =
+        ⊎-elim
+        (λ k. k ∙ ap (λ (x : Content). kindByte (kindOf x)) (sym (content-is ws ar t i l ∙ content-value ws ar i k)))
+        (λ m. ⊎-elim
+        (λ k. k ∙ ap (λ (x : Content). kindByte (kindOf x)) (sym (content-is ws ar t i l ∙ content-table ws ar i k)))
+        (λ k. k ∙ ap (λ (x : Content). kindByte (kindOf x)) (sym (content-is ws ar t i l ∙ content-container ws ar i k)))
+        m)
+        (r .kind i l)
+
+    -- a choice by kind, and what depends on the content
+    pub by-content : {A : Type 0} (f : Content → A) (v g c : A)
+        → (itemKind ws i ≡ valueKind → v ≡ f (Content.bytes (part ar (valueStart ws i) (valueSize ws i))))
+        → (itemKind ws i ≡ tableKind → g ≡ f (Content.nested (itemGuest ws i)))
+        → (itemKind ws i ≡ containerKind → c ≡ f Content.container)
+        → byKind (itemKind ws i) v g c ≡ f (stateOf ws ar t .content i)
+    by-content f v g c x y z =
+        ⊎-elim
+        (λ k. kind-value (itemKind ws i) v g c k ∙ x k ∙ ap f (sym (content-is ws ar t i l ∙ content-value ws ar i k)))
+        (λ m. ⊎-elim
+        (λ k. kind-table (itemKind ws i) v g c k ∙ y k ∙ ap f (sym (content-is ws ar t i l ∙ content-table ws ar i k)))
+        (λ k. kind-container (itemKind ws i) v g c (λ e. omega arith) (λ e. omega arith) ∙ z k ∙ ap f (sym (content-is ws ar t i l ∙ content-container ws ar i k)))
+        m)
+        (r .kind i l)
+
+    -- ---- its children are items of the table
+
+    module _ (j : ℕ) (less : j < length (kids ws (i + 1) 1024)) where
+      kid-parent : parentAt ws (getD (kids ws (i + 1) 1024) j 0) ≡ i + 1
+      kid-parent = kid-of ws (i + 1) 1024 j less
+
+      pub kid-in : getD (kids ws (i + 1) 1024) j 0 < itemTotal ws
+      kid-in =
+          ⊎-elim (λ h. h) (λ g. absurd (omega (arith, kid-parent, parent-past ws (getD (kids ws (i + 1) 1024) j 0) g)))
+          (lt-or-ge (getD (kids ws (i + 1) 1024) j 0) (itemTotal ws))
+
+      pub kid-table : itemTable ws (getD (kids ws (i + 1) 1024) j 0) ≡ t
+      kid-table =
+          let c = getD (kids ws (i + 1) 1024) j 0 in
+          let p : itemParent ws c ≡ i + 1 = sym (parent-own ws c kid-in) ∙ kid-parent in
+          let q : itemParent ws c - 1 ≡ i = omega arith in
+          sym (r .parent c kid-in (λ z. omega arith) .same) ∙ ap (itemTable ws) q ∙ own

@@ -1,0 +1,10 @@
+pub mod SheetLaws
+pub mod StateLaws
+pub mod KinLaws
+pub mod SlotLaws
+pub mod RosterLaws
+pub mod TurnLaws
+pub mod ItemLaws
+pub mod PlanLaws
+pub mod EmptyLaws
+pub mod AnswerLaws

@@ -1,0 +1,115 @@
+-- The slots of a roster: every item has one of its own. Assumes nothing.
+use mathlib.Core.Path.{_≡_, refl, sym, ap, _∙_}
+use mathlib.Core.Bool.{Bool, true, false}
+use mathlib.Core.Logic.{_⊎_, inl, inr, ⊎-elim}
+use mathlib.Core.List.{List}
+use Prim.Native.Nat.{ℕ, _+_, _-_, _≤_, _<_, _^_}
+use native.Mathlib.Omega.{arith}
+use lib.ListN.{length}
+use Rattle.words.specs.Hash.{plain}
+use Rattle.words.proofs.ChoiceLaws.{pick-true, pick-false}
+use Rattle.model.specs.Table.{Has}
+use Rattle.memory.specs.Memory.{itemTotal, itemTable, itemParent, keySize, emptyMark}
+use Rattle.image.specs.Number.{itemOf, numberOf}
+use Rattle.image.proofs.TimesLaws.{eq-or-ne}
+use Rattle.image.proofs.NumberLaws.{number-within, item-number, number-item, item-within, first-most}
+use Rattle.roster.specs.Roster.{stateOf, firstSlot, slotCount, slotItem, itemNumber, bucketWord, Rostered}
+use Rattle.write.specs.Sheeted.{childTest, skipped, parentWord, slotOf, Slotted}
+use Rattle.write.proofs.StateLaws.{Right, member-once, has-item, item-below, item-table}
+use Rattle.write.proofs.SlotLaws.{skip-none, skip-own, child-some}
+
+pub by-child : (ws : List ℕ) (i : ℕ) → (childTest ws i ≡ true) ⊎ (childTest ws i ≡ false)
+by-child ws i = by (childTest ws i) refl
+  where
+    by : (q : Bool) → childTest ws i ≡ q → (childTest ws i ≡ true) ⊎ (childTest ws i ≡ false)
+    by true e = inl e
+    by false e = inr e
+
+module _ (ws ar roster : List ℕ) (r : Right ws ar) (ro : Rostered ws ar roster) where
+  module _ (i : ℕ) (l : i < itemTotal ws) where
+    mine : Has (stateOf ws ar (itemTable ws i) .members) i
+    mine = has-item ws ar (itemTable ws i) i l refl
+
+    pub number-low : itemNumber roster i < slotCount roster (itemTable ws i)
+    number-low =
+        let t = itemTable ws i in
+        let h : numberOf plain (stateOf ws ar t) i < length (stateOf ws ar t .members) = number-within plain (stateOf ws ar t) (member-once ws ar t) i mine in
+        omega (arith, ro .numbers i l, ro .counts t (r .table i l))
+
+    pub slot-low : slotOf ws roster i < 1024
+    unfolding slotOf
+    slot-low = omega (arith, number-low, ro .inside (itemTable ws i) (r .table i l))
+
+    pub number-few : itemNumber roster i < 1024
+    number-few = omega (arith, number-low, ro .inside (itemTable ws i) (r .table i l))
+
+    slot-item : slotItem roster (slotOf ws roster i) ≡ i
+    unfolding slotOf
+    slot-item =
+        let t = itemTable ws i in
+        ro .items t (itemNumber roster i) (r .table i l) number-low ∙ ap (itemOf plain (stateOf ws ar t)) (ro .numbers i l)
+        ∙ item-number plain (stateOf ws ar t) (member-once ws ar t) i mine
+
+    -- the word of the bucket with its number
+    pub bucket-few : bucketWord roster (slotOf ws roster i) ≤ 1024
+    unfolding slotOf
+    bucket-few =
+        let t = itemTable ws i in
+        omega (arith, ro .buckets t (itemNumber roster i) (r .table i l) number-low, first-most plain (stateOf ws ar t) (itemNumber roster i), ro .counts t (r .table i l), ro .inside t (r .table i l))
+
+    earlier : itemParent ws i ≤ i
+    earlier = ⊎-elim (λ e. omega arith) (λ n. r .parent i l n .earlier) (eq-or-ne (itemParent ws i) 0)
+
+    pub skip-most : skipped ws i ≤ keySize ws i
+    skip-most =
+        ⊎-elim
+        (λ e. omega (arith, skip-own ws i e (itemParent ws i) (keySize ws (itemParent ws i - 1)) refl refl, r .parent i l (child-some ws i e) .shorter))
+        (λ e. omega (arith, skip-none ws i e))
+        (by-child ws i)
+
+    pub slotted : length ar < 2 ^ 64 → Slotted ws roster i
+    slotted room = record {
+      long = r .sound .long;
+      roster-long = ro .long;
+      inside = omega (arith, r .sound .items);
+      table = r .table i l;
+      earlier = earlier;
+      shorter = skip-most;
+      key = omega (arith, r .key i l);
+      within = slot-low;
+    }
+
+  -- the number of a parent
+  pub parent-few : (i : ℕ) → i < itemTotal ws → parentWord ws roster i < 2 ^ 32
+  unfolding parentWord
+  parent-few i l =
+      ⊎-elim
+      (λ e. let b = r .parent i l (child-some ws i e) in
+      let less : itemParent ws i - 1 < itemTotal ws = omega (arith, b .earlier) in
+      omega (arith, pick-true (itemNumber roster (itemParent ws i - 1)) emptyMark e, number-few (itemParent ws i - 1) less))
+      (λ e. omega (arith, pick-false (itemNumber roster (itemParent ws i - 1)) emptyMark e))
+      (by-child ws i)
+
+  -- no two items have one slot
+  pub slot-once : (i j : ℕ) → i < itemTotal ws → j < itemTotal ws → slotOf ws roster i ≡ slotOf ws roster j → i ≡ j
+  slot-once i j h l e = sym (slot-item i h) ∙ ap (slotItem roster) e ∙ slot-item j l
+
+  -- ---- the item of a number
+
+  module _ (t k : ℕ) (known : t < 64) (low : k < slotCount roster t) where
+    item-has : Has (stateOf ws ar t .members) (itemOf plain (stateOf ws ar t) k)
+    item-has = item-within plain (stateOf ws ar t) (member-once ws ar t) k (omega (arith, ro .counts t known))
+
+    pub item-in : itemOf plain (stateOf ws ar t) k < itemTotal ws
+    item-in = item-below ws ar t (itemOf plain (stateOf ws ar t) k) item-has
+
+    pub item-of : itemTable ws (itemOf plain (stateOf ws ar t) k) ≡ t
+    item-of = item-table ws ar t (itemOf plain (stateOf ws ar t) k) item-has
+
+    pub slot-of : slotOf ws roster (itemOf plain (stateOf ws ar t) k) ≡ firstSlot roster t + k
+    unfolding slotOf
+    slot-of =
+        let i = itemOf plain (stateOf ws ar t) k in
+        let e : itemNumber roster i ≡ k = ro .numbers i item-in ∙ ap (λ (u : ℕ). numberOf plain (stateOf ws ar u) i) item-of
+        ∙ number-item plain (stateOf ws ar t) (member-once ws ar t) k (omega (arith, ro .counts t known)) in
+        rw (item-of, e)

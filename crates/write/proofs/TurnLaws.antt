@@ -1,0 +1,191 @@
+-- One slot more of a sheet, and a sheet before its first. Assumes nothing.
+use mathlib.Core.Path.{_≡_, refl, sym, ap, _∙_}
+use mathlib.Core.Logic.{_⊎_, ⊎-elim}
+use mathlib.Core.List.{List, [], _∷_}
+use Prim.Native.Nat.{ℕ, _+_, _-_, _*_, _≤_, _<_}
+use native.Mathlib.Omega.{arith}
+use borrow.Author.Tests.{lt-ltb, le-ltb}
+use lib.ListN.{length, getD}
+use Rattle.words.specs.Store.{putAt}
+use Rattle.words.specs.Hash.{plain}
+use Rattle.words.proofs.ChoiceLaws.{pick-true, pick-false}
+use Rattle.words.proofs.HashLaws.{hash-below}
+use Rattle.words.proofs.StoreLaws.{length-put, get-put, get-before, get-after, put-append}
+use Rattle.memory.specs.Memory.{itemTotal, itemHash, keyStart, keySize, itemKind, valueStart, valueSize, itemGuest, keyOf}
+use Rattle.image.proofs.TimesLaws.{eq-or-ne, lt-or-ge}
+use Rattle.lay.specs.Sheet.{slotWord, SlotFits}
+use Rattle.roster.specs.Roster.{bucketWord, Rostered}
+use Rattle.write.specs.Sheeted.{skipped, parentWord, slotOf, startOf, sizeOf, frontWords, backWords, slotWords, startWord, StartSheet, ChildSheet, SlotSheet, Firsts}
+use Rattle.write.proofs.StateLaws.{Right}
+use Rattle.write.proofs.SlotLaws.{start-value, start-guest, start-child, size-value, size-child}
+use Rattle.write.proofs.RosterLaws.{slot-low, slot-once, bucket-few, skip-most, parent-few}
+
+-- ---- slots that are alike
+
+fits-same : (a b ar : List ℕ) (s : ℕ) → ((which : ℕ) → which < 8 → slotWord b s which ≡ slotWord a s which) → SlotFits a ar s → SlotFits b ar s
+fits-same a b ar s e f =
+    let e0 = e 0 (omega arith) in
+    let e1 = e 1 (omega arith) in
+    let e2 = e 2 (omega arith) in
+    let e3 = e 3 (omega arith) in
+    let e4 = e 4 (omega arith) in
+    let e5 = e 5 (omega arith) in
+    let e6 = e 6 (omega arith) in
+    let e7 = e 7 (omega arith) in
+    record {
+      hash = omega (arith, e0, f .hash);
+      parent = omega (arith, e1, f .parent);
+      fragment = omega (arith, e2, e3, f .fragment);
+      size = omega (arith, e3, f .size);
+      kind = omega (arith, e4, f .kind);
+      bucket = omega (arith, e7, f .bucket);
+      value = λ k. omega (arith, e5, e6, f .value (sym e4 ∙ k));
+      guest = λ k. omega (arith, e5, f .guest (sym e4 ∙ k));
+      children = λ n m. omega (arith, e5, e6, f .children (λ k. n (e4 ∙ k)) (λ k. m (e4 ∙ k)));
+    }
+
+-- ---- a slot that was put
+
+length-words : (ws roster firsts : List ℕ) (i : ℕ) → length (slotWords ws roster firsts i) ≡ 8
+unfolding slotWords frontWords backWords
+length-words ws roster firsts i = refl
+
+front-length : (ws roster : List ℕ) (i : ℕ) → length (frontWords ws roster i) ≡ 4
+unfolding frontWords
+front-length ws roster i = refl
+
+pub halves-put : (ws roster firsts l : List ℕ) (i at : ℕ)
+    → putAt (putAt l at (frontWords ws roster i)) (at + 4) (backWords ws roster firsts i) ≡ putAt l at (slotWords ws roster firsts i)
+unfolding slotWords
+halves-put ws roster firsts l i at = sym (put-append l at (frontWords ws roster i) (backWords ws roster firsts i) ∙ ap (λ (n : ℕ). putAt (putAt l at (frontWords ws roster i)) (at + n) (backWords ws roster firsts i)) (front-length ws roster i))
+
+module _ (l vs : List ℕ) (long : length l ≡ 9344) (eight : length vs ≡ 8) (s : ℕ) (low : s < 1024) where
+  put-own : (which : ℕ) → which < 8 → slotWord (putAt l (128 + 8 * s) vs) s which ≡ getD vs which 0
+  unfolding slotWord
+  put-own which h = get-put l (128 + 8 * s) vs which (omega arith) (omega arith)
+
+  put-other : (u which : ℕ) → (u ≡ s → ⊥) → which < 8 → slotWord (putAt l (128 + 8 * s) vs) u which ≡ slotWord l u which
+  unfolding slotWord
+  put-other u which n h =
+      ⊎-elim
+      (λ less. get-before l (128 + 8 * s) vs (128 + 8 * u + which) (omega arith))
+      (λ more. get-after l (128 + 8 * s) vs (128 + 8 * u + which) (omega arith))
+      (lt-or-ge u s)
+
+module _ (ws ar roster firsts : List ℕ) (r : Right ws ar) (ro : Rostered ws ar roster) (fi : Firsts firsts) where
+  -- the slot of an item can be laid
+  item-fits : (sheet : List ℕ) (i : ℕ) → i < itemTotal ws
+      → ((which : ℕ) → which < 8 → slotWord sheet (slotOf ws roster i) which ≡ getD (slotWords ws roster firsts i) which 0) → SlotFits sheet ar (slotOf ws roster i)
+  unfolding slotWords frontWords backWords
+  item-fits sheet i l e =
+      let s = slotOf ws roster i in
+      let e0 : slotWord sheet s 0 ≡ itemHash ws i = e 0 (omega arith) in
+      let e1 : slotWord sheet s 1 ≡ parentWord ws roster i = e 1 (omega arith) in
+      let e2 : slotWord sheet s 2 ≡ keyStart ws i + skipped ws i = e 2 (omega arith) in
+      let e3 : slotWord sheet s 3 ≡ keySize ws i - skipped ws i = e 3 (omega arith) in
+      let e4 : slotWord sheet s 4 ≡ itemKind ws i = e 4 (omega arith) in
+      let e5 : slotWord sheet s 5 ≡ startOf ws firsts i = e 5 (omega arith) in
+      let e6 : slotWord sheet s 6 ≡ sizeOf ws firsts i = e 6 (omega arith) in
+      let e7 : slotWord sheet s 7 ≡ bucketWord roster s = e 7 (omega arith) in
+      let inside : i < 1024 = omega (arith, r .sound .items) in
+      record {
+        hash = omega (arith, r .hash i l, hash-below plain (keyOf ws ar i));
+        parent = omega (arith, parent-few ws ar roster r ro i l);
+        fragment = omega (arith, skip-most ws ar roster r ro i l, r .key i l);
+        size = omega (arith, r .short i l);
+        kind = ⊎-elim (λ k. omega arith) (λ m. ⊎-elim (λ k. omega arith) (λ k. omega arith) m) (r .kind i l);
+        bucket = omega (arith, bucket-few ws ar roster r ro i l);
+        value = λ k. omega (
+          arith,
+          start-value ws firsts i (itemKind ws i) refl (sym e4 ∙ k) (valueStart ws i) refl,
+          size-value ws firsts i (itemKind ws i) refl (sym e4 ∙ k) (valueSize ws i) refl,
+          r .value i l (sym e4 ∙ k),
+        );
+        guest = λ k. omega (arith, start-guest ws firsts i (itemKind ws i) refl (sym e4 ∙ k) (itemGuest ws i) refl, r .guest i l (sym e4 ∙ k));
+        children = λ n m. omega (
+          arith,
+          start-child ws firsts i (itemKind ws i) refl (λ k. n (e4 ∙ k)) (λ k. m (e4 ∙ k)),
+          size-child ws firsts i (itemKind ws i) refl (λ k. n (e4 ∙ k)) (λ k. m (e4 ∙ k)),
+          fi .up i inside,
+          fi .few i inside,
+        );
+      }
+
+  pub slots-none : (sheet : List ℕ) → ((s : ℕ) → s < 1024 → SlotFits sheet ar s) → SlotSheet ws ar roster firsts sheet sheet 0
+  slots-none sheet fit = record { long = refl; is = λ i h. absurd (omega arith); fits = fit; head = λ k h. refl; tail = λ k h. refl }
+
+  pub slots-more : (before sheet : List ℕ) (i : ℕ) → length before ≡ 9344 → i < itemTotal ws → SlotSheet ws ar roster firsts before sheet i
+      → SlotSheet ws ar roster firsts before (putAt sheet (128 + 8 * slotOf ws roster i) (slotWords ws roster firsts i)) (i + 1)
+  slots-more before sheet i long l q =
+      let s = slotOf ws roster i in
+      let vs = slotWords ws roster firsts i in
+      let size : length sheet ≡ 9344 = q .long ∙ long in
+      let eight : length vs ≡ 8 = length-words ws roster firsts i in
+      let low : s < 1024 = slot-low ws ar roster r ro i l in
+      record {
+        long = length-put sheet (128 + 8 * s) vs ∙ q .long;
+        is = λ j h. ⊎-elim
+            (λ (e : j ≡ i). rw e (put-own sheet vs size eight s low))
+            (λ (n : j ≡ i → ⊥). λ which w. let less : j < i = omega arith in
+            put-other sheet vs size eight s low (slotOf ws roster j) which (λ e. n (slot-once ws ar roster r ro j i (omega arith) l e)) w ∙ q .is j less which w)
+            (eq-or-ne j i);
+        fits = λ u h. ⊎-elim
+            (λ (e : u ≡ s). rw e (item-fits (putAt sheet (128 + 8 * s) vs) i l (put-own sheet vs size eight s low)))
+            (λ (n : u ≡ s → ⊥). fits-same sheet (putAt sheet (128 + 8 * s) vs) ar u (λ which w. put-other sheet vs size eight s low u which n w) (q .fits u h))
+            (eq-or-ne u s);
+        head = λ k h. get-before sheet (128 + 8 * s) vs k (omega arith) ∙ q .head k h;
+        tail = λ k h. get-after sheet (128 + 8 * s) vs k (omega arith) ∙ q .tail k h;
+      }
+
+-- ---- before the first slot: all words of slots are 0
+
+pub start-in : (roster : List ℕ) (k : ℕ) → k < 128 → getD roster k 0 ≡ startWord roster k
+unfolding startWord
+start-in roster k l = sym (pick-true (getD roster k 0) 0 (lt-ltb _ _ l))
+
+pub start-out : (roster : List ℕ) (k : ℕ) → 128 ≤ k → 0 ≡ startWord roster k
+unfolding startWord
+start-out roster k l = sym (pick-false (getD roster k 0) 0 (le-ltb _ _ l))
+
+zero-word : (ws roster order a b : List ℕ) → StartSheet roster a → ChildSheet ws roster order a b → (s which : ℕ) → s < 1024 → which < 8 → slotWord b s which ≡ 0
+unfolding slotWord
+zero-word ws roster order a b st ch s which h w =
+    ch .kept (128 + 8 * s + which) (omega arith) ∙ st .is (128 + 8 * s + which) (omega arith) ∙ sym (start-out roster (128 + 8 * s + which) (omega arith))
+
+pub start-fits : (ws ar roster order a b : List ℕ) → StartSheet roster a → ChildSheet ws roster order a b → (s : ℕ) → s < 1024 → SlotFits b ar s
+start-fits ws ar roster order a b st ch s h =
+    let e0 : slotWord b s 0 ≡ 0 = word 0 (omega arith) in
+    let e1 : slotWord b s 1 ≡ 0 = word 1 (omega arith) in
+    let e2 : slotWord b s 2 ≡ 0 = word 2 (omega arith) in
+    let e3 : slotWord b s 3 ≡ 0 = word 3 (omega arith) in
+    let e4 : slotWord b s 4 ≡ 0 = word 4 (omega arith) in
+    let e5 : slotWord b s 5 ≡ 0 = word 5 (omega arith) in
+    let e6 : slotWord b s 6 ≡ 0 = word 6 (omega arith) in
+    let e7 : slotWord b s 7 ≡ 0 = word 7 (omega arith) in
+    record {
+      hash = omega arith;
+      parent = omega arith;
+      fragment = omega arith;
+      size = omega arith;
+      kind = omega arith;
+      bucket = omega arith;
+      value = λ k. absurd (omega arith);
+      guest = λ k. absurd (omega arith);
+      children = λ n m. omega arith;
+    }
+  where
+    word : (which : ℕ) → which < 8 → slotWord b s which ≡ 0
+    word which w = zero-word ws roster order a b st ch s which h w
+
+-- ---- the four words and the four more, as they are read
+
+module _ (ws roster l : List ℕ) (i at : ℕ) where
+  pub front-made : (hash parent skip key size : ℕ) → hash ≡ itemHash ws i → parent ≡ parentWord ws roster i → skip ≡ skipped ws i → key ≡ keyStart ws i → size ≡ keySize ws i
+      → putAt l at (hash ∷ parent ∷ (key + skip) ∷ (size - skip) ∷ []) ≡ putAt l at (frontWords ws roster i)
+  unfolding frontWords
+  front-made hash parent skip key size e f g h k = rw (e, f, g, h, k)
+
+  pub back-made : (firsts : List ℕ) (kind start size slot : ℕ) → kind ≡ itemKind ws i → start ≡ startOf ws firsts i → size ≡ sizeOf ws firsts i → slot ≡ slotOf ws roster i
+      → putAt l at (kind ∷ start ∷ size ∷ getD roster (2176 + slot) 0 ∷ []) ≡ putAt l at (backWords ws roster firsts i)
+  unfolding backWords bucketWord
+  back-made firsts kind start size slot e f g h = rw (e, f, g, h)

@@ -1,0 +1,53 @@
+-- `write::slot::put_front` meets its contract. Assumes nothing.
+use mathlib.Core.Path.{_∙_}
+use Rattle.write.proofs.TurnLaws.{front-made}
+use borrow.Author.Needs.{needs}
+use Rattle.write.proofs.slot.put_front.Statement.{statement}
+use Rattle.write.proofs.slot.put_front.Tie as tie
+
+item-word-requires : tie.Need-item-word-requires
+item-word-requires c κs = search needs
+
+parent-word-requires : tie.Need-parent-word-requires
+parent-word-requires c κs = search needs
+
+skip-of-requires : tie.Need-skip-of-requires
+skip-of-requires c κs = search needs
+
+item-word-requires-2 : tie.Need-item-word-requires-2
+item-word-requires-2 c κs = search needs
+
+add-start : tie.Need-add-start
+add-start c = search needs
+
+item-word-requires-3 : tie.Need-item-word-requires-3
+item-word-requires-3 c κs = search needs
+
+sub-size : tie.Need-sub-size
+sub-size c = search needs
+
+put-four-requires : tie.Need-put-four-requires
+put-four-requires c κs = search needs
+
+same-length : tie.Need-same-length
+same-length c = search needs
+
+returns : tie.Need-returns
+returns c =
+    let a = c .before .before .before .before .before .before .before .before .before .before .before .before .args in
+    c .before .before .put-four .ensures ∙ front-made (a .words .now) (a .roster .now) (a .sheet .now) (a .i) (a .at) _ _ _ _ _ (c .before .before .before .before .before .before .before .before .item-word .ensures) (c .before .before .before .before .before .before .before .parent-word .ensures) (c .before .before .before .before .before .before .skip-of .ensures) (c .before .before .before .before .before .item-word2 .ensures) (c .before .before .before .before .item-word3 .ensures)
+
+pub put-front-spec : {M : Type 1} → statement M
+put-front-spec =
+    tie.close
+    (tie.spec
+    item-word-requires
+    parent-word-requires
+    skip-of-requires
+    item-word-requires-2
+    add-start
+    item-word-requires-3
+    sub-size
+    put-four-requires
+    same-length
+    returns)

@@ -1,0 +1,23 @@
+-- What a write answers once the table is known, and from a sheet. Assumes nothing: these are definitions.
+use Prim.Native.Nat.{ℕ, _+_}
+use mathlib.Core.List.{List}
+use lib.ListN.{length}
+use Rattle.words.specs.Choice.{pick}
+use Rattle.layout.specs.declared.refusal.Refusal.the-variants.{EmptyKey, ImageTooLong}
+use Rattle.image.specs.Plan.{chunkSize}
+use Rattle.image.specs.Image.{headerSize, depth}
+use Rattle.lay.specs.Sheet.{slotCount, sheetImage}
+use Rattle.roster.specs.Roster.{stateOf}
+use Rattle.write.specs.Write.{hasEmpty, tooLong, imageFor}
+use Rattle.write.specs.declared.Written.{Written}
+
+-- the image of some size of a table of so many items
+unfoldable pub sizeAnswer : ℕ → ℕ → ℕ → Written
+sizeAnswer room count size = pick (tooLong room size) (Written.Refused ImageTooLong) (Written.Image headerSize (headerSize + chunkSize count) size)
+
+unfoldable pub sheetAnswer : List ℕ → List ℕ → ℕ → ℕ → Written
+sheetAnswer sheet ar t room = sizeAnswer room (slotCount sheet t) (length (sheetImage sheet ar t))
+
+unfoldable pub rootAnswer : List ℕ → List ℕ → ℕ → ℕ → Written
+rootAnswer ws ar t room =
+    pick (hasEmpty (stateOf ws ar) depth t) (Written.Refused EmptyKey) (sizeAnswer room (length (stateOf ws ar t .members)) (length (imageFor ws ar t)))

@@ -1,0 +1,4 @@
+pub mod Write
+pub mod Sheeted
+pub mod Empty
+pub mod Answer

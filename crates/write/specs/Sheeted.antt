@@ -1,0 +1,127 @@
+-- The sheet of a builder's memory: what each of its words is, and that its tables are those that the memory means. Assumes nothing: these
+-- are definitions.
+use Prim.Native.Nat.{ℕ, zero, suc, _+_, _-_, _≤_, _<_, _^_}
+use mathlib.Core.Path.{_≡_}
+use mathlib.Core.Bool.{Bool, _&&_, not}
+use mathlib.Core.List.{List, [], _∷_, _++_}
+use lib.Dec.{eqb, ltb}
+use lib.ListN.{length, getD}
+use Rattle.words.specs.Choice.{pick}
+use Rattle.words.specs.Hash.{plain}
+use Rattle.memory.specs.Memory.{emptyMark, itemTotal, itemTable, itemHash, keyStart, keySize, itemParent, itemKind, valueStart, valueSize, itemGuest, containerKind}
+use Rattle.image.specs.Fits.{SamePlan}
+use Rattle.image.specs.Image.{planOf}
+use Rattle.lay.specs.Sheet.{sheetTables, sheetSlots, slotsAt, childrenAt, sheetSize, slotWord, childWord, byKind, sheetPlan, SheetFits, SlotFits}
+use Rattle.roster.specs.Roster.{stateOf, firstSlot, itemNumber, bucketWord}
+
+-- every table of the sheet agrees with the table that the memory means, whatever nested tables are laid as
+pub record Sheeted (ws ar sheet : List ℕ) : Type 0 where
+  pub fits : SheetFits sheet ar
+  pub plans : (inner : ℕ → ℕ → List ℕ) (t : ℕ) → t < sheetTables
+      → SamePlan (sheetPlan inner sheet ar t) (planOf plain inner (stateOf ws ar) (stateOf ws ar t))
+
+-- ---- children
+
+-- the parent word of item c; past the last item none
+unfoldable pub parentAt : List ℕ → ℕ → ℕ
+parentAt ws c = pick (ltb c (itemTotal ws)) (itemParent ws c) 0
+
+-- of the first n items those with a parent word, in order of creation
+unfoldable pub kids : List ℕ → ℕ → ℕ → List ℕ
+kids ws parent zero = []
+kids ws parent (suc n) = kids ws parent n ++ pick (eqb (parentAt ws n) parent) (n ∷ []) []
+
+-- the parent words from the last place to the first
+pub record Parents (ws hashes : List ℕ) : Type 0 where
+  pub long : length hashes ≡ sheetSlots
+  pub is : (p : ℕ) → p < sheetSlots → getD hashes p 0 ≡ parentAt ws (1023 - p)
+
+-- places in the order of their parents, and the first of each parent: those of one parent in order of creation
+pub record Kin (ws order firsts : List ℕ) : Type 0 where
+  pub long : length order ≡ sheetSlots
+  pub wide : length firsts ≡ 1026
+  pub inside : (j : ℕ) → j < sheetSlots → getD order j 0 < sheetSlots
+  pub next : (i : ℕ) → i < sheetSlots → getD firsts (i + 2) 0 ≡ getD firsts (i + 1) 0 + length (kids ws (i + 1) sheetSlots)
+  pub few : (i : ℕ) → i < sheetSlots → getD firsts (i + 2) 0 ≤ sheetSlots
+  pub child : (i j : ℕ) → i < sheetSlots → j < length (kids ws (i + 1) sheetSlots)
+      → 1023 - getD order (getD firsts (i + 1) 0 + j) 0 ≡ getD (kids ws (i + 1) sheetSlots) j 0
+
+-- the number of an item; past the last item 0
+unfoldable pub numberAt : List ℕ → List ℕ → ℕ → ℕ
+numberAt ws roster c = pick (ltb c (itemTotal ws)) (itemNumber roster c) 0
+
+-- ---- the words of a sheet
+
+-- the head's words are the roster's; all else is 0
+unfoldable pub startWord : List ℕ → ℕ → ℕ
+startWord roster k = pick (ltb k slotsAt) (getD roster k 0) 0
+
+pub record StartSheet (roster sheet : List ℕ) : Type 0 where
+  pub long : length sheet ≡ sheetSize
+  pub is : (k : ℕ) → k < sheetSize → getD sheet k 0 ≡ startWord roster k
+
+-- the child words are the numbers of the places; all else is as it was
+pub record ChildSheet (ws roster order before after : List ℕ) : Type 0 where
+  pub long : length after ≡ length before
+  pub is : (j : ℕ) → j < sheetSlots → childWord after j ≡ numberAt ws roster (1023 - getD order j 0)
+  pub kept : (k : ℕ) → k < childrenAt → getD after k 0 ≡ getD before k 0
+
+-- item i is laid as a child: it has a parent, which is a container
+unfoldable pub childTest : List ℕ → ℕ → Bool
+childTest ws i = not (eqb (itemParent ws i) 0) && eqb (itemKind ws (itemParent ws i - 1)) containerKind
+
+-- how much of its key its parent has
+unfoldable pub skipped : List ℕ → ℕ → ℕ
+skipped ws i = pick (childTest ws i) (keySize ws (itemParent ws i - 1)) 0
+
+module _ (ws firsts : List ℕ) where
+  -- by kind: value start, guest, or first child word; value length, nothing, or count of child words
+  unfoldable pub startOf : ℕ → ℕ
+  startOf i = byKind (itemKind ws i) (valueStart ws i) (itemGuest ws i) (getD firsts (i + 1) 0)
+
+  unfoldable pub sizeOf : ℕ → ℕ
+  sizeOf i = byKind (itemKind ws i) (valueSize ws i) 0 (getD firsts (i + 2) 0 - getD firsts (i + 1) 0)
+
+module _ (ws roster : List ℕ) where
+  unfoldable pub parentWord : ℕ → ℕ
+  parentWord i = pick (childTest ws i) (itemNumber roster (itemParent ws i - 1)) emptyMark
+
+  -- the slot of item i
+  unfoldable pub slotOf : ℕ → ℕ
+  slotOf i = firstSlot roster (itemTable ws i) + itemNumber roster i
+
+  -- its parent is earlier, and its slot is one
+  pub record Slotted (i : ℕ) : Type 0 where
+    pub long : 14600 ≤ length ws
+    pub roster-long : length roster ≡ 3200
+    pub inside : i < 1024
+    pub table : itemTable ws i < 64
+    pub earlier : itemParent ws i ≤ i
+    pub shorter : skipped ws i ≤ keySize ws i
+    pub key : keyStart ws i + keySize ws i < 2 ^ 64
+    pub within : slotOf i < 1024
+
+  unfoldable pub frontWords : ℕ → List ℕ
+  frontWords i = itemHash ws i ∷ parentWord i ∷ (keyStart ws i + skipped ws i) ∷ (keySize ws i - skipped ws i) ∷ []
+
+  module _ (firsts : List ℕ) where
+    -- the words of its slot: four, and four more
+    unfoldable pub backWords : ℕ → List ℕ
+    backWords i = itemKind ws i ∷ startOf ws firsts i ∷ sizeOf ws firsts i ∷ bucketWord roster (slotOf i) ∷ []
+
+    unfoldable pub slotWords : ℕ → List ℕ
+    slotWords i = frontWords i ++ backWords i
+
+-- the firsts ascend, up to the count of the child words
+pub record Firsts (firsts : List ℕ) : Type 0 where
+  pub wide : length firsts ≡ 1026
+  pub up : (i : ℕ) → i < sheetSlots → getD firsts (i + 1) 0 ≤ getD firsts (i + 2) 0
+  pub few : (i : ℕ) → i < sheetSlots → getD firsts (i + 2) 0 ≤ sheetSlots
+
+-- the slots of the first n items have their words, every slot can be laid, and all else is as it was
+pub record SlotSheet (ws ar roster firsts before after : List ℕ) (n : ℕ) : Type 0 where
+  pub long : length after ≡ length before
+  pub is : (i : ℕ) → i < n → (which : ℕ) → which < 8 → slotWord after (slotOf ws roster i) which ≡ getD (slotWords ws roster firsts i) which 0
+  pub fits : (s : ℕ) → s < sheetSlots → SlotFits after ar s
+  pub head : (k : ℕ) → k < slotsAt → getD after k 0 ≡ getD before k 0
+  pub tail : (k : ℕ) → childrenAt ≤ k → getD after k 0 ≡ getD before k 0

@@ -1,0 +1,71 @@
+-- A write, from document 01, 'Laying an image' and 'Order': 29, 24, 30 anywhere in the table or those nested in it, 31. A refusal writes nothing; the builder stays as
+-- it was. Assumes nothing: these are definitions.
+use Prim.Native.Nat.{ℕ, zero, suc, _+_}
+use mathlib.Core.Bool.{Bool, false, _&&_, _||_}
+use mathlib.Core.List.{List, []}
+use lib.Dec.{eqb, ltb}
+use lib.ListN.{length}
+use Rattle.words.specs.Choice.{pick}
+use Rattle.words.specs.Below.{someBelow}
+use Rattle.words.specs.Store.{putAt}
+use Rattle.words.specs.Hash.{plain}
+use Rattle.layout.specs.Table.{longestFile}
+use Rattle.layout.specs.Refusal.{number}
+use Rattle.layout.specs.declared.refusal.Refusal.the-variants.{MemoryBroken, TableUnknown, EmptyKey, ImageTooLong}
+use Rattle.model.specs.Table.{Content, State}
+use Rattle.memory.specs.Memory.{tableTotal, tablePlaced}
+use Rattle.whole.specs.Whole.{wholeSound}
+use Rattle.image.specs.Number.{itemOf}
+use Rattle.image.specs.Plan.{chunkSize}
+use Rattle.image.specs.Image.{headerSize, depth, imageOf}
+use Rattle.roster.specs.Roster.{stateOf}
+use Rattle.write.specs.declared.Written.{Written}
+
+-- what an item holds, if it holds a table, has an empty key
+unfoldable pub emptyHeld : (ℕ → Bool) → Content → Bool
+emptyHeld empty (Content.bytes value) = false
+emptyHeld empty (Content.nested t) = empty t
+emptyHeld empty Content.container = false
+
+-- an item with the empty key stands in table t or in those nested in it, as deep as d goes
+unfoldable pub hasEmpty : State → ℕ → ℕ → Bool
+hasEmpty state zero t = false
+hasEmpty state (suc d) t =
+    someBelow (λ k. eqb (length (state t .key (itemOf plain (state t) k))) 0 || emptyHeld (λ u. hasEmpty state d u) (state t .content (itemOf plain (state t) k)))
+    (length (state t .members))
+
+-- the table is known and not placed
+unfoldable pub isRoot : List ℕ → ℕ → Bool
+isRoot ws t = ltb t (tableTotal ws) && eqb (tablePlaced ws t) 0
+
+-- what is to be laid
+unfoldable pub imageFor : List ℕ → List ℕ → ℕ → List ℕ
+imageFor ws ar t = imageOf plain (stateOf ws ar) t
+
+-- an image is longer than a buffer, or than a file may be
+unfoldable pub tooLong : ℕ → ℕ → Bool
+tooLong room size = ltb longestFile size || ltb room size
+
+-- the answer: the root pointer, which covers the table chunk, and the image's length
+unfoldable pub writeAnswer : List ℕ → List ℕ → ℕ → ℕ → Written
+writeAnswer ws ar t room =
+    pick (wholeSound ws ar)
+    (pick (isRoot ws t)
+    (pick (hasEmpty (stateOf ws ar) depth t) (Written.Refused EmptyKey)
+    (pick (tooLong room (length (imageFor ws ar t))) (Written.Refused ImageTooLong)
+    (Written.Image headerSize (headerSize + chunkSize (length (stateOf ws ar t .members))) (length (imageFor ws ar t)))))
+    (Written.Refused TableUnknown))
+    (Written.Refused MemoryBroken)
+
+-- the buffer: the image at its front, all else as it was; a refusal writes nothing
+unfoldable pub laidBy : Written → List ℕ → List ℕ → List ℕ
+laidBy (Written.Image start end size) image buffer = putAt buffer 0 image
+laidBy (Written.Refused why) image buffer = buffer
+
+unfoldable pub imageAfter : List ℕ → List ℕ → ℕ → List ℕ → List ℕ
+imageAfter ws ar t buffer = laidBy (writeAnswer ws ar t (length buffer)) (imageFor ws ar t) buffer
+
+-- the document's number; 0 for a success
+unfoldable pub writtenNumber : Written → ℕ
+writtenNumber (Written.Image start end size) = 0
+writtenNumber (Written.Refused why) = number why

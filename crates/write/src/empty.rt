@@ -1,0 +1,60 @@
+// The search for an empty key in a table and in those nested in it: a table and an item call each other, and the depth left falls.
+use memory::place::GUEST;
+use memory::place::KEY_SIZE;
+use memory::place::KIND;
+use memory::place::TABLE_KIND;
+use memory::place::item_word;
+ghost use mathlib.Core.Path.{_≡_};
+ghost use mathlib.Core.Bool.{true};
+ghost use Prim.Native.Nat.{_<_};
+ghost use Rattle.memory.specs.Memory.{itemTotal};
+ghost use Rattle.whole.specs.Whole.{wholeSound};
+ghost use Rattle.roster.specs.Roster.{stateOf, Rostered};
+ghost use Rattle.write.specs.Write.{hasEmpty};
+ghost use Rattle.write.specs.Empty.{itemEmpty};
+
+// Whether a table has an empty key, as deep as `depth` goes.
+pub fn has_empty(
+    words: &[usize],
+    arena: &[u8],
+    roster: &[usize],
+    table: usize,
+    depth: usize,
+) -> bool
+    requires { ⌜ wholeSound (now words) (now arena) ≡ true ⌝ }
+    requires { ⌜ Rostered (now words) (now arena) (now roster) ⌝ }
+    requires { ⌜ table < 64 ⌝ }
+    ensures { λ r. ⌜ r ≡ hasEmpty (stateOf (now (words .entry)) (now (arena .entry))) depth table ⌝ }
+{
+    if depth == 0 {
+        return false;
+    }
+    let first = roster[2 * table];
+    let count = roster[2 * table + 1];
+    let mut k = 0;
+    while k < count {
+        let item = roster[128 + (first + k)];
+        if item_empty(words, arena, roster, item, depth - 1) {
+            return true;
+        }
+        k += 1;
+    }
+    false
+}
+
+// Whether an item has the empty key, or holds a table with one.
+fn item_empty(words: &[usize], arena: &[u8], roster: &[usize], item: usize, depth: usize) -> bool
+    requires { ⌜ wholeSound (now words) (now arena) ≡ true ⌝ }
+    requires { ⌜ Rostered (now words) (now arena) (now roster) ⌝ }
+    requires { ⌜ item < itemTotal (now words) ⌝ }
+    ensures { λ r. ⌜ r ≡ itemEmpty (now (words .entry)) (now (arena .entry)) depth item ⌝ }
+{
+    if item_word(words, item, KEY_SIZE) == 0 {
+        return true;
+    }
+    if item_word(words, item, KIND) != TABLE_KIND {
+        return false;
+    }
+    let guest = item_word(words, item, GUEST);
+    has_empty(words, arena, roster, guest, depth)
+}

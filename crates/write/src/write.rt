@@ -1,0 +1,124 @@
+// A write: the judgement of the memory, the table, its empty keys, its image's length; then the image.
+use crate::Written;
+use crate::empty::has_empty;
+use crate::sheet::fill_sheet;
+use lay::Measured;
+use lay::sheet::slot_count;
+use lay::whole::lay_image;
+use lay::whole::measure;
+use layout::refusal::Refusal;
+use memory::place::PLACED;
+use memory::place::TABLES;
+use memory::place::table_word;
+use roster::fill::roster_all;
+use whole::judge::judge_whole;
+use words::wide::word_size;
+ghost use mathlib.Core.Path.{_≡_};
+ghost use mathlib.Core.Bool.{true};
+ghost use Prim.Native.Nat.{_<_, _≤_};
+ghost use lib.ListN.{length};
+ghost use Rattle.words.specs.Store.{putAt};
+ghost use Rattle.model.specs.Builder.{mostTables};
+ghost use Rattle.memory.specs.Memory.{leastWords, tableTotal};
+ghost use Rattle.whole.specs.Whole.{wholeSound};
+ghost use Rattle.lay.specs.Sheet.{sheetTables, sheetImage, SheetFits};
+ghost use Rattle.roster.specs.Roster.{Rostered};
+ghost use Rattle.write.specs.Write.{isRoot, imageFor, writeAnswer, laidBy, imageAfter};
+ghost use Rattle.write.specs.Answer.{sheetAnswer, rootAnswer};
+
+// Where the image's root table starts, and the deepest that tables nest.
+const HEADER: usize = 24;
+
+const DEPTH: usize = 8;
+
+// Whether a table is known and not placed.
+fn is_root(words: &[usize], table: usize) -> bool
+    requires { ⌜ (leastWords ≤ length (now words)) × (tableTotal (now words) ≤ mostTables) ⌝ }
+    ensures { λ r. ⌜ r ≡ isRoot (now (words .entry)) table ⌝ }
+{
+    if words[TABLES] <= table {
+        return false;
+    }
+    table_word(words, table, PLACED) == 0
+}
+
+// Lays the image of a table into the front of a buffer that is long enough.
+fn lay_into(sheet: &[usize], arena: &[u8], table: usize, image: &mut [u8], size: usize)
+    requires { ⌜ SheetFits (now sheet) (now arena) ⌝ }
+    requires { ⌜ (table < sheetTables) × (size ≡ length (sheetImage (now sheet) (now arena) table)) ⌝ }
+    requires { ⌜ (size ≤ length (now image)) × (size ≤ 16777216) ⌝ }
+    ensures { λ _. ⌜ now (image .exit) ≡ putAt (now (image .entry)) 0 (sheetImage (now (sheet .entry)) (now (arena .entry)) table) ⌝ }
+{
+    lay_image(sheet, arena, table, &mut image[..size]);
+}
+
+// Lays a table of a sheet, if its image is not too long.
+fn write_sheet(sheet: &[usize], arena: &[u8], table: usize, image: &mut [u8]) -> Written
+    requires { ⌜ SheetFits (now sheet) (now arena) ⌝ }
+    requires { ⌜ table < sheetTables ⌝ }
+    ensures { λ r. ⌜ r ≡ sheetAnswer (now (sheet .entry)) (now (arena .entry)) table (length (now (image .entry))) ⌝ }
+    ensures { λ _. ⌜ now (image .exit) ≡ laidBy (sheetAnswer (now (sheet .entry)) (now (arena .entry)) table (length (now (image .entry)))) (sheetImage (now (sheet .entry)) (now (arena .entry)) table) (now (image .entry)) ⌝ }
+{
+    let Measured::End(size) = measure(sheet, arena, table) else {
+        return Written::Refused(Refusal::ImageTooLong);
+    };
+    if image.len() < size {
+        return Written::Refused(Refusal::ImageTooLong);
+    }
+    lay_into(sheet, arena, table, image, size);
+    let end = HEADER + 8 + 28 * slot_count(sheet, table);
+    Written::Image {
+        start: HEADER as u32,
+        end: end as u32,
+        length: size as u32,
+    }
+}
+
+// Lays a table by its roster, if no key is empty.
+fn write_with(
+    words: &[usize],
+    arena: &[u8],
+    roster: &[usize],
+    table: usize,
+    image: &mut [u8],
+) -> Written
+    requires { ⌜ wholeSound (now words) (now arena) ≡ true ⌝ }
+    requires { ⌜ Rostered (now words) (now arena) (now roster) ⌝ }
+    requires { ⌜ table < sheetTables ⌝ }
+    ensures { λ r. ⌜ r ≡ rootAnswer (now (words .entry)) (now (arena .entry)) table (length (now (image .entry))) ⌝ }
+    ensures { λ _. ⌜ now (image .exit) ≡ laidBy (rootAnswer (now (words .entry)) (now (arena .entry)) table (length (now (image .entry)))) (imageFor (now (words .entry)) (now (arena .entry)) table) (now (image .entry)) ⌝ }
+{
+    if has_empty(words, arena, roster, table, DEPTH) {
+        return Written::Refused(Refusal::EmptyKey);
+    }
+    let mut sheet = [0usize; 9344];
+    fill_sheet(words, arena, roster, &mut sheet);
+    write_sheet(&sheet, arena, table, image)
+}
+
+// Lays a table that is known and not placed.
+fn write_root(words: &[usize], arena: &[u8], table: usize, image: &mut [u8]) -> Written
+    requires { ⌜ wholeSound (now words) (now arena) ≡ true ⌝ }
+    requires { ⌜ table < sheetTables ⌝ }
+    ensures { λ r. ⌜ r ≡ rootAnswer (now (words .entry)) (now (arena .entry)) table (length (now (image .entry))) ⌝ }
+    ensures { λ _. ⌜ now (image .exit) ≡ laidBy (rootAnswer (now (words .entry)) (now (arena .entry)) table (length (now (image .entry)))) (imageFor (now (words .entry)) (now (arena .entry)) table) (now (image .entry)) ⌝ }
+{
+    let mut roster = [0usize; 3200];
+    roster_all(words, arena, &mut roster);
+    write_with(words, arena, &roster, table, image)
+}
+
+// Writes the image of a table. The builder stays as it was.
+pub fn write(words: &[usize], arena: &[u8], table: u32, image: &mut [u8]) -> Written
+    ensures { λ r. ⌜ r ≡ writeAnswer (now (words .entry)) (now (arena .entry)) table (length (now (image .entry))) ⌝ }
+    ensures { λ _. ⌜ now (image .exit) ≡ imageAfter (now (words .entry)) (now (arena .entry)) table (now (image .entry)) ⌝ }
+{
+    if !judge_whole(words, arena) {
+        return Written::Refused(Refusal::MemoryBroken);
+    }
+    let known = word_size(table);
+    if !is_root(words, known) {
+        return Written::Refused(Refusal::TableUnknown);
+    }
+    write_root(words, arena, known, image)
+}
