@@ -1,0 +1,45 @@
+-- `gvdb::writing::gvdb_write` meets its contract: the write's answer as numbers, and its buffer. Assumes nothing.
+use mathlib.Core.Path.{_≡_, sym, ap, _∙_}
+use Rattle.gvdb.specs.Writing.{writtenAnswer}
+use borrow.Author.Needs.{needs}
+use Rattle.gvdb.proofs.writing.gvdb_write.Statement.{statement}
+use Rattle.gvdb.proofs.writing.gvdb_write.Tie as tie
+
+write-requires : tie.Need-write-requires
+write-requires c κs = search needs
+
+enum-known-start : tie.Need-enum-known-start
+enum-known-start c = search needs
+
+enum-known-why : tie.Need-enum-known-why
+enum-known-why c = search needs
+
+number-of-requires : tie.Need-number-of-requires
+number-of-requires c κs = search needs
+
+same-length : tie.Need-same-length
+same-length c = search needs
+
+returns : tie.Need-returns
+unfolding writtenAnswer
+returns c = (ap writtenAnswer (sym (c .before .start .given .1) ∙ c .before .before .before .before .before .write .ensures .0), c .before .before .before .before .before .write .ensures .1)
+
+same-length-2 : tie.Need-same-length-2
+same-length-2 c = search needs
+
+returns-2 : tie.Need-returns-2
+unfolding writtenAnswer
+returns-2 c = (rw (c .number-of .ensures) (ap writtenAnswer (sym (c .before .before .why .given .1) ∙ c .before .before .before .before .before .before .write .ensures .0)), c .before .before .before .before .before .before .write .ensures .1)
+
+pub gvdb-write-spec : {M : Type 1} → statement M
+gvdb-write-spec =
+    tie.close
+    (tie.spec
+    write-requires
+    enum-known-start
+    enum-known-why
+    number-of-requires
+    same-length
+    returns
+    same-length-2
+    returns-2)
