@@ -148,7 +148,7 @@ module _ (g : ℕ → Table) (ws ar : List ℕ) (t : ℕ) (k : List ℕ) (G : �
   module _ (good : Good g ws ar) (known : t < tableTotal ws) (fit : Fits (tableTotal ws))
       (free : (i : ℕ) → i < itemTotal ws → itemOf ws ar i .kind ≡ 72 → itemOf ws ar i .guest ≡ G → ⊥) where
     -- behind a container that is missing, all is missing
-    gone-far : (from e0 : ℕ) → from ≤ length k → from < e0 → e0 ≡ nextEnd (tableSeparator ws t) k from → e0 < length k → Missing (itemTotal ws) (itemOf ws ar) t (take e0 k)
+    pub gone-far : (from e0 : ℕ) → from ≤ length k → from < e0 → e0 ≡ nextEnd (tableSeparator ws t) k from → e0 < length k → Missing (itemTotal ws) (itemOf ws ar) t (take e0 k)
         → (e : ℕ) → e0 < e → e ≤ length k → Missing (itemTotal ws) (itemOf ws ar) t (take e k)
     gone-far from e0 h up is u missing e l top i below a b =
         let size : length (itemOf ws ar i .key) ≡ e = ap length b ∙ length-take-le e k top in
@@ -157,7 +157,7 @@ module _ (g : ℕ → Table) (ws ar : List ℕ) (t : ℕ) (k : List ℕ) (G : �
         let found = good .right .closed i below e0 (omega arith) (omega arith) at-sep in
         missing (found .index) (found .below) (found .of-table ∙ a) (found .has-key ∙ ap (take e0) b ∙ take-take e0 e k (omega arith))
 
-    gone-all : (w : Way) → OnWay (itemTotal ws) (itemOf ws ar) t (tableSeparator ws t) k w → w .clear ≡ true → Missing (itemTotal ws) (itemOf ws ar) t k
+    pub gone-all : (w : Way) → OnWay (itemTotal ws) (itemOf ws ar) t (tableSeparator ws t) k w → w .clear ≡ true → Missing (itemTotal ws) (itemOf ws ar) t k
         → (e : ℕ) → nextEnd (tableSeparator ws t) k (w .from) ≤ e → e ≤ length k → Missing (itemTotal ws) (itemOf ws ar) t (take e k)
     gone-all w on clear missing e l top = by-end (decLt (nextEnd (tableSeparator ws t) k (w .from)) (length k)) (decLt (nextEnd (tableSeparator ws t) k (w .from)) e)
       where

@@ -11,7 +11,7 @@ use lib.ListN.{length, drop, length-drop}
 use lib.Seq.{length-take-le}
 use Rattle.words.specs.Choice.{pick}
 use Rattle.words.specs.Hash.{hashOf}
-use Rattle.words.proofs.ChoiceLaws.{both}
+use Rattle.words.proofs.ChoiceLaws.{both, pick-with}
 use Rattle.text.specs.Compare.{sameBytes}
 use Rattle.text.proofs.CompareLaws.{same-equal, same-refl}
 use Rattle.memory.specs.Memory.{buckets, itemTotal, itemTable, itemHash, itemOlder, keyStart, keySize, keyOf, memory}
@@ -66,6 +66,12 @@ with-miss p none (suc m) l h i u = by-test (p m) refl (with-miss p none m (omega
         by-last : (r : Bool) → eqb i m ≡ r → p i ≡ false
         by-last true f = ap p (eqb-true i m f) ∙ e
         by-last false f = let ne = eqb-false i m f in ih g i (omega arith)
+
+with-within : (p : ℕ → Bool) (none m : ℕ) → m ≤ none → lastWith p none m ≤ none
+unfolding lastWith
+with-within p none zero h = omega arith
+with-within p none (suc m) h =
+    pick-with (λ (x : ℕ). x ≤ none) (p m) m (lastWith p none m) (λ e. omega arith) (λ e. with-within p none m (omega arith))
 
 module _ (p : ℕ → Bool) (older bucket : ℕ → ℕ) (none b : ℕ) where
   -- down the chain of a bucket that all that pass are in
@@ -139,3 +145,6 @@ module _ (ws ar : List ℕ) (tidy : Tidy ws ar) where
     find-missing h i l et ek =
         let e = with-miss right (itemTotal ws) (itemTotal ws) (omega arith) (subst (λ (x : ℕ). itemTotal ws ≤ x) find-last h) i l in
         false-true (sym e ∙ passing i l et ek)
+
+    pub find-within : findKey ws ar t k ≤ itemTotal ws
+    find-within = subst (λ (x : ℕ). x ≤ itemTotal ws) (sym find-last) (with-within right (itemTotal ws) (itemTotal ws) (omega arith))

@@ -9,3 +9,10 @@ pub mod Calls
 pub mod Value
 pub mod Nest
 pub mod History
+pub mod Meaning
+pub mod Found
+pub mod Walking
+pub mod Same
+pub mod Alike
+pub mod Model
+pub mod Height

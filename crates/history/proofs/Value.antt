@@ -104,48 +104,48 @@ module _ (ws ar : List ℕ) (sep : ℕ) (honest : Honest ws ar) (few : tableTota
   abbrev first : List ℕ
   first = putAt ws (tableAt (tableTotal ws)) row
 
-  abbrev tabled : List ℕ
+  abbrev pub tabled : List ℕ
   tabled = putAt first 2 ((tableTotal ws + 1) ∷ [])
 
   first-length : length first ≡ length ws
   first-length = let s = honest .tidy .sound-memory in length-put ws (tableAt (tableTotal ws)) row
 
   -- a word before the new table, the count left aside
-  kept-low : (p : ℕ) → p < tableAt (tableTotal ws) → (p ≡ 2 → ⊥) → word tabled p ≡ word ws p
+  pub kept-low : (p : ℕ) → p < tableAt (tableTotal ws) → (p ≡ 2 → ⊥) → word tabled p ≡ word ws p
   kept-low p h ne = by-side (decLt p 2) ∙ (let s = honest .tidy .sound-memory in get-before ws (tableAt (tableTotal ws)) row p h)
     where
       by-side : Dec (p < 2) → word tabled p ≡ word first p
       by-side (yes l) = let s = honest .tidy .sound-memory in get-before first 2 ((tableTotal ws + 1) ∷ []) p l
       by-side (no l) = let s = honest .tidy .sound-memory in get-after first 2 ((tableTotal ws + 1) ∷ []) p (omega arith)
 
-  kept-high : (p : ℕ) → 264 ≤ p → word tabled p ≡ word ws p
+  pub kept-high : (p : ℕ) → 264 ≤ p → word tabled p ≡ word ws p
   kept-high p h =
       let s = honest .tidy .sound-memory in
       get-after first 2 ((tableTotal ws + 1) ∷ []) p (omega arith)
       ∙ get-after ws (tableAt (tableTotal ws)) row p (omega arith)
 
-  two : tableTotal tabled ≡ tableTotal ws + 1
+  pub two : tableTotal tabled ≡ tableTotal ws + 1
   two = let s = honest .tidy .sound-memory in get-put first 2 ((tableTotal ws + 1) ∷ []) 0 (omega (arith, first-length)) (omega arith)
 
-  three : itemTotal tabled ≡ itemTotal ws
+  pub three : itemTotal tabled ≡ itemTotal ws
   three = kept-low 3 (omega arith) (λ (e : 3 ≡ 2). omega arith)
 
-  size : length tabled ≡ length ws
+  pub size : length tabled ≡ length ws
   size = let s = honest .tidy .sound-memory in length-put first 2 ((tableTotal ws + 1) ∷ []) ∙ first-length
 
-  loose : word tabled (tableAt (tableTotal ws) + 1) ≡ 0
+  pub loose : word tabled (tableAt (tableTotal ws) + 1) ≡ 0
   loose =
       let s = honest .tidy .sound-memory in
       get-after first 2 ((tableTotal ws + 1) ∷ []) (tableAt (tableTotal ws) + 1) (omega arith)
       ∙ get-put ws (tableAt (tableTotal ws)) row 1 (omega arith) (omega arith)
 
-  mark : word tabled (tableAt (tableTotal ws) + 0) ≡ sep
+  pub mark : word tabled (tableAt (tableTotal ws) + 0) ≡ sep
   mark =
       let s = honest .tidy .sound-memory in
       get-after first 2 ((tableTotal ws + 1) ∷ []) (tableAt (tableTotal ws) + 0) (omega arith)
       ∙ get-put ws (tableAt (tableTotal ws)) row 0 (omega arith) (omega arith)
 
-  same-table : (t : ℕ) → t < tableTotal ws → tableOf tabled t ≡ tableOf ws t
+  pub same-table : (t : ℕ) → t < tableTotal ws → tableOf tabled t ≡ tableOf ws t
   same-table t l =
       table-same ws tabled t (kept-low (tableAt t + 0) (omega arith) (λ (e : tableAt t + 0 ≡ 2). omega arith))
       (kept-low (tableAt t + 1) (omega arith) (λ (e : tableAt t + 1 ≡ 2). omega arith)) (kept-low (tableAt t + 2) (omega arith) (λ (e : tableAt t + 2 ≡ 2). omega arith))
@@ -170,7 +170,7 @@ module _ (ws ar : List ℕ) (sep : ℕ) (honest : Honest ws ar) (few : tableTota
             omega arith)));
       }
 
-sep-domain : (s : List ℕ) → separatorOf s < 256 → separatorOf s ≤ 127
+pub sep-domain : (s : List ℕ) → separatorOf s < 256 → separatorOf s ≤ 127
 unfolding separatorOf pick
 sep-domain [] h = let z : 256 < 256 = h in absurd (omega arith)
 sep-domain (b ∷ []) h = by-test (leb b 127) refl
