@@ -73,6 +73,18 @@ fn key_at(file: &[u8], start: u32, end: u32, position: usize) -> Result<Vec<u8>,
     Ok(listed)
 }
 
+/// A table and every table nested in it pass the check.
+fn sound(file: &[u8], start: u32, end: u32) {
+    assert_eq!(check(file, start, end).number, 0, "a table of the image is not sound");
+    for i in 0..open(file, start, end).items as usize {
+        let key = key_at(file, start, end, i).expect("a key");
+        let nested = get_table(file, start, end, &key);
+        if nested.number == 0 {
+            sound(file, nested.start, nested.end);
+        }
+    }
+}
+
 /// Room that no list uses up.
 const ROOM: usize = 1 << 22;
 
@@ -186,7 +198,7 @@ impl State {
         let mut short = vec![GUARD; length - 1];
         assert_eq!(builder.write(table, &mut short).number, 31);
         assert!(short.iter().all(|b| *b == GUARD), "31 wrote");
-        assert_eq!(check(&image[..length], answer.start, answer.end).number, 0, "the image is not sound");
+        sound(&image[..length], answer.start, answer.end);
         let theirs = said.strip_prefix("ok ").map(unhex).unwrap_or_default();
         let head = &theirs[..24.min(theirs.len())];
         format!("ok {}", hex(&[head, &image[24..length]].concat()))

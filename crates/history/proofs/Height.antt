@@ -3,23 +3,22 @@ use Prim.Native.Nat.{ℕ, zero, suc, _+_, _≤_, _<_}
 use native.Mathlib.Nat.{not-suc-le-zero}
 use native.Mathlib.Numerals.{add-one}
 use native.Mathlib.Omega.{arith}
-use mathlib.Core.Path.{_≡_, refl, sym, ap, _∙_, subst}
+use mathlib.Core.Path.{_≡_, refl, sym, ap, _∙_}
 use mathlib.Core.Bool.{Bool, true, false, _&&_}
 use mathlib.Core.List.{List}
 use borrow.Author.Tests.{eqb-true, eqb-false, eq-eqb, ne-eqb, ltb-true, lt-ltb, le-ltb}
 use lib.Dec.{eqb, ltb}
-use lib.ListN.{length}
 use Rattle.words.specs.Choice.{pick}
 use Rattle.words.proofs.ChoiceLaws.{both, both-hold}
-use Rattle.model.specs.Table.{Content, Entry, entryAt}
+use Rattle.model.specs.Table.{Content, Entry}
 use Rattle.model.specs.Builder.{most, heldBy}
 use Rattle.model.specs.Builder as told
 use Rattle.memory.specs.Memory.{tableTotal, itemTotal, valueKind, tableKind}
 use Rattle.memory.specs.Meaning.{meaning}
 use Rattle.nest.specs.Nest.{heldHeight}
-use Rattle.history.specs.Items.{Item, itemOf, Table, tableOf}
-use Rattle.history.specs.Right.{Right, heldItem, heldIn}
-use Rattle.history.specs.Honest.{Good, Honest}
+use Rattle.history.specs.Items.{Item, itemOf, tableOf}
+use Rattle.history.specs.Right.{heldItem, heldIn}
+use Rattle.history.specs.Honest.{Honest}
 use Rattle.history.proofs.Index.{false-true}
 use Rattle.history.proofs.Right.{most-cong, item-cong}
 use Rattle.history.proofs.Nest.{held-is}

@@ -16,3 +16,4 @@ pub mod Same
 pub mod Alike
 pub mod Model
 pub mod Height
+pub mod Nested

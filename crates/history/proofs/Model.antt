@@ -10,7 +10,7 @@ use Rattle.text.specs.Utf8.{isUtf8}
 use Rattle.layout.specs.declared.refusal.Refusal.{Refusal}
 use Rattle.model.specs.declared.Inserted.{Inserted}
 use Rattle.model.specs.Builder.{mostTables, longestKey, separatorOf}
-use Rattle.memory.specs.Memory.{tableTotal, itemTotal, roomUsed, tableSeparator, tablePlaced, itemTable, valueKind, memory, Outcome}
+use Rattle.memory.specs.Memory.{leastWords, freshWords, tableTotal, itemTotal, roomUsed, tableSeparator, tablePlaced, itemTable, valueKind, memory, Outcome}
 use Rattle.memory.specs.Item.{stored}
 use Rattle.tables.specs.Table.{takes, addTable, newTable, unnumbered}
 use Rattle.tables.proofs.TableLaws.{takes-facts}
@@ -183,3 +183,11 @@ table-alike ws ar separator honest =
           meaning-added ws ar (separatorOf separator) honest (leb-false mostTables (tableTotal ws) b) (sep-domain separator)
           ∙ builder-same (sym (meant-sizes ws ar .1)) (sym (meant-sizes ws ar .0)) refl refl;
     }))))
+
+-- ---- the fresh start is an empty builder
+
+pub fresh-alike : (ws ar : List ℕ) → leastWords ≤ length ws → meaning (freshWords ws (length ar)) ar ≡ told.fresh (length ar)
+unfolding meaning listed
+fresh-alike ws ar long =
+    let w = freshWords ws (length ar) in
+    builder-same refl (low.fresh-word ws ar long 4 (omega arith)) (ap (listed (shelfOf w)) (low.fresh-two ws ar long)) (ap (listed (entryOf w ar)) (low.fresh-three ws ar long))

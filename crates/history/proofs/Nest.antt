@@ -113,14 +113,14 @@ by-case ws ar t k G h x (Inserted.Refused why) f g = g refl refl
 module _ (ws ar : List ℕ) (honest : Honest ws ar) (t : ℕ) (k : List ℕ) (G : ℕ) (known : t < tableTotal ws) (free : tablePlaced ws t ≡ 0)
     (guest-known : G < tableTotal ws) (guest-free : tablePlaced ws G ≡ 0) (two : t ≡ G → ⊥)
     (text : isUtf8 k ≡ true) (short : length k ≤ 1024) (bytes : isBytes k ≡ true) where
-  abbrev h : ℕ
+  abbrev pub h : ℕ
   h = heldHeight ws G + 1
 
-  abbrev o : Outcome Inserted
+  abbrev pub o : Outcome Inserted
   o = insertWalked ws ar t k (stored tableKind [] G) (ltb deepest (h + 1))
 
   -- no item holds the guest
-  alone : (i : ℕ) → i < itemTotal ws → itemOf ws ar i .kind ≡ 72 → itemOf ws ar i .guest ≡ G → ⊥
+  pub alone : (i : ℕ) → i < itemTotal ws → itemOf ws ar i .kind ≡ 72 → itemOf ws ar i .guest ≡ G → ⊥
   alone i l a b =
       let r = honest .right .guests i l a in
       let z : _≡_ {A = ℕ} 1 0 = sym (r .1) ∙ ap (λ (x : ℕ). tableOf ws x .placed) b ∙ placed-word ws G ∙ guest-free in
@@ -143,18 +143,18 @@ module _ (ws ar : List ℕ) (honest : Honest ws ar) (t : ℕ) (k : List ℕ) (G 
   abbrev placed-guest : Table
   placed-guest = record { sep = tableSeparator ws G; placed = 1; height = h }
 
-  g′ : ℕ → Table
+  pub g′ : ℕ → Table
   g′ x = pick (eqb x G) placed-guest (tableOf ws x)
 
-  g-own : g′ G ≡ placed-guest
+  pub g-own : g′ G ≡ placed-guest
   unfolding g′ pick
   g-own = simp (eq-eqb G G refl)
 
-  g-other : (x : ℕ) → (x ≡ G → ⊥) → g′ x ≡ tableOf ws x
+  pub g-other : (x : ℕ) → (x ≡ G → ⊥) → g′ x ≡ tableOf ws x
   unfolding g′ pick
   g-other x ne = simp (ne-eqb x G ne)
 
-  g-sep : (x : ℕ) → g′ x .sep ≡ tableOf ws x .sep
+  pub g-sep : (x : ℕ) → g′ x .sep ≡ tableOf ws x .sep
   g-sep x = by-test (eqb x G) refl
     where
       by-test : (q : Bool) → eqb x G ≡ q → g′ x .sep ≡ tableOf ws x .sep
@@ -164,7 +164,7 @@ module _ (ws ar : List ℕ) (honest : Honest ws ar) (t : ℕ) (k : List ℕ) (G 
       by-test false e = ap (λ (y : Table). y .sep) (g-other x (eqb-false x G e))
 
   module _ (shallow : heldHeight ws G < 7) where
-    good : Good g′ ws ar
+    pub good : Good g′ ws ar
     good =
         record {
           tidy = honest .tidy;
@@ -172,7 +172,7 @@ module _ (ws ar : List ℕ) (honest : Honest ws ar) (t : ℕ) (k : List ℕ) (G 
               (λ x l ne. g-other x ne) (λ x l. g-sep x) (ap (λ (y : Table). y .placed) g-own) (ap (λ (y : Table). y .height) g-own) lower (ap (λ (x : ℕ). x + 1) (held-is ws ar honest G));
         }
 
-    after : After g′ ws ar t k (stored tableKind [] G) o
+    pub after : After g′ ws ar t k (stored tableKind [] G) o
     after =
         walked-after g′ ws ar t k G (g-sep t ∙ sep-same ws t)
         (λ p. let z : _≡_ {A = ℕ} 1 0 = sym p ∙ ap (λ (y : Table). y .placed) (g-other t two) ∙ placed-word ws t ∙ free in omega arith)

@@ -32,7 +32,8 @@ sub-number-at : tie.Need-sub-number-at Inv-loop μ-loop
 sub-number-at c = omega (arith, c .before .before .before .before .before .before .before .pre .1 .1 (c .before .before .loop .j) (omega arith))
 
 number-at-requires : tie.Need-number-at-requires Inv-loop μ-loop
-number-at-requires c κs = (search needs, omega arith, search needs)
+number-at-requires c κs =
+    (search needs, omega (arith, c .before .before .before .before .before .before .before .pre .1 .1 (c .before .before .loop .j) (omega arith)), search needs)
 
 add-sheet : tie.Need-add-sheet Inv-loop μ-loop
 add-sheet c = search needs
