@@ -9,6 +9,8 @@ pub mod Calls
 pub mod Value
 pub mod Nest
 pub mod History
+pub mod Sentences
+pub mod Others
 pub mod Meaning
 pub mod Found
 pub mod Walking
