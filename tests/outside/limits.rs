@@ -196,7 +196,102 @@ fn garbage() {
     println!("3000 tampered memories: {written} written and sound, {broken} refused with 29");
 }
 
+/// Where the words of item i stand.
+fn item(i: usize, field: usize) -> usize {
+    1288 + 12 * i + field
+}
+
+/// Each rule that a write judges, broken by one word: 29, and nothing is written.
+fn tampered() {
+    let mut honest = room(4096, SLASH);
+    honest.new_table(&[]);
+    for key in [&b"a/b"[..], b"a/c", b"d"] {
+        insert(&mut honest, 0, key, b"value");
+    }
+    insert(&mut honest, 1, b"x", b"value");
+    put(&mut honest, 0, b"t", 1);
+    assert_eq!(honest.write(0, &mut [0; 999]).number, 0);
+    let holder = 5;
+    assert_eq!(honest.words[item(holder, 6)], 72);
+    let broken = [
+        (item(0, 0), 2),
+        (item(0, 1), 7),
+        (item(1, 3), 4000),
+        (item(1, 4), 1025),
+        (item(1, 3), usize::MAX),
+        (item(0, 5), 2),
+        (item(1, 5), 4),
+        (item(2, 6), 0),
+        (item(2, 7), 5000),
+        (item(2, 8), usize::MAX),
+        (item(holder, 9), 2),
+        (item(holder, 9), 0),
+        (item(2, 6), 72),
+        (8 + 4 + 1, 0),
+        (8 + 4 + 2, 0),
+        (8 + 4 + 2, 8),
+        (13576, 0),
+        (14599, 1),
+        (2, 65),
+        (3, 1025),
+        (4, 4097),
+        (0, 14601),
+        (1, 4095),
+    ];
+    for (at, word) in broken {
+        let mut b = honest.clone();
+        b.words[at] = word;
+        let mut image = vec![0xA5; 999];
+        assert_eq!(b.write(0, &mut image).number, 29, "word {at} set to {word}");
+        assert!(image.iter().all(|byte| *byte == 0xA5), "a refusal wrote");
+    }
+
+    // eight tables of 128 items that each name the next: refused at once, and not after 128^8 steps
+    let mut b = Builder::fresh(1 << 16);
+    for t in 0..8 {
+        b.new_table(&[]);
+        for i in 0..128 {
+            assert_eq!(insert(&mut b, t, format!("{i}").as_bytes(), b"").0, 0);
+        }
+    }
+    for i in 0..1024 {
+        if i / 128 < 7 {
+            b.words[item(i, 6)] = 72;
+            b.words[item(i, 9)] = i / 128 + 1;
+        }
+    }
+    for t in 1..8 {
+        b.words[8 + 4 * t + 1] = 1;
+        b.words[8 + 4 * t + 2] = 8 - t;
+    }
+    assert_eq!(b.write(0, &mut [0; 999]).number, 29);
+}
+
+/// An image of just 16,777,216 bytes, and one byte more in a larger buffer; 30 comes before 31, deep in a nest too.
+fn longest() {
+    const MOST: usize = 16_777_216;
+    let mut image = vec![0xA5; MOST + 64];
+    for (size, number) in [(MOST - 64, 0), (MOST - 63, 31)] {
+        let mut b = room(MOST, &[]);
+        assert_eq!(insert(&mut b, 0, b"a", &vec![7; size]).0, 0);
+        let written = b.write(0, &mut image);
+        assert_eq!((written.number, written.length as usize), (number, if number == 0 { MOST } else { 0 }));
+    }
+    assert!(image[MOST..].iter().all(|byte| *byte == 0xA5));
+    let mut b = room(2 * MOST, &[]);
+    b.new_table(&[]);
+    b.new_table(&[]);
+    assert_eq!(insert(&mut b, 0, b"a", &vec![7; MOST]).0, 0);
+    assert_eq!(b.write(0, &mut image).number, 31);
+    insert(&mut b, 2, b"", b"");
+    assert_eq!((put(&mut b, 1, b"t", 2), put(&mut b, 0, b"t", 1)), ((0, 0), (0, 0)));
+    assert_eq!(b.write(0, &mut image).number, 30);
+    assert_eq!((b.write(1, &mut image).number, b.write(3, &mut image).number), (24, 24));
+}
+
 fn main() {
+    tampered();
+    longest();
     keys_and_items();
     arena();
     tables_and_separators();
