@@ -9,8 +9,6 @@ pub mod Calls
 pub mod Value
 pub mod Nest
 pub mod History
-pub mod Sentences
-pub mod Others
 pub mod Meaning
 pub mod Found
 pub mod Walking
@@ -19,3 +17,5 @@ pub mod Alike
 pub mod Model
 pub mod Height
 pub mod Nested
+pub mod Sentences
+pub mod Others

@@ -1,6 +1,7 @@
 -- What document 01 says of the builder in words, for every memory that calls reach. Assumes nothing.
-use Prim.Native.Nat.{ℕ, _-_, _≤_, _<_}
-use mathlib.Core.Path.{_≡_}
+use Prim.Native.Nat.{ℕ, suc, _+_, _-_, _≤_, _<_}
+use mathlib.Core.Path.{_≡_, sym, ap, _∙_}
+use native.Mathlib.Numerals.{add-one}
 use mathlib.Core.Bool.{false}
 use mathlib.Core.List.{List}
 use lib.ListN.{length, take, getD}
@@ -9,13 +10,17 @@ use borrow.Author.Tests.{ne-eqb}
 use native.Mathlib.Omega.{arith}
 use mathlib.Core.Bool.{and-false}
 use Rattle.memory.specs.Memory.{tableTotal, itemTotal, tableSeparator, tablePlaced, itemTable, itemKind, itemGuest, keyOf}
+use Rattle.memory.specs.Meaning.{meaning}
+use Rattle.model.specs.Builder.{deepest, height}
 use Rattle.tables.specs.Table.{takes}
+use Rattle.nest.specs.Nest.{heldHeight}
 use Rattle.build.specs.Insert.{insertValue}
 use Rattle.build.specs.Answer.{insertedNumber}
 use Rattle.build.proofs.AnswerLaws.{value-24}
 use Rattle.history.specs.Items.{itemOf, tableOf}
 use Rattle.history.specs.Right.{There, Parent}
 use Rattle.history.specs.Reached.{Reached}
+use Rattle.history.proofs.Height.{height-same}
 use Rattle.history.proofs.History.{reached-honest, reached-sound}
 
 module _ (ws ar : List ℕ) (reached : Reached ws ar) where
@@ -50,3 +55,10 @@ module _ (ws ar : List ℕ) (reached : Reached ws ar) where
   placed-frozen t key value placed =
       let no-room : takes ws t ≡ false = rw (ne-eqb (tablePlaced ws t) 0 (λ e. omega arith)) (and-false (ltb t (tableTotal ws))) in
       value-24 ws ar t key value (reached-sound ws ar reached) no-room
+
+  -- 26 is judged by the height: 1 for a table that holds none, else 1 plus the greatest height held; the receiver would be one higher
+  pub deep-by-height : (guest : ℕ) → guest < tableTotal ws → tablePlaced ws guest ≡ 0
+      → ltb deepest (heldHeight ws guest + 1 + 1) ≡ ltb deepest (suc (height (meaning ws ar) guest))
+  unfolding tableOf
+  deep-by-height guest known loose =
+      ap (ltb deepest) (add-one (heldHeight ws guest + 1) ∙ ap suc (sym (height-same ws ar (reached-honest ws ar reached) guest known loose)))
