@@ -75,7 +75,7 @@ extern "C" {
     fn gvdb_insert(words: *mut usize, count: usize, arena: *mut u8, room: usize, table: u32, key: *const u8, length: usize, value: *const u8, size: usize) -> Inserted;
     fn gvdb_insert_table(words: *mut usize, count: usize, arena: *mut u8, room: usize, table: u32, key: *const u8, length: usize, guest: u32) -> Inserted;
     fn gvdb_item_count(words: *const usize, count: usize, arena: *const u8, room: usize, table: u32) -> Count;
-    fn gvdb_write(words: *const usize, count: usize, arena: *const u8, room: usize, table: u32, image: *mut u8, size: usize) -> Image;
+    fn gvdb_write(words: *mut usize, count: usize, arena: *const u8, room: usize, table: u32, image: *mut u8, size: usize) -> Image;
     fn gvdb_check(file: *const u8, size: usize, start: u32, end: u32) -> Check;
     fn gvdb_get(file: *const u8, size: usize, start: u32, end: u32, key: *const u8, length: usize) -> Place;
     fn gvdb_get_table(file: *const u8, size: usize, start: u32, end: u32, key: *const u8, length: usize) -> Place;
@@ -141,7 +141,7 @@ impl Builder {
         unsafe { gvdb_item_count(self.words.as_ptr(), self.words.len(), self.arena.as_ptr(), self.arena.len(), table) }
     }
 
-    pub fn write(&self, table: u32, image: &mut [u8]) -> Image {
-        unsafe { gvdb_write(self.words.as_ptr(), self.words.len(), self.arena.as_ptr(), self.arena.len(), table, image.as_mut_ptr(), image.len()) }
+    pub fn write(&mut self, table: u32, image: &mut [u8]) -> Image {
+        unsafe { gvdb_write(self.words.as_mut_ptr(), self.words.len(), self.arena.as_ptr(), self.arena.len(), table, image.as_mut_ptr(), image.len()) }
     }
 }

@@ -15,15 +15,17 @@ pub struct GvdbImage {
     pub length: u32,
 }
 
-// The image of a table, laid into the front of `image`. The builder stays as it was; a refusal writes nothing.
+// The image of a table, laid into the front of `image`. The builder stays as it was (its link words are used and emptied again); a
+// refusal writes nothing.
 #[no_mangle]
 pub extern "C" fn gvdb_write(
-    words: &[usize],
+    words: &mut [usize],
     arena: &[u8],
     table: u32,
     image: &mut [u8],
 ) -> GvdbImage
     ensures said { λ r. ⌜ r ≡ writtenAnswer (writeAnswer (now (words .entry)) (now (arena .entry)) table (length (now (image .entry)))) ⌝ }
+    ensures kept { λ _. ⌜ now (words .exit) ≡ now (words .entry) ⌝ }
     ensures wrote { λ _. ⌜ now (image .exit) ≡ imageAfter (now (words .entry)) (now (arena .entry)) table (now (image .entry)) ⌝ }
 {
     match write::write::write(words, arena, table, image) {

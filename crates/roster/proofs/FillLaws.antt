@@ -11,7 +11,7 @@ use lib.Seq.{getD-set-same, getD-set-other}
 use Rattle.words.specs.Hash.{plain}
 use Rattle.words.specs.Store.{putAt}
 use Rattle.words.proofs.StoreLaws.{get-put, get-before}
-use Rattle.model.specs.Table.{Has, times}
+use Rattle.model.specs.Table.{Has}
 use Rattle.model.specs.Builder.{mostItems}
 use Rattle.memory.specs.Memory.{itemTotal, itemTable}
 use Rattle.image.specs.Number.{hashesOf, bucketStart, byNumber, itemOf, numberOf}

@@ -1,26 +1,26 @@
 -- The roster is what was filled, its parts one behind the other. Assumes nothing.
 use Prim.Native.Nat.{ℕ, _+_, _*_, _≤_, _<_}
 use native.Mathlib.Omega.{arith}
-use mathlib.Core.Path.{_≡_, refl, sym, ap, _∙_}
+use mathlib.Core.Path.{_≡_, ap, _∙_}
 use mathlib.Core.Bool.{true}
 use mathlib.Core.List.{List}
 use lib.ListN.{length, getD, take}
 use lib.Seq.{take-all}
 use Rattle.words.specs.Hash.{plain}
 use Rattle.words.specs.Store.{putAt}
-use Rattle.words.proofs.StoreLaws.{length-put, get-put, get-before, get-after}
+use Rattle.words.proofs.StoreLaws.{length-put, get-put, get-before}
 use Rattle.model.specs.Builder.{mostTables, mostItems}
 use Rattle.memory.specs.Memory.{itemTotal, itemTable}
 use Rattle.image.specs.Number.{hashesOf, bucketStart, itemOf, numberOf}
 use Rattle.whole.specs.Whole.{wholeSound}
 use Rattle.whole.proofs.WholeFacts.{whole-facts}
 use Rattle.roster.specs.Roster.{stateOf, firstSlot, slotCount, slotItem, itemNumber, bucketWord, Rostered}
-use Rattle.roster.specs.Fill.{owned, slotOf, Fit, Sized, Filled}
+use Rattle.roster.specs.Fill.{slotOf, Fit, Sized, Filled}
 use Rattle.roster.proofs.OwnLaws.{slot-few}
 use Rattle.roster.proofs.StateLaws.{state-members}
 
 pub whole-fit : (ws ar : List ℕ) → wholeSound ws ar ≡ true → Fit ws
-whole-fit ws ar e = let f = whole-facts ws ar e .facts in record { long = f .long; few = f .items }
+whole-fit ws ar e = let w = whole-facts ws ar e in record { long = w .facts .long; few = w .facts .items; empty = w .link }
 
 module _ (heads slots numbers buckets r r1 r2 r3 r4 : List ℕ) (long : length r ≡ 3200) (head : length heads ≡ 128) (size : Sized slots numbers buckets)
     (e1 : r1 ≡ putAt r 0 (take 128 heads)) (e2 : r2 ≡ putAt r1 128 (take 1024 slots)) (e3 : r3 ≡ putAt r2 1152 (take 1024 numbers))

@@ -2,7 +2,7 @@
 use Prim.Native.Nat.{ℕ, zero, suc, _+_, _≤_, _<_}
 use native.Mathlib.Nat.{eq-or-lt-of-le, le-of-suc-le-suc}
 use native.Mathlib.Omega.{arith}
-use mathlib.Core.Path.{_≡_, refl, sym, ap, _∙_}
+use mathlib.Core.Path.{_≡_, refl, ap, _∙_}
 use mathlib.Core.Bool.{Bool}
 use mathlib.Core.Logic.{⊎-elim}
 use mathlib.Core.List.{List, [], _∷_, _++_}
@@ -11,9 +11,9 @@ use lib.ListN.{length, getD, length-append, List·getD-append}
 use lib.Seq.{getD-at}
 use Rattle.words.specs.Choice.{pick}
 use Rattle.model.specs.Table.{Entry, Has, times, entryAt, membersBelow, rowsOf}
-use Rattle.memory.specs.Memory.{leastWords, itemTotal, itemTable, keyOf}
+use Rattle.memory.specs.Memory.{itemTotal, itemTable, keyOf}
 use Rattle.memory.specs.Meaning.{entryOf, listed, meaning}
-use Rattle.order.specs.Key.{recordAt, keyAt, Known}
+use Rattle.order.specs.Key.{keyAt, Known}
 use Rattle.roster.specs.Roster.{stateOf}
 use Rattle.roster.specs.Fill.{own, owned, Fit}
 use Rattle.roster.proofs.OwnLaws.{length-own, own-below, own-once}

@@ -1,19 +1,18 @@
 -- Laws of one table's steps: collected, sorted, numbered. Assumes nothing.
-use Prim.Native.Nat.{ℕ, _+_, _≤_, _<_}
+use Prim.Native.Nat.{ℕ, _≤_}
 use native.Mathlib.Omega.{arith}
-use mathlib.Core.Path.{_≡_, refl, sym, ap, _∙_}
+use mathlib.Core.Path.{_≡_, sym, ap, _∙_}
 use mathlib.Core.List.{List}
-use lib.ListN.{length, getD, take, length-map}
-use lib.Seq.{length-take-le}
+use lib.ListN.{length, take, drop, length-drop, length-map}
+use lib.Seq.{length-take-le, getD-take, getD-drop}
 use Rattle.words.specs.Hash.{hashOf, plain}
 use Rattle.words.specs.Store.{putAt}
 use Rattle.words.proofs.StoreLaws.{part-put, length-put}
-use Rattle.model.specs.Table.{Rows, Has, times}
 use Rattle.image.specs.Number.{keyOrder, hashesOf, numbered, byNumber}
 use Rattle.image.proofs.OrderLaws.{length-order, times-order}
 use Rattle.image.proofs.NumberLaws.{length-hashes, places-each, length-by-number}
-use Rattle.order.specs.Key.{recordAt, keyAt, keyed, Known}
-use Rattle.order.specs.Chain.{starts}
+use Rattle.order.specs.Key.{keyAt, keyed, Known}
+use Rattle.order.specs.Chain.{Empty, starts}
 use Rattle.order.specs.Items.{AllBelow, hashesIn, itemsAt}
 use Rattle.order.proofs.KeyLaws.{order-keyed}
 use Rattle.order.proofs.ChainLaws.{length-starts}
@@ -32,6 +31,16 @@ length-hashes-in ws ar run = length-map run (λ (i : ℕ). hashOf (keyAt ws ar i
 
 pub hashes-front : (ws ar run h h′ : List ℕ) → length run ≤ length h → h′ ≡ putAt h 0 (hashesIn ws ar run) → take (length run) h′ ≡ hashesIn ws ar run
 hashes-front ws ar run h h′ room e = ap (take (length run)) e ∙ take-front h (hashesIn ws ar run) (length run) (length-hashes-in ws ar run) room
+
+-- ---- the links
+
+module _ (ws : List ℕ) (fit : Fit ws) where
+  pub links-long : length (take 1024 (drop 13576 ws)) ≡ 1024
+  links-long = length-take-le 1024 (drop 13576 ws) (omega (arith, length-drop 13576 ws, fit .long))
+
+  pub links-empty : Empty (take 1024 (drop 13576 ws))
+  unfolding Empty
+  links-empty i h = getD-take 1024 (drop 13576 ws) i 0 (omega (arith, links-long)) ∙ getD-drop 13576 ws i 0 ∙ fit .empty i (omega (arith, links-long))
 
 -- ---- collected, then sorted
 

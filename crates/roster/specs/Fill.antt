@@ -9,7 +9,7 @@ use Rattle.words.specs.Choice.{pick}
 use Rattle.words.specs.Hash.{plain}
 use Rattle.words.specs.Store.{putAt}
 use Rattle.model.specs.Builder.{mostItems}
-use Rattle.memory.specs.Memory.{leastWords, itemTotal, itemTable}
+use Rattle.memory.specs.Memory.{word, leastWords, links, linkAt, emptyMark, itemTotal, itemTable}
 use Rattle.image.specs.Number.{keyOrder, hashesOf, bucketStart, byNumber, itemOf, numberOf}
 use Rattle.order.specs.Chain.{starts}
 use Rattle.order.specs.Items.{numbersPut}
@@ -33,10 +33,11 @@ earlier ws n (suc t) = earlier ws n t + length (own ws t n)
 unfoldable pub slotOf : List ℕ → ℕ → ℕ
 slotOf ws t = earlier ws (itemTotal ws) t
 
--- the words have room for all items that they count
+-- the words have room for all items that they count, and their links hold the empty mark
 pub record Fit (ws : List ℕ) : Type 0 where
   pub long : leastWords ≤ length ws
   pub few : itemTotal ws ≤ mostItems
+  pub empty : (j : ℕ) → j < links → word ws (linkAt j) ≡ emptyMark
 
 -- the items of table t are collected
 pub record Collected (ws : List ℕ) (t n : ℕ) (out out′ : List ℕ) : Type 0 where

@@ -6,7 +6,7 @@ ghost use Prim.Native.Nat.{_+_, _≤_};
 ghost use mathlib.Core.Bool.{true};
 ghost use lib.ListN.{length, take};
 ghost use Rattle.words.specs.Store.{putAt};
-ghost use Rattle.model.specs.Builder.{mostItems, mostTables};
+ghost use Rattle.model.specs.Builder.{mostTables};
 ghost use Rattle.whole.specs.Whole.{wholeSound};
 ghost use Rattle.roster.specs.Roster.{rosterSize, Rostered};
 ghost use Rattle.roster.specs.Fill.{Fit, Fits, Sized, Put, Filled};
@@ -25,7 +25,7 @@ fn copy_first(src: &[usize], n: usize, out: &mut [usize], at: usize)
 
 // Puts what is known of table t into its slots, which start at `first`. Answers how many items it has.
 fn put_table(
-    words: &[usize],
+    words: &mut [usize],
     arena: &[u8],
     t: usize,
     first: usize,
@@ -35,6 +35,7 @@ fn put_table(
 ) -> usize
     requires { ⌜ Fit (now words) × Fits (now words) t first ⌝ }
     requires { ⌜ Sized (now slots) (now numbers) (now buckets) ⌝ }
+    ensures { λ _. ⌜ now (words .exit) ≡ now (words .entry) ⌝ }
     ensures { λ r. ⌜ Put (now (words .entry)) (now (arena .entry)) t first r (now (slots .entry)) (now (slots .exit)) (now (numbers .entry)) (now (numbers .exit)) (now (buckets .entry)) (now (buckets .exit)) ⌝ }
 {
     let mut items = [0usize; 1024];
@@ -48,7 +49,7 @@ fn put_table(
 
 // Fills the slots of all tables, one behind the other; `heads` gets the first slot and the count of each.
 fn fill(
-    words: &[usize],
+    words: &mut [usize],
     arena: &[u8],
     heads: &mut [usize],
     slots: &mut [usize],
@@ -57,6 +58,7 @@ fn fill(
 )
     requires { ⌜ Fit (now words) × (length (now heads) ≡ mostTables + mostTables) ⌝ }
     requires { ⌜ Sized (now slots) (now numbers) (now buckets) ⌝ }
+    ensures { λ _. ⌜ now (words .exit) ≡ now (words .entry) ⌝ }
     ensures { λ _. ⌜ Filled (now (words .entry)) (now (arena .entry)) mostTables (now (heads .exit)) (now (slots .exit)) (now (numbers .exit)) (now (buckets .exit)) ⌝ }
 {
     let mut t = 0;
@@ -70,10 +72,11 @@ fn fill(
     }
 }
 
-// The roster of all tables.
-pub fn roster_all(words: &[usize], arena: &[u8], roster: &mut [usize])
+// The roster of all tables. The words are used for links, and are as they were.
+pub fn roster_all(words: &mut [usize], arena: &[u8], roster: &mut [usize])
     requires { ⌜ wholeSound (now words) (now arena) ≡ true ⌝ }
     requires { ⌜ length (now roster) ≡ rosterSize ⌝ }
+    ensures { λ _. ⌜ now (words .exit) ≡ now (words .entry) ⌝ }
     ensures { λ _. ⌜ Rostered (now (words .entry)) (now (arena .entry)) (now (roster .exit)) ⌝ }
 {
     let mut heads = [0usize; 128];

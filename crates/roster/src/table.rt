@@ -1,6 +1,7 @@
 // The items of one table by their numbers, and the words of its buckets.
 use crate::collect::in_order;
-use memory::place::EMPTY;
+use memory::place::LEAST_WORDS;
+use memory::place::LINKS_FROM;
 use order::items::hash_all;
 use order::items::items_at;
 use order::number::number;
@@ -15,35 +16,47 @@ ghost use Rattle.order.specs.Chain.{starts};
 ghost use Rattle.order.specs.Items.{hashesIn};
 ghost use Rattle.roster.specs.Fill.{Fit, Laid};
 
+// Numbers places by their hashes. The chains run through the links of the words, which hold the empty mark before and after.
+fn number_links(words: &mut [usize], hashes: &[usize], order: &mut [usize], firsts: &mut [usize])
+    requires { ⌜ Fit (now words) × (length (now hashes) ≤ mostItems) ⌝ }
+    requires { ⌜ (mostItems ≤ length (now order)) × (mostItems ≤ length (now firsts)) ⌝ }
+    ensures { λ _. ⌜ now (words .exit) ≡ now (words .entry) ⌝ }
+    ensures { λ _. ⌜ now (order .exit) ≡ putAt (now (order .entry)) 0 (numbered (now (hashes .entry))) ⌝ }
+    ensures { λ _. ⌜ now (firsts .exit) ≡ putAt (now (firsts .entry)) 0 (starts (now (hashes .entry))) ⌝ }
+{
+    number(hashes, &mut words[LINKS_FROM..LEAST_WORDS], order, firsts);
+}
+
 // Numbers the items of `run`: `order` gets the place of each number, `firsts` the first number of each bucket.
 fn number_run(
-    words: &[usize],
+    words: &mut [usize],
     arena: &[u8],
     run: &[usize],
     order: &mut [usize],
     firsts: &mut [usize],
 )
-    requires { ⌜ Known (now words) (now run) × (length (now run) ≤ mostItems) ⌝ }
+    requires { ⌜ Fit (now words) × Known (now words) (now run) × (length (now run) ≤ mostItems) ⌝ }
     requires { ⌜ (mostItems ≤ length (now order)) × (mostItems ≤ length (now firsts)) ⌝ }
+    ensures { λ _. ⌜ now (words .exit) ≡ now (words .entry) ⌝ }
     ensures { λ _. ⌜ now (order .exit) ≡ putAt (now (order .entry)) 0 (numbered (hashesIn (now (words .entry)) (now (arena .entry)) (now (run .entry)))) ⌝ }
     ensures { λ _. ⌜ now (firsts .exit) ≡ putAt (now (firsts .entry)) 0 (starts (hashesIn (now (words .entry)) (now (arena .entry)) (now (run .entry)))) ⌝ }
 {
     let n = run.len();
     let mut hashes = [0usize; 1024];
-    let mut links = [EMPTY; 1024];
     hash_all(words, arena, run, &mut hashes);
-    number(&hashes[..n], &mut links, order, firsts);
+    number_links(words, &hashes[..n], order, firsts);
 }
 
 // Puts the item of each number of table t to the front of `items`, and the word of each bucket to that of `firsts`. Answers how many.
 pub fn number_table(
-    words: &[usize],
+    words: &mut [usize],
     arena: &[u8],
     t: usize,
     items: &mut [usize],
     firsts: &mut [usize],
 ) -> usize
     requires { ⌜ Fit (now words) × (mostItems ≤ length (now items)) × (mostItems ≤ length (now firsts)) ⌝ }
+    ensures { λ _. ⌜ now (words .exit) ≡ now (words .entry) ⌝ }
     ensures { λ r. ⌜ Laid (now (words .entry)) (now (arena .entry)) t r (now (items .exit)) (now (firsts .exit)) ⌝ }
 {
     let mut run = [0usize; 1024];

@@ -1,11 +1,10 @@
 -- What the rules that a write judges say, as plain facts. Assumes nothing.
 use Prim.Native.Nat.{ℕ, _+_, _≤_, _<_}
 use mathlib.Core.Path.{_≡_}
-use mathlib.Core.Bool.{true, _&&_}
+use mathlib.Core.Bool.{true}
 use mathlib.Core.List.{List}
-use borrow.Author.Tests.{eqb-true, ltb-true, leb-true}
+use borrow.Author.Tests.{eqb-true, leb-true}
 use lib.ListN.{length}
-use lib.Dec.{eqb, ltb, leb}
 use Rattle.words.specs.Below.{allBelow}
 use Rattle.words.specs.Hash.{hashOf}
 use Rattle.words.proofs.ChoiceLaws.{both}

@@ -97,9 +97,10 @@ fn write_with(
 }
 
 // Lays a table that is known and not placed.
-fn write_root(words: &[usize], arena: &[u8], table: usize, image: &mut [u8]) -> Written
+fn write_root(words: &mut [usize], arena: &[u8], table: usize, image: &mut [u8]) -> Written
     requires { ⌜ wholeSound (now words) (now arena) ≡ true ⌝ }
     requires { ⌜ table < sheetTables ⌝ }
+    ensures { λ _. ⌜ now (words .exit) ≡ now (words .entry) ⌝ }
     ensures { λ r. ⌜ r ≡ rootAnswer (now (words .entry)) (now (arena .entry)) table (length (now (image .entry))) ⌝ }
     ensures { λ _. ⌜ now (image .exit) ≡ laidBy (rootAnswer (now (words .entry)) (now (arena .entry)) table (length (now (image .entry)))) (imageFor (now (words .entry)) (now (arena .entry)) table) (now (image .entry)) ⌝ }
 {
@@ -108,8 +109,9 @@ fn write_root(words: &[usize], arena: &[u8], table: usize, image: &mut [u8]) -> 
     write_with(words, arena, &roster, table, image)
 }
 
-// Writes the image of a table. The builder stays as it was.
-pub fn write(words: &[usize], arena: &[u8], table: u32, image: &mut [u8]) -> Written
+// Writes the image of a table. The builder stays as it was: the links among its words are empty again.
+pub fn write(words: &mut [usize], arena: &[u8], table: u32, image: &mut [u8]) -> Written
+    ensures { λ _. ⌜ now (words .exit) ≡ now (words .entry) ⌝ }
     ensures { λ r. ⌜ r ≡ writeAnswer (now (words .entry)) (now (arena .entry)) table (length (now (image .entry))) ⌝ }
     ensures { λ _. ⌜ now (image .exit) ≡ imageAfter (now (words .entry)) (now (arena .entry)) table (now (image .entry)) ⌝ }
 {

@@ -20,16 +20,22 @@ number-of-requires c κs = search needs
 same-length : tie.Need-same-length
 same-length c = search needs
 
-returns : tie.Need-returns
-unfolding writtenAnswer
-returns c = (ap writtenAnswer (sym (c .before .start .given .1) ∙ c .before .before .before .before .before .write .ensures .0), c .before .before .before .before .before .write .ensures .1)
-
 same-length-2 : tie.Need-same-length-2
 same-length-2 c = search needs
 
+returns : tie.Need-returns
+unfolding writtenAnswer
+returns c = let w = c .before .before .before .before .before .before .before .write .ensures in (ap writtenAnswer (sym (c .before .start .given .1) ∙ w .1 .0), (w .0, w .1 .1))
+
+same-length-3 : tie.Need-same-length-3
+same-length-3 c = search needs
+
+same-length-4 : tie.Need-same-length-4
+same-length-4 c = search needs
+
 returns-2 : tie.Need-returns-2
 unfolding writtenAnswer
-returns-2 c = (rw (c .number-of .ensures) (ap writtenAnswer (sym (c .before .before .why .given .1) ∙ c .before .before .before .before .before .before .write .ensures .0)), c .before .before .before .before .before .before .write .ensures .1)
+returns-2 c = let w = c .before .before .before .before .before .before .before .before .write .ensures in (rw (c .number-of .ensures) (ap writtenAnswer (sym (c .before .before .why .given .1) ∙ w .1 .0)), (w .0, w .1 .1))
 
 pub gvdb-write-spec : {M : Type 1} → statement M
 gvdb-write-spec =
@@ -40,6 +46,8 @@ gvdb-write-spec =
     enum-known-why
     number-of-requires
     same-length
-    returns
     same-length-2
+    returns
+    same-length-3
+    same-length-4
     returns-2)

@@ -1,5 +1,5 @@
 -- `roster::table::number_run` meets its contract: the hashes of the run, then its numbers. Assumes nothing.
-use mathlib.Core.Path.{_≡_, sym, ap, _∙_}
+use mathlib.Core.Path.{sym, ap, _∙_}
 use mathlib.Core.List.{List}
 use Prim.Native.Nat.{ℕ}
 use native.Mathlib.Omega.{arith}
@@ -8,7 +8,6 @@ use lib.Seq.{length-take-le}
 use Rattle.words.specs.Store.{putAt}
 use Rattle.image.specs.Number.{numbered}
 use Rattle.order.specs.Chain.{starts}
-use Rattle.order.proofs.ChainLaws.{empty-fresh}
 use Rattle.roster.proofs.TableLaws.{hashes-front}
 use borrow.Author.Needs.{needs}
 use Rattle.roster.proofs.table.number_run.Statement.{statement}
@@ -23,18 +22,18 @@ hash-all-requires c κs = search needs
 array-share-prefix-hashes : tie.Need-array-share-prefix-hashes
 array-share-prefix-hashes c = search needs
 
-slice-aggregate-number : tie.Need-slice-aggregate-number
-slice-aggregate-number c = let s = c .before .before .before .before .before .before .before .before .before in sym (length-take-le (length (s .args .run .now)) (c .before .before .hash-all .last .1 .1 .1 .0) (omega (arith, s .pre .0, c .before .before .hash-all .kept .1 .1 .1 .0)))
+slice-aggregate-number-links : tie.Need-slice-aggregate-number-links
+slice-aggregate-number-links c =
+    let s = c .before .before .before .before .before .before .before .before .before .before .before in
+    let call = c .before .before .before .hash-all in
+    sym (length-take-le (length (s .args .run .now)) (call .last .1 .1 .1 .0) (omega (arith, s .pre .0 .2, call .kept .1 .1 .1 .0)))
 
-slice-aggregate-number-2 : tie.Need-slice-aggregate-number-2
-slice-aggregate-number-2 c = search needs
-
-number-requires : tie.Need-number-requires
-number-requires c κs =
-    let s = c .before .before .before .before .before .before .before .before .before .before .before .before in
+number-links-requires : tie.Need-number-links-requires
+number-links-requires c κs =
+    let s = c .before .before .before .before .before .before .before .before .before .before .before .before .before in
     let call = c .before .before .before .before .before .hash-all in
-    let long = length-take-le (length (s .args .run .now)) (call .last .1 .1 .1 .0) (omega (arith, s .pre .0, call .kept .1 .1 .1 .0)) in
-    (record { few = omega (arith, long, s .pre .0); in-links = omega (arith, long, s .pre .0); in-order = omega (arith, long, s .pre); in-firsts = omega (arith, long, s .pre) }, empty-fresh 1024)
+    let long = length-take-le (length (s .args .run .now)) (call .last .1 .1 .1 .0) (omega (arith, s .pre .0 .2, call .kept .1 .1 .1 .0)) in
+    ((s .pre .0 .0, omega (arith, long, s .pre .0 .2)), s .pre .1)
 
 same-length : tie.Need-same-length
 same-length c = search needs
@@ -42,13 +41,21 @@ same-length c = search needs
 same-length-2 : tie.Need-same-length-2
 same-length-2 c = search needs
 
+same-length-3 : tie.Need-same-length-3
+same-length-3 c = search needs
+
 returns : tie.Need-returns
 returns c =
-    let s = c .before .before .before .before .before .before .before .before .before .before .before .before .before .before .before .before .before .before in
-    let call = c .before .before .before .before .before .number in
-    let hashed = c .before .before .before .before .before .before .before .before .before .before .before .hash-all in
-    let front = hashes-front (s .args .words .now) (s .args .arena .now) (s .args .run .now) (replicate 1024 0) (hashed .last .1 .1 .1 .0) (omega (arith, s .pre .0)) (hashed .ensures) in
-    (call .ensures .0 ∙ ap (λ (l : List ℕ). putAt (s .args .order .now) 0 (numbered l)) front, call .ensures .1 .0 ∙ ap (λ (l : List ℕ). putAt (s .args .firsts .now) 0 (starts l)) front)
+    let s = c .before .before .before .before .before .before .before .before .before .before .before .before .before .before .before .before .before .before .before .before in
+    let call = c .before .before .before .before .before .before .number-links in
+    let hashed = c .before .before .before .before .before .before .before .before .before .before .before .before .hash-all in
+    let front = hashes-front (s .args .words .now) (s .args .arena .now) (s .args .run .now) (replicate 1024 0) (hashed .last .1 .1 .1 .0) (omega (arith, s .pre .0 .2)) (hashed .ensures) in (
+      call .ensures .0,
+      (
+        call .ensures .1 .0 ∙ ap (λ (l : List ℕ). putAt (s .args .order .now) 0 (numbered l)) front,
+        call .ensures .1 .1 ∙ ap (λ (l : List ℕ). putAt (s .args .firsts .now) 0 (starts l)) front,
+      ),
+    )
 
 pub number-run-spec : {M : Type 1} → statement M
 number-run-spec =
@@ -57,9 +64,9 @@ number-run-spec =
     slice-aggregate-hash-all
     hash-all-requires
     array-share-prefix-hashes
-    slice-aggregate-number
-    slice-aggregate-number-2
-    number-requires
+    slice-aggregate-number-links
+    number-links-requires
     same-length
     same-length-2
+    same-length-3
     returns)
