@@ -11,7 +11,6 @@ use Rattle.words.specs.Below.{allBelow}
 use Rattle.words.specs.Hash.{hashOf}
 use Rattle.words.proofs.ChoiceLaws.{both}
 use Rattle.words.proofs.BelowLaws.{all-below}
-use Rattle.text.specs.Compare.{sameBytes}
 use Rattle.text.specs.Utf8.{isUtf8}
 use Rattle.text.proofs.CompareLaws.{same-equal}
 use Rattle.model.specs.Builder.{longestKey}
