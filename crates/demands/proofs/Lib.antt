@@ -1,0 +1,4 @@
+pub mod Rising
+pub mod WellFormed
+pub mod Writable
+pub mod Write

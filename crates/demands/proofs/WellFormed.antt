@@ -1,0 +1,84 @@
+-- Every table of a memory that keeps the rules of a write is well-formed. Assumes nothing.
+use mathlib.Core.Path.{_≡_, sym, ap, _∙_}
+use mathlib.Core.Bool.{true, false}
+use mathlib.Core.Logic.{⊎-elim}
+use mathlib.Core.List.{List}
+use Prim.Native.Nat.{ℕ, _-_, _≤_, _<_}
+use native.Mathlib.Omega.{arith}
+use borrow.Author.Tests.{eq-eqb, ne-eqb}
+use lib.ListN.{length}
+use Rattle.words.proofs.ChoiceLaws.{pick-true, pick-false}
+use Rattle.text.specs.Utf8.{isUtf8}
+use Rattle.model.specs.Table.{Rows, Has, isChild, isContainer, noItem}
+use Rattle.model.specs.Builder.{longestKey, mostItems}
+use Rattle.memory.specs.Memory.{itemTotal, itemParent, keyOf}
+use Rattle.memory.specs.Find.{findKey}
+use Rattle.whole.specs.Whole.{wholeSound}
+use Rattle.whole.proofs.WholeFacts.{WholeFacts, whole-facts}
+use Rattle.image.specs.WellFormed.{ChildFits, WellFormed}
+use Rattle.image.proofs.TimesLaws.{eq-or-ne}
+use Rattle.roster.specs.Roster.{stateOf}
+use Rattle.roster.proofs.StateLaws.{state-members, owned-few}
+use Rattle.write.proofs.StateLaws.{key-length, key-is, above-is, content-past, member-once, has-item, item-below, item-table}
+use Rattle.demands.proofs.Rising.{member-earlier}
+
+module _ (ws ar : List ℕ) (whole : wholeSound ws ar ≡ true) (t : ℕ) where
+  facts : WholeFacts ws ar
+  facts = whole-facts ws ar whole
+
+  abbrev table : Rows
+  table = stateOf ws ar t
+
+  few : length (table .members) ≤ mostItems
+  few = rw (state-members ws ar t) (owned-few ws t (record { long = facts .facts .long; few = facts .facts .items }))
+
+  module _ (i : ℕ) (has : Has (table .members) i) where
+    inside : i < itemTotal ws
+    inside = item-below ws ar t i has
+
+    key : table .key i ≡ keyOf ws ar i
+    key = key-is ws ar t i inside
+
+    short : length (table .key i) ≤ longestKey
+    short =
+        let size = key-length ws ar i (omega (arith, facts .key i inside, facts .facts .used)) in
+        rw key (omega (arith, facts .short i inside))
+
+    utf8 : isUtf8 (table .key i) ≡ true
+    utf8 = rw key (facts .utf8 i inside)
+
+    -- the search for its key in the table answers it
+    found : findKey ws ar t (table .key i) ≡ i
+    found = rw key (ap (λ (u : ℕ). findKey ws ar u (keyOf ws ar i)) (sym (item-table ws ar t i has)) ∙ facts .found i inside)
+
+    -- ---- the item above it
+
+    -- none: what would be above it is past all items, and no container
+    root : itemParent ws i ≡ 0 → isChild table i ≡ false
+    unfolding isChild
+    root e =
+        let above : table .above i ≡ noItem = above-is ws ar t i inside ∙ pick-true noItem (itemParent ws i - 1) (eq-eqb _ _ e) in
+        ap isContainer (ap (table .content) above ∙ content-past ws ar t noItem (omega (arith, facts .facts .items)))
+
+    above : (itemParent ws i ≡ 0 → ⊥) → table .above i ≡ itemParent ws i - 1
+    above some = above-is ws ar t i inside ∙ pick-false noItem (itemParent ws i - 1) (ne-eqb _ _ some)
+
+    below : (itemParent ws i ≡ 0 → ⊥) → ChildFits table i
+    below some =
+        let p = itemParent ws i - 1 in
+        let f = facts .parent i inside some in
+        let early : p < i = omega (arith, f .earlier) in
+        let member = has-item ws ar t p (omega (arith, inside)) (f .same ∙ item-table ws ar t i has) in record {
+          member = rw (above some) member;
+          earlier = rw (above some) (member-earlier ws ar t p i member has early);
+          begins = rw (above some, key, key-is ws ar t p (omega (arith, inside))) (f .begins);
+        }
+
+    child : isChild table i ≡ true → ChildFits table i
+    child is = ⊎-elim (λ none. absurd (let z : _≡_ {A = ℕ} 0 1 = cc (root none) in omega arith)) below (eq-or-ne (itemParent ws i) 0)
+
+  distinct : (i j : ℕ) → Has (table .members) i → Has (table .members) j → table .key i ≡ table .key j → i ≡ j
+  distinct i j a b e = sym (found i a) ∙ ap (findKey ws ar t) e ∙ found j b
+
+  pub table-formed : WellFormed (stateOf ws ar t)
+  table-formed = record { few = few; once = member-once ws ar t; short = short; utf8 = utf8; distinct = distinct; child = child }

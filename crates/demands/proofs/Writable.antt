@@ -1,0 +1,57 @@
+-- Every memory that keeps the rules of a write means only tables that may be written. Assumes nothing: no history of the memory either.
+use mathlib.Core.Path.{_≡_, refl, sym, _∙_}
+use mathlib.Core.Bool.{Bool, true, false}
+use mathlib.Core.List.{List}
+use Prim.Native.Nat.{ℕ, zero, suc, _≤_}
+use native.Mathlib.Omega.{arith}
+use borrow.Author.Tests.{eqb-true}
+use lib.Dec.{eqb, ltb}
+use Rattle.words.specs.Choice.{pick}
+use Rattle.words.specs.Store.{part}
+use Rattle.words.proofs.ChoiceLaws.{both}
+use Rattle.model.specs.Table.{Content}
+use Rattle.memory.specs.Memory.{tableTotal, itemKind, itemGuest, valueStart, valueSize, valueKind, tableKind}
+use Rattle.memory.specs.Meaning.{contentOf}
+use Rattle.whole.specs.Whole.{heightLimit, wholeSound}
+use Rattle.whole.proofs.WholeLaws.{limit-loose, limit-placed}
+use Rattle.whole.proofs.WholeFacts.{whole-facts}
+use Rattle.image.specs.Image.{depth}
+use Rattle.image.specs.WellFormed.{Writable}
+use Rattle.roster.specs.Roster.{stateOf}
+use Rattle.write.specs.Write.{isRoot}
+use Rattle.write.proofs.StateLaws.{content-is, item-below, item-table}
+use Rattle.demands.specs.Success.{RootsWritable}
+use Rattle.demands.proofs.WellFormed.{table-formed}
+
+-- what holds a table is an 'H', and the table is its guest
+holds-guest : (ws ar : List ℕ) (i u : ℕ) → contentOf ws ar i ≡ Content.nested u → (itemKind ws i ≡ tableKind) × (itemGuest ws i ≡ u)
+unfolding contentOf pick
+holds-guest ws ar i u is = by-kind (eqb (itemKind ws i) valueKind) (eqb (itemKind ws i) tableKind) (part ar (valueStart ws i) (valueSize ws i)) refl is
+  where
+    by-kind : (v h : Bool) (value : List ℕ) → eqb (itemKind ws i) tableKind ≡ h
+        → pick v (Content.bytes value) (pick h (Content.nested (itemGuest ws i)) Content.container) ≡ Content.nested u → (itemKind ws i ≡ tableKind) × (itemGuest ws i ≡ u)
+    by-kind true h value e f = absurd (let z : _≡_ {A = ℕ} 0 1 = cc in omega arith)
+    by-kind false true value e f = (eqb-true _ _ e, cc)
+    by-kind false false value e f = absurd (let z : _≡_ {A = ℕ} 0 1 = cc in omega arith)
+
+module _ (ws ar : List ℕ) (whole : wholeSound ws ar ≡ true) where
+  -- a table that may hold tables lower than d only, may be written d deep
+  pub limit-writable : (d t : ℕ) → 1 ≤ heightLimit ws t → heightLimit ws t ≤ d → Writable (stateOf ws ar) d t
+  unfolding Writable
+  limit-writable zero t some low = absurd (omega arith)
+  limit-writable (suc d) t some low = (
+    table-formed ws ar whole t,
+    λ i u has is.
+        let l = item-below ws ar t i has in
+        let (kind, guest) = holds-guest ws ar i u (sym (content-is ws ar t i l) ∙ is) in
+        let g = rw (guest, item-table ws ar t i has) at (whole-facts ws ar whole .guest i l kind) in
+        let limit = limit-placed ws u (g .placed) in
+        limit-writable d u (omega (arith, g .some)) (omega (arith, g .lower)),
+  )
+
+-- a table that is known and not placed: what a write takes
+pub root-writable : RootsWritable
+unfolding isRoot
+root-writable ws ar whole t root =
+    let limit = limit-loose ws t (eqb-true _ _ (both (ltb t (tableTotal ws)) _ root .1)) in
+    limit-writable ws ar whole depth t (omega arith) (omega arith)

@@ -1,0 +1,112 @@
+-- A write that succeeds has laid an image that reads back and passes the check. Assumes nothing.
+use mathlib.Core.Path.{_≡_, refl, ap}
+use mathlib.Core.Bool.{Bool, true, false, _||_}
+use mathlib.Core.List.{List}
+use Prim.Native.Nat.{ℕ, _+_, _≤_}
+use native.Mathlib.Omega.{arith}
+use borrow.Author.Tests.{ltb-false}
+use lib.Dec.{ltb}
+use lib.ListN.{length, take}
+use Rattle.words.specs.Choice.{pick}
+use Rattle.words.specs.Store.{putAt}
+use Rattle.words.specs.Hash.{plain}
+use Rattle.words.proofs.StoreLaws.{part-put}
+use Rattle.layout.specs.declared.refusal.Refusal.the-variants.{MemoryBroken, TableUnknown, EmptyKey, ImageTooLong}
+use Rattle.layout.specs.Table.{longestFile}
+use Rattle.image.specs.Plan.{chunkSize}
+use Rattle.image.specs.Image.{headerSize, depth, imageOf}
+use Rattle.image.specs.WellFormed.{Writable}
+use Rattle.readback.proofs.ImageBack.{alone-back}
+use Rattle.passes.proofs.Passes.{alone-passes}
+use Rattle.whole.specs.Whole.{wholeSound}
+use Rattle.roster.specs.Roster.{stateOf}
+use Rattle.write.specs.declared.Written.{Written}
+use Rattle.write.specs.Write.{hasEmpty, isRoot, imageFor, tooLong, writeAnswer, laidBy, imageAfter}
+use Rattle.demands.specs.Success.{Success, SuccessSays, SuccessLays, SuccessReadsBack, SuccessPasses}
+use Rattle.demands.proofs.Writable.{root-writable}
+
+-- ---- what a success says
+
+-- every test passed, and the answer is the one at the end
+record Passed (whole root empty long : Bool) (good answer : Written) : Type 0 where
+  pub whole-is : whole ≡ true
+  pub root-is : root ≡ true
+  pub empty-is : empty ≡ false
+  pub long-is : long ≡ false
+  pub answer-is : good ≡ answer
+
+module _ (good : Written) (start end size : ℕ) where
+  passed : (whole root empty long : Bool)
+      → pick whole (pick root (pick empty (Written.Refused EmptyKey) (pick long (Written.Refused ImageTooLong) good)) (Written.Refused TableUnknown)) (Written.Refused MemoryBroken)
+      ≡ Written.Image start end size → Passed whole root empty long good (Written.Image start end size)
+  unfolding pick
+  passed false root empty long e = absurd (let z : _≡_ {A = ℕ} 0 1 = cc in omega arith)
+  passed true false empty long e = absurd (let z : _≡_ {A = ℕ} 0 1 = cc in omega arith)
+  passed true true true long e = absurd (let z : _≡_ {A = ℕ} 0 1 = cc in omega arith)
+  passed true true false true e = absurd (let z : _≡_ {A = ℕ} 0 1 = cc in omega arith)
+  passed true true false false e = record { whole-is = refl; root-is = refl; empty-is = refl; long-is = refl; answer-is = e }
+
+neither : (p q : Bool) → (p || q) ≡ false → (p ≡ false) × (q ≡ false)
+neither true q e = absurd (let z : _≡_ {A = ℕ} 0 1 = cc in omega arith)
+neither false q e = (refl, e)
+
+not-too-long : (room size : ℕ) → tooLong room size ≡ false → (size ≤ longestFile) × (size ≤ room)
+unfolding tooLong
+not-too-long room size e = let (file, buffer) = neither (ltb longestFile size) (ltb room size) e in (ltb-false _ _ file, ltb-false _ _ buffer)
+
+pub success : SuccessSays
+unfolding writeAnswer
+success ws ar t room start end size e =
+    let image = length (imageFor ws ar t) in
+    let good = Written.Image headerSize (headerSize + chunkSize (length (stateOf ws ar t .members))) image in
+    let p = passed good start end size (wholeSound ws ar) (isRoot ws t) (hasEmpty (stateOf ws ar) depth t) (tooLong room image) e in
+    let (short, fits) = not-too-long room image (p .long-is) in
+    let is = p .answer-is in
+    let long : size ≡ image = cc in record {
+      starts = cc;
+      ends = cc;
+      long = long;
+      whole = p .whole-is;
+      root = p .root-is;
+      named = p .empty-is;
+      fits = omega arith;
+      short = omega arith;
+    }
+
+-- ---- the file
+
+-- what stands in the buffer
+after-success : (ws ar buffer : List ℕ) (t start end size : ℕ) → writeAnswer ws ar t (length buffer) ≡ Written.Image start end size
+    → imageAfter ws ar t buffer ≡ putAt buffer 0 (imageFor ws ar t)
+unfolding imageAfter laidBy
+after-success ws ar buffer t start end size e = ap (λ (answer : Written). laidBy answer (imageFor ws ar t) buffer) e
+
+pub success-lays : SuccessLays
+success-lays ws ar buffer t start end size e =
+    let s = success ws ar t (length buffer) start end size e in
+    rw (after-success ws ar buffer t start end size e, s .long) (part-put buffer 0 (imageFor ws ar t) (omega arith))
+
+module _ (ws ar buffer : List ℕ) (t start end size : ℕ) (e : writeAnswer ws ar t (length buffer) ≡ Written.Image start end size) where
+  made : Success ws ar t (length buffer) start end size
+  made = success ws ar t (length buffer) start end size e
+
+  writable : Writable (stateOf ws ar) depth t
+  writable = root-writable ws ar (made .whole) t (made .root)
+
+  short-image : length (imageOf plain (stateOf ws ar) t) ≤ longestFile
+  unfolding imageFor
+  short-image = omega (arith, made .long, made .short)
+
+  file-is : take size (imageAfter ws ar t buffer) ≡ imageOf plain (stateOf ws ar) t
+  unfolding imageFor
+  file-is = success-lays ws ar buffer t start end size e
+
+-- a file of the bytes laid reads back, with all that is nested in it
+pub success-back : SuccessReadsBack
+success-back ws ar buffer t start end size e =
+    rw (file-is ws ar buffer t start end size e) (alone-back plain (stateOf ws ar) t (writable ws ar buffer t start end size e) (short-image ws ar buffer t start end size e))
+
+-- and passes the check
+pub success-passes : SuccessPasses
+success-passes ws ar buffer t start end size e =
+    rw (file-is ws ar buffer t start end size e) (alone-passes plain (stateOf ws ar) t (writable ws ar buffer t start end size e) (short-image ws ar buffer t start end size e))

@@ -1,0 +1,55 @@
+-- WHAT A WRITE GIVES: the statements, over every memory, with no history of it: what the rules that a write judges accept may be written, and
+-- what a success says. Assumes nothing: these are definitions.
+use Prim.Native.Nat.{ℕ, _≤_}
+use mathlib.Core.Path.{_≡_}
+use mathlib.Core.Bool.{true, false}
+use mathlib.Core.List.{List}
+use lib.ListN.{length, take}
+use Rattle.words.specs.Hash.{plain}
+use Rattle.layout.specs.Table.{longestFile}
+use Rattle.image.specs.Image.{headerSize, depth}
+use Rattle.image.specs.WellFormed.{Writable}
+use Rattle.readback.specs.Back.{endOf}
+use Rattle.readback.specs.Told.{AllBack}
+use Rattle.passes.specs.Passing.{AllPass}
+use Rattle.whole.specs.Whole.{wholeSound}
+use Rattle.roster.specs.Roster.{stateOf}
+use Rattle.write.specs.declared.Written.{Written}
+use Rattle.write.specs.Write.{hasEmpty, isRoot, imageFor, writeAnswer, imageAfter}
+
+-- a memory that the rules accept means only tables that can be laid and read back: each that a write takes, with all nested in it
+abbrev pub RootsWritable : Type 0
+RootsWritable = (ws ar : List ℕ) → wholeSound ws ar ≡ true → (t : ℕ) → isRoot ws t ≡ true → Writable (stateOf ws ar) depth t
+
+-- what a success says of the memory, the table, the room and the answer
+pub record Success (ws ar : List ℕ) (t room start end size : ℕ) : Type 0 where
+  -- the answer: the pointer of the root table, behind the header, and the length of the image
+  pub starts : start ≡ headerSize
+  pub ends : end ≡ endOf (stateOf ws ar) t headerSize
+  pub long : size ≡ length (imageFor ws ar t)
+  -- the memory keeps the rules, the table is known and not placed, and no item in it or in those nested in it has the empty key
+  pub whole : wholeSound ws ar ≡ true
+  pub root : isRoot ws t ≡ true
+  pub named : hasEmpty (stateOf ws ar) depth t ≡ false
+  -- the image fits the buffer, and is no longer than a file may be
+  pub fits : size ≤ room
+  pub short : size ≤ longestFile
+
+abbrev pub SuccessSays : Type 0
+SuccessSays = (ws ar : List ℕ) (t room start end size : ℕ) → writeAnswer ws ar t room ≡ Written.Image start end size → Success ws ar t room start end size
+
+-- the bytes at the buffer's front, as many as the answer says, are the image: a file of them reads back as the table, and every table in it passes the check
+abbrev pub SuccessLays : Type 0
+SuccessLays =
+    (ws ar buffer : List ℕ) (t start end size : ℕ) → writeAnswer ws ar t (length buffer) ≡ Written.Image start end size
+    → take size (imageAfter ws ar t buffer) ≡ imageFor ws ar t
+
+abbrev pub SuccessReadsBack : Type 0
+SuccessReadsBack =
+    (ws ar buffer : List ℕ) (t start end size : ℕ) → writeAnswer ws ar t (length buffer) ≡ Written.Image start end size
+    → AllBack plain (take size (imageAfter ws ar t buffer)) (stateOf ws ar) depth t headerSize
+
+abbrev pub SuccessPasses : Type 0
+SuccessPasses =
+    (ws ar buffer : List ℕ) (t start end size : ℕ) → writeAnswer ws ar t (length buffer) ≡ Written.Image start end size
+    → AllPass plain (take size (imageAfter ws ar t buffer)) (stateOf ws ar) depth t headerSize
