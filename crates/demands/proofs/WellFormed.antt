@@ -30,7 +30,7 @@ module _ (ws ar : List ℕ) (whole : wholeSound ws ar ≡ true) (t : ℕ) where
   table = stateOf ws ar t
 
   few : length (table .members) ≤ mostItems
-  few = rw (state-members ws ar t) (owned-few ws t (record { long = facts .facts .long; few = facts .facts .items }))
+  few = rw (state-members ws ar t) (owned-few ws t (record { long = facts .facts .long; few = facts .facts .items; empty = facts .link }))
 
   module _ (i : ℕ) (has : Has (table .members) i) where
     inside : i < itemTotal ws
