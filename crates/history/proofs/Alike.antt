@@ -34,7 +34,6 @@ use Rattle.model.specs.Builder as told
 use Rattle.model.specs.Builder.{Builder, Shelf, noShelf, shelfAt, Result, result, withItems, news, usedAfter, counted, atWalked, put}
 use Rattle.memory.specs.Meaning.{shelfOf, meaning}
 use Rattle.history.specs.Items.{item, itemOf, Table}
-use Rattle.history.specs.Right.{isBytes}
 use Rattle.history.specs.Honest.{Good}
 use Rattle.history.proofs.Index.{find-within}
 use Rattle.history.proofs.Way.{end-sep, Missing, OnWay, way-right, item-found, item-missing}
@@ -100,8 +99,8 @@ unfolding atWalked
 blocked-alike ws ar deep t k size = alike-refused NotContainer ws ar
 
 module _ (g : ℕ → Table) (ws ar : List ℕ) (t : ℕ) (k : List ℕ) (G : ℕ) (sep-is : g t .sep ≡ tableSeparator ws t) (loose : g t .placed ≡ 1 → ⊥) (text : isUtf8 k ≡ true)
-    (short : length k ≤ longestKey) (bytes : isBytes k ≡ true) (c : Stored) (good : Good g ws ar) (known : t < tableTotal ws)
-    (fit : Fit g t k (tableSeparator ws t) G sep-is loose text short bytes (tableTotal ws) c)
+    (short : length k ≤ longestKey) (c : Stored) (good : Good g ws ar) (known : t < tableTotal ws)
+    (fit : Fit g t k (tableSeparator ws t) G sep-is loose text short (tableTotal ws) c)
     (free : (i : ℕ) → i < itemTotal ws → itemOf ws ar i .kind ≡ 72 → itemOf ws ar i .guest ≡ G → ⊥) where
   abbrev sep : ℕ
   sep = tableSeparator ws t
@@ -119,7 +118,7 @@ module _ (g : ℕ → Table) (ws ar : List ℕ) (t : ℕ) (k : List ℕ) (G : �
   size = length (c .value)
 
   abbrev Here : ℕ → ℕ → Type 0
-  Here parent from = At g t k sep G sep-is loose text short bytes ws ar parent from
+  Here parent from = At g t k sep G sep-is loose text short ws ar parent from
 
   -- ---- a key that is missing
   module _ (w : Way) (on : OnWay (itemTotal ws) (itemOf ws ar) t sep k w) (clear : w .clear ≡ true) (none : itemTotal ws ≤ findKey ws ar t k) where
@@ -130,7 +129,7 @@ module _ (g : ℕ → Table) (ws ar : List ℕ) (t : ℕ) (k : List ℕ) (G : �
     parent = w .parent
 
     gone : (e : ℕ) → nextEnd sep k (w .from) ≤ e → e ≤ length k → Missing (itemTotal ws) (itemOf ws ar) t (take e k)
-    gone = gone-all g ws ar t k G sep-is loose text short bytes c good known fit free w on clear (item-missing ws ar (good .tidy) t k none)
+    gone = gone-all g ws ar t k G sep-is loose text short c good known fit free w on clear (item-missing ws ar (good .tidy) t k none)
 
     at : Here parent (w .from)
     at = record { good = good; known = known; chain = on .chain; above = on .above; proper = on .proper; gone = gone; free = free }
@@ -169,7 +168,7 @@ module _ (g : ℕ → Table) (ws ar : List ℕ) (t : ℕ) (k : List ℕ) (G : �
     unfolding added
     added-is few room =
         let l = containers t k ends (memory ws ar) parent in
-        let gr = grown g t k sep G sep-is loose text short bytes ws ar parent (w .from) at few (omega arith) in
+        let gr = grown g t k sep G sep-is loose text short ws ar parent (w .from) at few (omega arith) in
         let count = gr .count in
         let used = gr .used in
         let long = gr .arena in
@@ -183,7 +182,7 @@ module _ (g : ℕ → Table) (ws ar : List ℕ) (t : ℕ) (k : List ℕ) (G : �
         (meant-tables v a ∙ tables-same ws v (gr .lows) (good .right .tables) ∙ sym (meant-tables ws ar))
         (ap (λ (x : List Entry). x ++ (entryFrom (item t k (l .parent) (c .kind) (c .value) (c .guest)) ∷ [])) (meant-items v a)
         ∙ ap (λ (x : Entry). itemsOf v a ++ (x ∷ [])) (own-entry t k (l .parent) c)
-        ∙ laid-entries g t k sep G sep-is loose text short bytes C ws ar parent (w .from) at few (omega arith)
+        ∙ laid-entries g t k sep G sep-is loose text short C ws ar parent (w .from) at few (omega arith)
         ∙ ap (λ (n : ℕ). items ++ way.newEntries t k C ends n (aboveOf parent)) (sym (items-count ws ar)))
 
     pub new-alike : Alike (insertNew ws ar t k c (w .from) parent) (counted m t k size (items ++ new))

@@ -24,7 +24,7 @@ use Rattle.build.specs.Walk.{way, wayOf, sum}
 use Rattle.build.specs.Insert.{containers, refused, added, insertNew, overwrite, insertAlong, insertWalked}
 use Rattle.build.proofs.WalkLaws.{last}
 use Rattle.history.specs.Items.{item, itemOf, Table}
-use Rattle.history.specs.Right.{isBytes, Right}
+use Rattle.history.specs.Right.{Right}
 use Rattle.history.specs.Honest.{Good}
 use Rattle.history.proofs.Index.{false-true}
 use Rattle.history.proofs.Made as made
@@ -64,12 +64,12 @@ module _ (g : ℕ → Table) (ws ar : List ℕ) (t : ℕ) (k : List ℕ) (c : St
   after-where false why o f = after-refused why
 
 module _ (g : ℕ → Table) (ws ar : List ℕ) (t : ℕ) (k : List ℕ) (G : ℕ) (sep-is : g t .sep ≡ tableSeparator ws t) (loose : g t .placed ≡ 1 → ⊥) (text : isUtf8 k ≡ true)
-    (short : length k ≤ 1024) (bytes : isBytes k ≡ true) (c : Stored) where
+    (short : length k ≤ 1024) (c : Stored) where
   abbrev Here : ℕ → ℕ → Type 0
-  Here parent from = At g t k (tableSeparator ws t) G sep-is loose text short bytes ws ar parent from
+  Here parent from = At g t k (tableSeparator ws t) G sep-is loose text short ws ar parent from
 
   abbrev Fits : ℕ → Type 0
-  Fits T = Fit g t k (tableSeparator ws t) G sep-is loose text short bytes T c
+  Fits T = Fit g t k (tableSeparator ws t) G sep-is loose text short T c
 
   -- ---- a new item
   new-good : (parent from : ℕ) → Here parent from → Missing (itemTotal ws) (itemOf ws ar) t k → Fits (tableTotal ws) → itemTotal ws + length (endsPast (tableSeparator ws t) k from) ≤ 1024
@@ -78,7 +78,7 @@ module _ (g : ℕ → Table) (ws ar : List ℕ) (t : ℕ) (k : List ℕ) (G : �
   unfolding added
   new-good parent from at missing fit few room =
       let l = containers t k (endsPast (tableSeparator ws t) k from) (memory ws ar) parent in
-      let gr = grown g t k (tableSeparator ws t) G sep-is loose text short bytes ws ar parent from at few (omega arith) in
+      let gr = grown g t k (tableSeparator ws t) G sep-is loose text short ws ar parent from at few (omega arith) in
       let w = l .after .words in
       let a = l .after .arena in
       let here = gr .at in
@@ -90,7 +90,7 @@ module _ (g : ℕ → Table) (ws ar : List ℕ) (t : ℕ) (k : List ℕ) (G : �
       let top : length k ≡ nextEnd (tableSeparator ws t) k (gr .end) = omega (arith, gr .last, next-within (tableSeparator ws t) k (gr .end) (here .above .within) .1) in
       let fit′ : Fits (tableTotal w) = subst (λ (T : ℕ). Fits T) (sym (lows-two ws w (gr .lows))) fit in
       let new = subst (λ (key : List ℕ). NewItem (tableTotal w) (itemTotal w) g (itemOf w a) (item t key (l .parent) (c .kind) (c .value) (c .guest))) (take-all′ k)
-      (new-item g t k (tableSeparator ws t) G sep-is loose text short bytes w a (l .parent) (gr .end) here (length k) top (here .proper) (ap isUtf8 (take-all′ k) ∙ text) c fit′) in
+      (new-item g t k (tableSeparator ws t) G sep-is loose text short w a (l .parent) (gr .end) here (length k) top (here .proper) (ap isUtf8 (take-all′ k) ∙ text) c fit′) in
       record {
         good = λ z. made-good g w a t (l .parent) k c (here .good) few′ room′ new;
         lows = λ p b x y. made.made-table-word w a t (l .parent) k c (here .good .tidy) few′ room′ p b x y ∙ gr .lows p b x y;

@@ -1,16 +1,14 @@
 -- The containers of a key are made, and memory stays good. Assumes nothing.
 use Prim.Native.Nat.{ℕ, zero, suc, _+_, _-_, _≤_, _<_}
-use native.Mathlib.Nat.{not-suc-le-zero, le-of-suc-le-suc}
 use native.Mathlib.Omega.{arith}
 use native.Mathlib.Decide.{decLt}
 use mathlib.Core.Path.{_≡_, refl, sym, ap, _∙_, subst}
 use mathlib.Core.Bool.{Bool, true, false}
 use mathlib.Core.List.{List, [], _∷_}
-use borrow.Author.Tests.{eqb-true, eqb-false, ltb-true}
-use lib.Dec.{eqb, ltb}
+use borrow.Author.Tests.{eqb-true, eqb-false}
+use lib.Dec.{eqb}
 use lib.ListN.{length, take, getD}
 use lib.Seq.{length-take-le, take-take, getD-take}
-use Rattle.words.proofs.ChoiceLaws.{both, both-hold}
 use Rattle.text.specs.Utf8.{isUtf8}
 use Rattle.text.specs.Prefix.{endsPast, nextEnd}
 use Rattle.text.proofs.PrefixLaws.{next-within, next-rises}
@@ -23,26 +21,12 @@ use Rattle.build.specs.Walk.{sum}
 use Rattle.build.specs.Insert.{Laid, containers}
 use Rattle.build.proofs.WalkLaws.{further, last, make-end, make-more}
 use Rattle.history.specs.Items.{Item, item, itemOf, Table}
-use Rattle.history.specs.Right.{isBytes, There, Above, Right}
+use Rattle.history.specs.Right.{There, Above, Right}
 use Rattle.history.specs.Honest.{Good}
+use Rattle.history.proofs.Bytes.{byte-at, utf8-bytes}
 use Rattle.history.proofs.Made as made
 use Rattle.history.proofs.Right.{there-on, NewItem, right-add}
 use Rattle.history.proofs.Way.{gap, end-sep, Missing, Chain, chain-on}
-
-pub bytes-prefix : (k : List ℕ) (e : ℕ) → isBytes k ≡ true → isBytes (take e k) ≡ true
-unfolding isBytes
-bytes-prefix [] zero h = refl
-bytes-prefix [] (suc e) h = refl
-bytes-prefix (b ∷ bs) zero h = refl
-bytes-prefix (b ∷ bs) (suc e) h =
-    let r = both (ltb b 256) (isBytes bs) h in
-    both-hold (r .0) (bytes-prefix bs e (r .1))
-
-byte-at : (k : List ℕ) (i : ℕ) → isBytes k ≡ true → i < length k → getD k i 0 < 256
-unfolding isBytes
-byte-at [] i h l = absurd (not-suc-le-zero l)
-byte-at (b ∷ bs) zero h l = ltb-true b 256 (both (ltb b 256) (isBytes bs) h .0)
-byte-at (b ∷ bs) (suc i) h l = byte-at bs i (both (ltb b 256) (isBytes bs) h .1) (le-of-suc-le-suc l)
 
 sum-one : (n : ℕ) → sum (n ∷ []) ≡ n + 0
 unfolding sum
@@ -78,7 +62,7 @@ made-good g ws ar t parent k c good few room new =
     }
 
 module _ (g : ℕ → Table) (t : ℕ) (k : List ℕ) (sep G : ℕ) (sep-is : g t .sep ≡ sep) (loose : g t .placed ≡ 1 → ⊥) (text : isUtf8 k ≡ true)
-    (short : length k ≤ 1024) (bytes : isBytes k ≡ true) where
+    (short : length k ≤ 1024) where
   -- on the way: the containers up to `from` are there, and nothing from the next end on
   pub record At (ws ar : List ℕ) (parent from : ℕ) : Type 0 where
     pub good : Good g ws ar
@@ -108,7 +92,7 @@ module _ (g : ℕ → Table) (t : ℕ) (k : List ℕ) (sep G : ℕ) (sep-is : g 
         loose = loose;
         text = good-text;
         short = omega arith;
-        key-bytes = bytes-prefix k e bytes;
+        key-bytes = utf8-bytes (take e k) good-text;
         kind = fit .kind;
         missing = at .gone e (omega arith) top;
         parent = record {
@@ -188,7 +172,7 @@ module _ (g : ℕ → Table) (t : ℕ) (k : List ℕ) (sep G : ℕ) (sep-is : g 
     box-text =
         let at-sep : getD k (e - 1) 0 ≡ sep = end-sep sep k from e (at .above .within) is rise more in
         let up = rise in
-        let byte = byte-at k (e - 1) bytes (omega arith) in
+        let byte = byte-at k (e - 1) (utf8-bytes k text) (omega arith) in
         let low = at .good .right .seps t (at .known) (omega (arith, sep-is)) in
         let prev : suc (e - 1) ≡ e = omega arith in
         ap (λ (n : ℕ). isUtf8 (take n k)) (sym prev) ∙ utf8-cut k (e - 1) text (omega arith) (omega (arith, sep-is))

@@ -34,8 +34,8 @@ use Rattle.history.proofs.Nest.{nest-honest}
 pub reached-honest : (ws ar : List ℕ) → Reached ws ar → Honest ws ar
 reached-honest w a (fresh ws ar long) = fresh-honest ws ar long
 reached-honest w a (new-table ws ar r separator) = table-honest ws ar separator (reached-honest ws ar r)
-reached-honest w a (insert-value ws ar r t key value b) = value-honest ws ar (reached-honest ws ar r) t key value b
-reached-honest w a (insert-table ws ar r t key guest b) = nest-honest ws ar (reached-honest ws ar r) t key guest b
+reached-honest w a (insert-value ws ar r t key value) = value-honest ws ar (reached-honest ws ar r) t key value
+reached-honest w a (insert-table ws ar r t key guest) = nest-honest ws ar (reached-honest ws ar r) t key guest
 
 -- the rules that every call judges
 pub honest-sound : (ws ar : List ℕ) → Honest ws ar → sound ws (length ar) ≡ true

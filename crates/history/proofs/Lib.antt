@@ -1,3 +1,4 @@
+pub mod Bytes
 pub mod Index
 pub mod Made
 pub mod Replaced

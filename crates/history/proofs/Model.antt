@@ -28,7 +28,6 @@ use Rattle.model.specs.Builder.{Shelf, shelfAt, Result, result, put}
 use Rattle.tables.specs.Table as tables
 use Rattle.memory.specs.Meaning.{entryOf, shelfOf, listed, meaning}
 use Rattle.history.specs.Items.{itemOf, Table, tableOf}
-use Rattle.history.specs.Right.{isBytes}
 use Rattle.history.specs.Honest.{Honest}
 use Rattle.history.proofs.Low as low
 use Rattle.history.proofs.Value.{sep-same, placed-word, tabled, two, three, kept-low, kept-high, size, loose, mark, same-table, sep-domain}
@@ -76,7 +75,7 @@ value-content v = refl
 
 -- ---- the insert of a value
 
-module _ (ws ar : List ℕ) (honest : Honest ws ar) (t : ℕ) (k v : List ℕ) (bytes : isBytes k ≡ true) where
+module _ (ws ar : List ℕ) (honest : Honest ws ar) (t : ℕ) (k v : List ℕ) where
   sound-alike : Alike (insertSound ws ar t k v) (told.insertValue (meaning ws ar) t k v)
   unfolding insertSound told.insertValue
   sound-alike =
@@ -88,7 +87,7 @@ module _ (ws ar : List ℕ) (honest : Honest ws ar) (t : ℕ) (k v : List ℕ) (
       subst (λ (c : Content). Alike (insertWalked ws ar t k (stored valueKind v 0) false) (put (meaning ws ar) t k c (length v) false)) (value-content v)
       (walked-alike (tableOf ws) ws ar t k 64 (sep-same ws t)
       (λ p. let z : _≡_ {A = ℕ} 1 0 = sym p ∙ placed-word ws t ∙ free .1 in omega arith)
-      text short bytes (stored valueKind v 0) honest (free .0)
+      text short (stored valueKind v 0) honest (free .0)
       (record { kind = refl; guest = λ (z : _≡_ {A = ℕ} 118 72). absurd (omega arith) })
       (λ i l x y. let g = honest .right .guests i l x .0 in let few = honest .right .tables in omega arith) false)))
       (λ b. alike-refused TableUnknown ws ar))

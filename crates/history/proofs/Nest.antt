@@ -24,7 +24,7 @@ use Rattle.build.specs.Walk.{wayOf}
 use Rattle.build.specs.Insert.{refused, insertWalked, keyed}
 use Rattle.nest.specs.Nest.{heldAt, heldHeight, placeTable, whenAccepted, settled, nested, tableSound, insertTable}
 use Rattle.history.specs.Items.{Item, item, itemOf, Table, tableOf}
-use Rattle.history.specs.Right.{isBytes, heldItem, heldIn, Right}
+use Rattle.history.specs.Right.{heldItem, heldIn, Right}
 use Rattle.layout.specs.declared.refusal.Refusal.the-variants.{MemoryBroken, TableUnknown, TableInItself, KeyNotUtf8, KeyTooLong, NotContainer, NestedTooDeep}
 use Rattle.nest.proofs.NestLaws.{held-other, held-kind, held-guest}
 use Rattle.history.specs.Honest.{Good, Honest}
@@ -112,7 +112,7 @@ by-case ws ar t k G h x (Inserted.Refused why) f g = g refl refl
 
 module _ (ws ar : List ℕ) (honest : Honest ws ar) (t : ℕ) (k : List ℕ) (G : ℕ) (known : t < tableTotal ws) (free : tablePlaced ws t ≡ 0)
     (guest-known : G < tableTotal ws) (guest-free : tablePlaced ws G ≡ 0) (two : t ≡ G → ⊥)
-    (text : isUtf8 k ≡ true) (short : length k ≤ 1024) (bytes : isBytes k ≡ true) where
+    (text : isUtf8 k ≡ true) (short : length k ≤ 1024) where
   abbrev pub h : ℕ
   h = heldHeight ws G + 1
 
@@ -176,7 +176,7 @@ module _ (ws ar : List ℕ) (honest : Honest ws ar) (t : ℕ) (k : List ℕ) (G 
     after =
         walked-after g′ ws ar t k G (g-sep t ∙ sep-same ws t)
         (λ p. let z : _≡_ {A = ℕ} 1 0 = sym p ∙ ap (λ (y : Table). y .placed) (g-other t two) ∙ placed-word ws t ∙ free in omega arith)
-        text short bytes (stored tableKind [] G) good known
+        text short (stored tableKind [] G) good known
         (record {
           kind = refl;
           guest = λ z. (refl, guest-known, ap (λ (y : Table). y .placed) g-own, (let e = ap (λ (y : Table). y .height) g-own in omega arith));
@@ -329,7 +329,7 @@ module _ (ws ar : List ℕ) (honest : Honest ws ar) (t : ℕ) (k : List ℕ) (G 
       by-height (yes l) = settle o (done-honest l) (λ y. ap (λ (z : Table). z .placed) (own-table l y)) (λ e. after l .same e)
       by-height (no l) = deep (omega arith)
 
-module _ (ws ar : List ℕ) (honest : Honest ws ar) (t : ℕ) (k : List ℕ) (G : ℕ) (bytes : isBytes k ≡ true) where
+module _ (ws ar : List ℕ) (honest : Honest ws ar) (t : ℕ) (k : List ℕ) (G : ℕ) where
   pub nest-right : Nested ws ar t k G (insertTable ws ar t k G)
   unfolding insertTable tableSound keyed
   nest-right =
@@ -343,7 +343,7 @@ module _ (ws ar : List ℕ) (honest : Honest ws ar) (t : ℕ) (k : List ℕ) (G 
       row (ltb longestKey (length k)) _ _ (λ f. same KeyTooLong) (λ f.
       let r = takes-facts ws t b in
       let s = takes-facts ws G c in
-      nested-honest ws ar honest t k G (r .0) (r .1) (s .0) (s .1) (eqb-false t G d) e (ltb-false longestKey (length k) f) bytes))
+      nested-honest ws ar honest t k G (r .0) (r .1) (s .0) (s .1) (eqb-false t G d) e (ltb-false longestKey (length k) f)))
       (λ e. same KeyNotUtf8)))
       (λ c. same TableUnknown))
       (λ b. same TableUnknown))

@@ -33,7 +33,6 @@ use Rattle.model.specs.Builder.{Builder, Shelf, shelfAt, Result, put, atWalked}
 use Rattle.memory.specs.Meaning.{entryOf, shelfOf, listed, meaning}
 use Rattle.history.specs.Items.{Table, tableOf}
 use Rattle.history.specs.Tidy.{Tidy}
-use Rattle.history.specs.Right.{isBytes}
 use Rattle.history.specs.Honest.{Honest}
 use Rattle.history.proofs.Index.{false-true}
 use Rattle.history.proofs.Low as low
@@ -191,7 +190,7 @@ not-taken ws ar false q e x a = false-true a
 
 module _ (ws ar : List ℕ) (honest : Honest ws ar) (t : ℕ) (k : List ℕ) (G : ℕ) (known : t < tableTotal ws) (free : tablePlaced ws t ≡ 0)
     (guest-known : G < tableTotal ws) (guest-free : tablePlaced ws G ≡ 0) (two : t ≡ G → ⊥)
-    (text : isUtf8 k ≡ true) (short : length k ≤ longestKey) (bytes : isBytes k ≡ true) where
+    (text : isUtf8 k ≡ true) (short : length k ≤ longestKey) where
   abbrev c : Stored
   c = stored tableKind [] G
 
@@ -202,19 +201,19 @@ module _ (ws ar : List ℕ) (honest : Honest ws ar) (t : ℕ) (k : List ℕ) (G 
   m = meaning ws ar
 
   abbrev g′ : ℕ → Table
-  g′ = nest.g′ ws ar honest t k G known free guest-known guest-free two text short bytes
+  g′ = nest.g′ ws ar honest t k G known free guest-known guest-free two text short
 
   g-own : g′ G ≡ record { sep = tableSeparator ws G; placed = 1; height = high }
-  g-own = nest.g-own ws ar honest t k G known free guest-known guest-free two text short bytes
+  g-own = nest.g-own ws ar honest t k G known free guest-known guest-free two text short
 
   shallow-alike : heldHeight ws G < 7 → Alike (insertWalked ws ar t k c (ltb deepest (high + 1))) (put m t k (Content.nested G) 0 (ltb deepest (high + 1)))
   shallow-alike low =
       subst (λ (x : Content). Alike (insertWalked ws ar t k c (ltb deepest (high + 1))) (put m t k x 0 (ltb deepest (high + 1)))) (table-content G)
-      (walked-alike g′ ws ar t k G (nest.g-sep ws ar honest t k G known free guest-known guest-free two text short bytes t ∙ sep-same ws t)
-      (λ p. let z : _≡_ {A = ℕ} 1 0 = sym p ∙ ap (λ (y : Table). y .placed) (nest.g-other ws ar honest t k G known free guest-known guest-free two text short bytes t two) ∙ placed-word ws t ∙ free in omega arith)
-      text short bytes c (nest.good ws ar honest t k G known free guest-known guest-free two text short bytes low) known
+      (walked-alike g′ ws ar t k G (nest.g-sep ws ar honest t k G known free guest-known guest-free two text short t ∙ sep-same ws t)
+      (λ p. let z : _≡_ {A = ℕ} 1 0 = sym p ∙ ap (λ (y : Table). y .placed) (nest.g-other ws ar honest t k G known free guest-known guest-free two text short t two) ∙ placed-word ws t ∙ free in omega arith)
+      text short c (nest.good ws ar honest t k G known free guest-known guest-free two text short low) known
       (record { kind = refl; guest = λ z. (refl, guest-known, ap (λ (y : Table). y .placed) g-own, (let e = ap (λ (y : Table). y .height) g-own in omega arith)) })
-      (nest.alone ws ar honest t k G known free guest-known guest-free two text short bytes) (ltb deepest (high + 1)))
+      (nest.alone ws ar honest t k G known free guest-known guest-free two text short) (ltb deepest (high + 1)))
 
   deep-alike : Alike (insertWalked ws ar t k c true) (put m t k (Content.nested G) 0 true)
   deep-alike =
@@ -222,7 +221,7 @@ module _ (ws ar : List ℕ) (honest : Honest ws ar) (t : ℕ) (k : List ℕ) (G 
       (subst (λ (o : Outcome Inserted). Alike o (put m t k (contentFrom valueKind [] 0) 0 true)) (walked-deep ws ar t k (stored valueKind [] 0) c)
       (walked-alike (tableOf ws) ws ar t k 64 (sep-same ws t)
       (λ p. let z : _≡_ {A = ℕ} 1 0 = sym p ∙ placed-word ws t ∙ free in omega arith)
-      text short bytes (stored valueKind [] 0) honest known
+      text short (stored valueKind [] 0) honest known
       (record { kind = refl; guest = λ (z : _≡_ {A = ℕ} 118 72). absurd (omega arith) })
       (λ i l x y. let g = honest .right .guests i l x .0 in let few = honest .right .tables in omega arith) true))
 
@@ -244,7 +243,7 @@ module _ (ws ar : List ℕ) (honest : Honest ws ar) (t : ℕ) (k : List ℕ) (G 
       by-height : Dec (heldHeight ws G < 7)
           → Alike (settled G high (insertWalked ws ar t k c (ltb deepest (high + 1)))) (told.settled G (put m t k (Content.nested G) 0 (ltb deepest (high + 1))))
       by-height (yes low) =
-          let after = nest.after ws ar honest t k G known free guest-known guest-free two text short bytes low in
+          let after = nest.after ws ar honest t k G known free guest-known guest-free two text short low in
           settled-alike G high _ _ (shallow-alike low)
           (λ a. (after .good a .tidy, (let e = lows-two ws (insertWalked ws ar t k c (ltb deepest (high + 1)) .after .words) (after .lows) in omega arith)))
       by-height (no l) =
@@ -253,10 +252,10 @@ module _ (ws ar : List ℕ) (honest : Honest ws ar) (t : ℕ) (k : List ℕ) (G 
           (subst (λ (b : Bool). Alike (insertWalked ws ar t k c b) (put m t k (Content.nested G) 0 b)) (sym e) deep-alike)
           (λ a. absurd (deep-refused (ltb deepest (high + 1)) e a))
 
-pub nest-alike : (ws ar : List ℕ) → Honest ws ar → (t : ℕ) (k : List ℕ) (G : ℕ) → isBytes k ≡ true
+pub nest-alike : (ws ar : List ℕ) → Honest ws ar → (t : ℕ) (k : List ℕ) (G : ℕ)
     → Alike (insertTable ws ar t k G) (told.insertTable (meaning ws ar) t k G)
 unfolding insertTable tableSound told.insertTable
-nest-alike ws ar honest t k G bytes =
+nest-alike ws ar honest t k G =
     subst (λ (o : Outcome Inserted). Alike o (told.insertTable (meaning ws ar) t k G)) (sym (pick-true _ _ (honest-sound ws ar honest)))
     (subst (λ (b : Bool). Alike (tableSound ws ar t k G) (pick b (rest (told.takes (meaning ws ar) G)) (told.refused TableUnknown (meaning ws ar)))) (takes-same ws ar t)
     (subst (λ (b : Bool). Alike (tableSound ws ar t k G) (pick (takes ws t) (rest b) (told.refused TableUnknown (meaning ws ar)))) (takes-same ws ar G)
@@ -266,7 +265,7 @@ nest-alike ws ar honest t k G bytes =
     (λ d. keyed-alike ws ar k _ _ (λ text short.
     let r = takes-facts ws t a in
     let s = takes-facts ws G b in
-    nested-alike ws ar honest t k G (r .0) (r .1) (s .0) (s .1) (eqb-false t G d) text short bytes)))
+    nested-alike ws ar honest t k G (r .0) (r .1) (s .0) (s .1) (eqb-false t G d) text short)))
     (λ b. alike-refused TableUnknown ws ar))
     (λ a. alike-refused TableUnknown ws ar))))
   where

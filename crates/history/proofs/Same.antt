@@ -31,7 +31,6 @@ use Rattle.model.specs.Table as model
 use Rattle.model.specs.Walk as seen
 use Rattle.model.specs.Walk.{isThere, entry, Walked, walk}
 use Rattle.history.specs.Items.{Item, item, itemOf, Table}
-use Rattle.history.specs.Right.{isBytes}
 use Rattle.history.specs.Honest.{Good}
 use Rattle.history.proofs.Index.{false-true}
 use Rattle.history.proofs.Made as made
@@ -154,9 +153,9 @@ unfolding entryFrom contentFrom pick
 box-entry t key parent = refl
 
 module _ (g : ℕ → Table) (t : ℕ) (k : List ℕ) (sep G : ℕ) (sep-is : g t .sep ≡ sep) (loose : g t .placed ≡ 1 → ⊥) (text : isUtf8 k ≡ true)
-    (short : length k ≤ longestKey) (bytes : isBytes k ≡ true) (c : Content) where
+    (short : length k ≤ longestKey) (c : Content) where
   abbrev Here : List ℕ → List ℕ → ℕ → ℕ → Type 0
-  Here ws ar parent from = At g t k sep G sep-is loose text short bytes ws ar parent from
+  Here ws ar parent from = At g t k sep G sep-is loose text short ws ar parent from
 
   abbrev Adds : List ℕ → List ℕ → ℕ → ℕ → Laid → Type 0
   Adds ws ar parent from l =
@@ -185,7 +184,7 @@ module _ (g : ℕ → Table) (t : ℕ) (k : List ℕ) (sep G : ℕ) (sep-is : g 
           let three = made.made-three ws ar t parent (take e k) s tidy few′ room′ in
           let four : roomUsed (m .words) ≡ roomUsed ws + length (take e k) + 0 = made.made-four ws ar t parent (take e k) s tidy few′ room′ in
           let la = made-arena ws ar t parent (take e k) s in
-          let deep = ih (m .words) (m .arena) (itemTotal ws + 1) e (f .rises) (boxed g t k sep G sep-is loose text short bytes ws ar parent from at e refl u few′ room′) (omega arith) (omega arith) in
+          let deep = ih (m .words) (m .arena) (itemTotal ws + 1) e (f .rises) (boxed g t k sep G sep-is loose text short ws ar parent from at e refl u few′ room′) (omega arith) (omega arith) in
           let box = entry t (take e k) Content.container (aboveOf parent) in
           subst (Adds ws ar parent from) (sym (make-more sep k from h e refl t (memory ws ar) parent m u refl))
           (deep

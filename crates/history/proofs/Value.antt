@@ -22,7 +22,7 @@ use Rattle.tables.specs.Table.{takes, addTable, newTable}
 use Rattle.tables.proofs.TableLaws.{takes-facts}
 use Rattle.build.specs.Insert.{keyed, insertSound, insertValue}
 use Rattle.history.specs.Items.{Item, itemOf, Table, tableOf}
-use Rattle.history.specs.Right.{isBytes, Right}
+use Rattle.history.specs.Right.{Right}
 use Rattle.layout.specs.declared.refusal.Refusal.the-variants.{MemoryBroken, TableUnknown, KeyNotUtf8, KeyTooLong}
 use Rattle.history.specs.Honest.{Honest}
 use Rattle.history.proofs.Low as low
@@ -76,7 +76,7 @@ unfolding keyed
 keyed-after g ws ar t k c o f =
     after-where g ws ar t k c (isUtf8 k) KeyNotUtf8 _ (λ text. after-not g ws ar t k c (ltb longestKey (length k)) KeyTooLong o (λ short. f text (ltb-false longestKey (length k) short)))
 
-module _ (ws ar : List ℕ) (honest : Honest ws ar) (t : ℕ) (k v : List ℕ) (bytes : isBytes k ≡ true) where
+module _ (ws ar : List ℕ) (honest : Honest ws ar) (t : ℕ) (k v : List ℕ) where
   abbrev c : Stored
   c = stored valueKind v 0
 
@@ -89,7 +89,7 @@ module _ (ws ar : List ℕ) (honest : Honest ws ar) (t : ℕ) (k v : List ℕ) (
       let free = takes-facts ws t b in
       walked-after (tableOf ws) ws ar t k 64 (sep-same ws t)
       (λ p. let z : _≡_ {A = ℕ} 1 0 = sym p ∙ placed-word ws t ∙ free .1 in omega arith)
-      text short bytes c honest (free .0)
+      text short c honest (free .0)
       (record { kind = refl; guest = λ (z : _≡_ {A = ℕ} 118 72). absurd (omega arith) })
       (λ i l x y. let g = honest .right .guests i l x .0 in let few = honest .right .tables in omega arith) false)))
 
