@@ -2,3 +2,11 @@ pub mod Rising
 pub mod WellFormed
 pub mod Writable
 pub mod Write
+pub mod Refusals
+pub mod HeldLaws
+pub mod WalkHeld
+pub mod Inserts
+pub mod Histories
+pub mod Rows
+pub mod Demands
+pub mod Never29

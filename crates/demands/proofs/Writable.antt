@@ -24,7 +24,7 @@ use Rattle.demands.specs.Success.{RootsWritable}
 use Rattle.demands.proofs.WellFormed.{table-formed}
 
 -- what holds a table is an 'H', and the table is its guest
-holds-guest : (ws ar : List ℕ) (i u : ℕ) → contentOf ws ar i ≡ Content.nested u → (itemKind ws i ≡ tableKind) × (itemGuest ws i ≡ u)
+pub holds-guest : (ws ar : List ℕ) (i u : ℕ) → contentOf ws ar i ≡ Content.nested u → (itemKind ws i ≡ tableKind) × (itemGuest ws i ≡ u)
 unfolding contentOf pick
 holds-guest ws ar i u is = by-kind (eqb (itemKind ws i) valueKind) (eqb (itemKind ws i) tableKind) (part ar (valueStart ws i) (valueSize ws i)) refl is
   where

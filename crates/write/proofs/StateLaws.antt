@@ -193,7 +193,7 @@ module _ (ws ar : List ℕ) where
 
   -- ---- members: the items of the table, each once
 
-  table-is : (i : ℕ) → i < itemTotal ws → entryAt (meaning ws ar .items) i .table ≡ itemTable ws i
+  pub table-is : (i : ℕ) → i < itemTotal ws → entryAt (meaning ws ar .items) i .table ≡ itemTable ws i
   unfolding entryOf
   table-is i l = ap (λ (e : Entry). e .table) (entry-is i l)
 
@@ -212,7 +212,7 @@ module _ (ws ar : List ℕ) where
   unfolding among membersBelow
   among-none t = refl
 
-  total-is : length (meaning ws ar .items) ≡ itemTotal ws
+  pub total-is : length (meaning ws ar .items) ≡ itemTotal ws
   unfolding meaning
   total-is = length-listed (entryOf ws ar) (itemTotal ws)
 

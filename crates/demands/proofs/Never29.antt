@@ -1,0 +1,121 @@
+-- Demand 1: callers who change nothing between calls never meet 29. Assumes nothing.
+use Prim.Native.Nat.{ℕ}
+use mathlib.Core.Path.{_≡_}
+use mathlib.Core.Bool.{Bool, true}
+use mathlib.Core.List.{List}
+use native.Mathlib.Omega.{arith}
+use lib.ListN.{length}
+use Rattle.words.specs.Choice.{pick}
+use Rattle.words.proofs.ChoiceLaws.{pick-with, pick-true}
+use Rattle.layout.specs.declared.refusal.Refusal.{Refusal}
+use Rattle.layout.specs.declared.refusal.Refusal.the-variants.{KeyNotUtf8, KeyTooLong, NotContainer, TooManyItems, ArenaFull, TableUnknown, TableInItself, NestedTooDeep}
+use Rattle.layout.specs.Refusal.{number}
+use Rattle.model.specs.declared.Inserted.{Inserted}
+use Rattle.model.specs.declared.Numbered.{Numbered}
+use Rattle.model.specs.declared.Counted.{Counted}
+use Rattle.memory.specs.Memory.{Memory, sound, Outcome}
+use Rattle.memory.specs.Item.{Stored}
+use Rattle.tables.specs.Table.{addTable, newTable, itemCount}
+use Rattle.tables.specs.Answer.{numberedNumber, countedNumber}
+use Rattle.build.specs.Insert.{keyed, insertWalked, insertAlong, insertNew, overwrite, insertSound, insertValue}
+use Rattle.build.specs.Answer.{insertedNumber}
+use Rattle.nest.specs.Nest.{settled, nested, tableSound, insertTable}
+use Rattle.whole.specs.Whole.{wholeSound}
+use Rattle.write.specs.declared.Written.{Written}
+use Rattle.write.specs.Write.{writeAnswer, writtenNumber}
+use Rattle.history.proofs.History.{reached-sound, reached-whole}
+use Rattle.demands.specs.Calls.{Call, answered, started, after}
+use Rattle.demands.specs.Demand1.{Never29}
+use Rattle.demands.proofs.Histories.{after-reached}
+
+-- an answer of another number
+record Other {A : Type 0} (number : A → ℕ) (a : A) : Type 0 where
+  pub other : number a ≡ 29 → ⊥
+
+other-pick : {A B : Type 0} (number : B → ℕ) (of : A → B) (b : Bool) (x y : A) → Other number (of x) → Other number (of y) → Other number (of (pick b x y))
+other-pick number of b x y p q = pick-with (λ a. Other number (of a)) b x y (λ _. p) (λ _. q)
+
+-- ---- inserts
+
+abbrev said : Outcome Inserted → Inserted
+said o = o .answer
+
+no : (why : Refusal) → (number why ≡ 29 → ⊥) → Other insertedNumber (Inserted.Refused why)
+unfolding insertedNumber
+no why n = record { other = n }
+
+new : Other insertedNumber Inserted.New
+unfolding insertedNumber
+new = record { other = λ e. omega arith }
+
+module _ (ws ar : List ℕ) (t : ℕ) (key : List ℕ) where
+  walked-other : (c : Stored) (deep : Bool) → Other insertedNumber (insertWalked ws ar t key c deep .answer)
+  unfolding insertWalked insertAlong insertNew overwrite insertedNumber
+  walked-other c deep =
+      other-pick insertedNumber said _ _ _
+      (other-pick insertedNumber said _ _ _ (no NestedTooDeep (λ e. omega arith))
+      (other-pick insertedNumber said _ _ _ (other-pick insertedNumber said _ _ _ (no ArenaFull (λ e. omega arith)) (record { other = λ e. omega arith }))
+      (other-pick insertedNumber said _ _ _ (no TooManyItems (λ e. omega arith)) (other-pick insertedNumber said _ _ _ (no ArenaFull (λ e. omega arith)) new))))
+      (no NotContainer (λ e. omega arith))
+
+  keyed-other : (o : Outcome Inserted) → Other insertedNumber (o .answer) → Other insertedNumber (keyed ws ar key o .answer)
+  unfolding keyed
+  keyed-other o p =
+      other-pick insertedNumber said _ _ _ (other-pick insertedNumber said _ _ _ (no KeyTooLong (λ e. omega arith)) p) (no KeyNotUtf8 (λ e. omega arith))
+
+  value-other : (value : List ℕ) → sound ws (length ar) ≡ true → Other insertedNumber (insertValue ws ar t key value .answer)
+  unfolding insertValue insertSound
+  value-other value ok =
+      rw (pick-true (insertSound ws ar t key value) _ ok)
+      (other-pick insertedNumber said _ _ _ (keyed-other _ (walked-other _ _)) (no TableUnknown (λ e. omega arith)))
+
+  table-other : (guest : ℕ) → sound ws (length ar) ≡ true → Other insertedNumber (insertTable ws ar t key guest .answer)
+  unfolding insertTable tableSound nested settled
+  table-other guest ok =
+      rw (pick-true (tableSound ws ar t key guest) _ ok)
+      (other-pick insertedNumber said _ _ _
+      (other-pick insertedNumber said _ _ _
+      (other-pick insertedNumber said _ _ _ (no TableInItself (λ e. omega arith)) (keyed-other _ (walked-other _ _)))
+      (no TableUnknown (λ e. omega arith)))
+      (no TableUnknown (λ e. omega arith)))
+
+-- ---- the others
+
+new-table-other : (ws ar given : List ℕ) → sound ws (length ar) ≡ true → Other numberedNumber (newTable ws ar given .answer)
+unfolding newTable addTable numberedNumber
+new-table-other ws ar given ok =
+    let say : Outcome Numbered → Numbered = λ (o : Outcome Numbered). o .answer in
+    rw (pick-true _ _ ok)
+    (other-pick numberedNumber say _ _ _ (record { other = λ e. omega arith })
+    (other-pick numberedNumber say _ _ _ (record { other = λ e. omega arith }) (record { other = λ e. omega arith })))
+
+count-other : (ws ar : List ℕ) (t : ℕ) → sound ws (length ar) ≡ true → Other countedNumber (itemCount ws ar t)
+unfolding itemCount countedNumber
+count-other ws ar t ok =
+    rw (pick-true _ _ ok) (other-pick countedNumber (λ (a : Counted). a) _ _ _ (record { other = λ e. omega arith }) (record { other = λ e. omega arith }))
+
+write-other : (ws ar : List ℕ) (t room : ℕ) → wholeSound ws ar ≡ true → Other writtenNumber (writeAnswer ws ar t room)
+unfolding writeAnswer writtenNumber
+write-other ws ar t room ok =
+    let same : Written → Written = λ (a : Written). a in
+    rw (pick-true _ _ ok)
+    (other-pick writtenNumber same _ _ _
+    (other-pick writtenNumber same _ _ _ (record { other = λ e. omega arith })
+    (other-pick writtenNumber same _ _ _ (record { other = λ e. omega arith }) (record { other = λ e. omega arith })))
+    (record { other = λ e. omega arith }))
+
+pub never-29 : Never29
+unfolding answered
+never-29 ws ar long calls call e =
+    let r = after-reached ws ar long calls in
+    by call (reached-sound _ _ r) (reached-whole _ _ r) e
+  where
+    m : Memory
+    m = after (started ws ar) calls
+
+    by : (x : Call) → sound (m .words) (length (m .arena)) ≡ true → wholeSound (m .words) (m .arena) ≡ true → answered m x ≡ 29 → ⊥
+    by (Call.new-table given) ok whole e = new-table-other (m .words) (m .arena) given ok .other e
+    by (Call.insert-value t key value) ok whole e = value-other (m .words) (m .arena) t key value ok .other e
+    by (Call.insert-table t key guest) ok whole e = table-other (m .words) (m .arena) t key guest ok .other e
+    by (Call.item-count t) ok whole e = count-other (m .words) (m .arena) t ok .other e
+    by (Call.write t buffer) ok whole e = write-other (m .words) (m .arena) t (length buffer) whole .other e
