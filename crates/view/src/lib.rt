@@ -1,0 +1,3 @@
+// Views: structs that hold a lent file, and thin functions over them.
+pub mod part;
+pub mod table;
