@@ -9,10 +9,12 @@ use Rattle.words.specs.Choice.{pick}
 use Rattle.words.specs.Hash.{plain}
 use Rattle.words.proofs.ChoiceLaws.{pick-with}
 use Rattle.layout.specs.declared.refusal.Refusal.{Refusal}
+use Rattle.layout.specs.declared.refusal.Refusal.the-variants.{TableTooShort}
 use Rattle.layout.specs.declared.table.Opened.{Opened}
 use Rattle.layout.specs.declared.table.Table.{Table}
 use Rattle.layout.specs.declared.item.Item.{Item}
-use Rattle.layout.specs.Table.{openTable}
+use Rattle.layout.specs.Table.{openTable, tableIn}
+use Rattle.layout.specs.Pointer.{openPointer}
 use Rattle.read.specs.declared.lookup.Looked.{Looked}
 use Rattle.read.specs.declared.lookup.Sought.{Sought}
 use Rattle.read.specs.declared.listing.Valued.{Valued}
@@ -48,6 +50,11 @@ none file r start end s e viewed = stretch-out file r 0 0 (omega arith) (omega a
 seen : (file r : RefT (List ℕ)) (start end from to : ℕ) → start ≡ from → end ≡ to → (from ≤ to) × (to ≤ length (now file)) → Stretch file start end r
     → Viewed file r from (take (to - from) (drop from (now file)))
 seen file r start end from to s e within viewed = stretch-out file r from to (within .0) (within .1) (stretch-same file r from to start end s e viewed)
+
+-- as a table it opens with 4
+pub empty-refused : (file : RefT (List ℕ)) (table : TableView) → Empty file table → openTable (now (table .file)) (table .start) (table .end) ≡ Opened.Refused TableTooShort
+unfolding openTable openPointer tableIn pick
+empty-refused file table empty = rw (empty .seen .holds, empty .starts, empty .ends)
 
 module _ (t : TableView) (key : List ℕ) (r : ValueView) (said : ValueOf t key r) where
   pub value-seen : {from to : ℕ} → r .answer ≡ Looked.Place from to → Viewed (t .file) (r .bytes) from (take (to - from) (drop from (now (t .file))))
