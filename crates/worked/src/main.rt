@@ -1,6 +1,7 @@
 // Document 01's worked numbers as the code answers them, and the boundary cases of UTF-8 and of opening. What it writes is held to the file stdout.
 mod open;
 mod say;
+mod seen;
 mod small;
 mod tour;
 mod utf8;
@@ -15,4 +16,5 @@ fn main() {
     open::pointers();
     open::tables();
     tour::files();
+    seen::files();
 }
