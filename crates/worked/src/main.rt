@@ -2,6 +2,7 @@
 mod laid;
 mod open;
 mod say;
+mod seen;
 mod small;
 mod tour;
 mod utf8;
@@ -17,4 +18,5 @@ fn main() {
     open::tables();
     tour::files();
     laid::tables();
+    seen::files();
 }

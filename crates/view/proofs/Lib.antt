@@ -1,0 +1,4 @@
+pub mod PartLaws
+pub mod Plain
+pub mod Unique
+pub mod ThroughLaws

@@ -1,0 +1,77 @@
+-- Parts of a lent file. Assumes nothing.
+use Prim.Native.Nat.{ℕ, _+_, _-_}
+use mathlib.Core.Path.{_≡_}
+use mathlib.Core.List.{List, []}
+use lib.ListN.{length, take, drop}
+use lib.Dec.{ltb}
+use denote.Ref.{RefT, now}
+use Rattle.words.specs.Choice.{pick}
+use Rattle.layout.specs.declared.table.Opened.{Opened}
+use Rattle.read.specs.declared.lookup.Looked.{Looked}
+use Rattle.read.specs.declared.listing.Valued.{Valued}
+
+-- a lent slice is a stretch of a lent file, and no copy: it lies in the file's memory, `at` bytes from the file's start, and holds `bytes`
+pub record Viewed (file r : RefT (List ℕ)) (at : ℕ) (bytes : List ℕ) : Type 0 where
+  pub block : r .ptr .0 ≡ file .ptr .0
+  pub place : r .ptr .1 ≡ file .ptr .1 + at
+  pub holds : now r ≡ bytes
+
+-- where the bytes from start up to end lie; 0 where they are not in the file
+unfoldable pub stretchAt : List ℕ → ℕ → ℕ → ℕ
+stretchAt file start end = pick (ltb end start) 0 (pick (ltb (length file) end) 0 start)
+
+-- the bytes from start up to end; none where they are not in the file
+unfoldable pub stretchOf : List ℕ → ℕ → ℕ → List ℕ
+stretchOf file start end = pick (ltb end start) [] (pick (ltb (length file) end) [] (take (end - start) (drop start file)))
+
+-- a slice is the stretch from start up to end
+abbrev pub Stretch : RefT (List ℕ) → ℕ → ℕ → RefT (List ℕ) → Type 0
+Stretch file start end r = Viewed file r (stretchAt (now file) start end) (stretchOf (now file) start end)
+
+-- the pointer of a lookup's place; 0 and 0 on a refusal
+abbrev pub placeStart : Looked → ℕ
+placeStart (Looked.Place start end) = start
+placeStart (Looked.Refused why) = 0
+
+abbrev pub placeEnd : Looked → ℕ
+placeEnd (Looked.Place start end) = end
+placeEnd (Looked.Refused why) = 0
+
+-- a value that was looked up
+abbrev pub ValueIn : RefT (List ℕ) → Looked → RefT (List ℕ) → Type 0
+ValueIn file looked r = Stretch file (placeStart looked) (placeEnd looked) r
+
+-- a listed value's place; 0 and 0 on a refusal
+abbrev pub listedStart : Valued → ℕ
+listedStart (Valued.Value index start end next) = start
+listedStart (Valued.Unopened why index next) = 0
+listedStart (Valued.Refused why) = 0
+
+abbrev pub listedEnd : Valued → ℕ
+listedEnd (Valued.Value index start end next) = end
+listedEnd (Valued.Unopened why index next) = 0
+listedEnd (Valued.Refused why) = 0
+
+-- a value that was listed
+abbrev pub ListedIn : RefT (List ℕ) → Valued → RefT (List ℕ) → Type 0
+ListedIn file valued r = Stretch file (listedStart valued) (listedEnd valued) r
+
+-- a number of the pointer to a table that opened; 0 on a refusal
+abbrev pub openedPlace : Opened → ℕ → ℕ
+openedPlace (Opened.Table table) number = number
+openedPlace (Opened.Refused why) number = 0
+
+-- the file of a table that opened, or of a nested table; none on a refusal
+abbrev pub openedFile : Opened → List ℕ → List ℕ
+openedFile (Opened.Table table) file = file
+openedFile (Opened.Refused why) file = []
+
+abbrev pub nestedFile : Looked → List ℕ → List ℕ
+nestedFile (Looked.Place start end) file = file
+nestedFile (Looked.Refused why) file = []
+
+abbrev pub OpenedIn : RefT (List ℕ) → Opened → RefT (List ℕ) → Type 0
+OpenedIn file opened r = Viewed file r 0 (openedFile opened (now file))
+
+abbrev pub NestedIn : RefT (List ℕ) → Looked → RefT (List ℕ) → Type 0
+NestedIn file looked r = Viewed file r 0 (nestedFile looked (now file))

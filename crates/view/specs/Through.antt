@@ -1,0 +1,13 @@
+-- A value in a nested table: the lookup of the table, and then that of the value at its pointer. Assumes nothing.
+use Prim.Native.Nat.{ℕ}
+use mathlib.Core.List.{List}
+use Rattle.words.specs.Hash.{plain}
+use Rattle.read.specs.declared.lookup.Looked.{Looked}
+use Rattle.read.specs.Lookup.{lookupValue, lookupTable}
+
+unfoldable pub atPlace : Looked → (ℕ → ℕ → Looked) → Looked
+atPlace (Looked.Place start end) looked = looked start end
+atPlace (Looked.Refused why) looked = Looked.Refused why
+
+unfoldable pub nestedValue : List ℕ → ℕ → ℕ → List ℕ → List ℕ → Looked
+nestedValue file start end table key = atPlace (lookupTable plain file start end table) (λ from to. lookupValue plain file from to key)

@@ -1,0 +1,46 @@
+-- What each view says: the answer is the definition's, and what stands beside it is that part of the lent file. Assumes nothing.
+use Prim.Native.Nat.{ℕ}
+use mathlib.Core.Path.{_≡_}
+use mathlib.Core.List.{List}
+use lib.ListN.{length}
+use denote.Ref.{RefT, now}
+use Rattle.words.specs.Hash.{plain}
+use Rattle.layout.specs.Table.{openTable}
+use Rattle.read.specs.Lookup.{lookupValue, lookupTable}
+use Rattle.read.specs.Listing.{valueAt, keyAt, listed, written}
+use Rattle.read.specs.declared.listing.Listed.{Listed}
+use Rattle.view.specs.declared.table.TableView.{TableView}
+use Rattle.view.specs.declared.table.OpenedView.{OpenedView}
+use Rattle.view.specs.declared.table.ValueView.{ValueView}
+use Rattle.view.specs.declared.table.NestedView.{NestedView}
+use Rattle.view.specs.declared.table.ListedView.{ListedView}
+use Rattle.view.specs.Part.{ValueIn, ListedIn, OpenedIn, NestedIn, openedPlace, placeStart, placeEnd}
+
+-- an opening of a file at a pointer
+pub record OpenedOf (file : RefT (List ℕ)) (start end : ℕ) (r : OpenedView) : Type 0 where
+  pub answered : r .answer ≡ openTable (now file) start end
+  pub viewed : OpenedIn file (r .answer) (r .table .file)
+  pub starts : r .table .start ≡ openedPlace (r .answer) start
+  pub ends : r .table .end ≡ openedPlace (r .answer) end
+
+-- a lookup of a value in the table t
+pub record ValueOf (t : TableView) (key : List ℕ) (r : ValueView) : Type 0 where
+  pub answered : r .answer ≡ lookupValue plain (now (t .file)) (t .start) (t .end) key
+  pub viewed : ValueIn (t .file) (r .answer) (r .bytes)
+
+-- a lookup of a nested table in the table t
+pub record NestedOf (t : TableView) (key : List ℕ) (r : NestedView) : Type 0 where
+  pub answered : r .answer ≡ lookupTable plain (now (t .file)) (t .start) (t .end) key
+  pub viewed : NestedIn (t .file) (r .answer) (r .table .file)
+  pub starts : r .table .start ≡ placeStart (r .answer)
+  pub ends : r .table .end ≡ placeEnd (r .answer)
+
+-- a value listing of the table t from a position on
+pub record ListedOf (t : TableView) (at : ℕ) (r : ListedView) : Type 0 where
+  pub answered : r .answer ≡ valueAt (now (t .file)) (t .start) (t .end) at
+  pub viewed : ListedIn (t .file) (r .answer) (r .bytes)
+
+-- a key listing of the table t at a position, into a lent buffer; `left` is what the buffer holds then
+pub record KeyOf (t : TableView) (at : ℕ) (buffer : List ℕ) (r : Listed) (left : List ℕ) : Type 0 where
+  pub answered : r ≡ listed (keyAt (now (t .file)) (t .start) (t .end) at) (length buffer) at
+  pub wrote : left ≡ written (keyAt (now (t .file)) (t .start) (t .end) at) buffer

@@ -1,0 +1,131 @@
+// The parts of a lent file and the numbers that a view is made of, from an answer. A refusal's part is `&file[0..0]`, its numbers are 0.
+use layout::table::Opened;
+use read::listing::Valued;
+use read::lookup::Looked;
+ghost use mathlib.Core.Path.{_≡_};
+ghost use mathlib.Core.List.{[]};
+ghost use Rattle.view.specs.Part.{Viewed, Stretch, ValueIn, ListedIn, OpenedIn, NestedIn, openedPlace, placeStart, placeEnd, listedStart, listedEnd};
+
+// No bytes of the file.
+pub fn nothing<'a>(file: &'a [u8]) -> &'a [u8]
+    ensures { λ r. ⌜ Viewed (file .entry) r 0 [] ⌝ }
+{
+    &file[0..0]
+}
+
+// The bytes from start up to end; none where they do not lie in the file.
+pub fn stretch<'a>(file: &'a [u8], start: u32, end: u32) -> &'a [u8]
+    ensures { λ r. ⌜ Stretch (file .entry) start end r ⌝ }
+{
+    let from = start as usize;
+    let to = end as usize;
+    if to < from {
+        return nothing(file);
+    }
+    if file.len() < to {
+        return nothing(file);
+    }
+    &file[from..to]
+}
+
+// The place that a lookup answers.
+pub fn place_start(looked: Looked) -> u32
+    ensures { λ r. ⌜ r ≡ placeStart looked ⌝ }
+{
+    match looked {
+        Looked::Place { start, end: _ } => start,
+        Looked::Refused(_) => 0,
+    }
+}
+
+pub fn place_end(looked: Looked) -> u32
+    ensures { λ r. ⌜ r ≡ placeEnd looked ⌝ }
+{
+    match looked {
+        Looked::Place { start: _, end } => end,
+        Looked::Refused(_) => 0,
+    }
+}
+
+// The place that value listing answers.
+pub fn listed_start(valued: Valued) -> u32
+    ensures { λ r. ⌜ r ≡ listedStart valued ⌝ }
+{
+    match valued {
+        Valued::Value {
+            index: _,
+            start,
+            end: _,
+            next: _,
+        } => start,
+        Valued::Unopened {
+            why: _,
+            index: _,
+            next: _,
+        } => 0,
+        Valued::Refused(_) => 0,
+    }
+}
+
+pub fn listed_end(valued: Valued) -> u32
+    ensures { λ r. ⌜ r ≡ listedEnd valued ⌝ }
+{
+    match valued {
+        Valued::Value {
+            index: _,
+            start: _,
+            end,
+            next: _,
+        } => end,
+        Valued::Unopened {
+            why: _,
+            index: _,
+            next: _,
+        } => 0,
+        Valued::Refused(_) => 0,
+    }
+}
+
+// The bytes of a value that was looked up.
+pub fn value_part<'a>(file: &'a [u8], looked: Looked) -> &'a [u8]
+    ensures { λ r. ⌜ ValueIn (file .entry) looked r ⌝ }
+{
+    stretch(file, place_start(looked), place_end(looked))
+}
+
+// The bytes of a value that was listed.
+pub fn listed_part<'a>(file: &'a [u8], valued: Valued) -> &'a [u8]
+    ensures { λ r. ⌜ ListedIn (file .entry) valued r ⌝ }
+{
+    stretch(file, listed_start(valued), listed_end(valued))
+}
+
+// The file of a nested table that was looked up.
+pub fn nested_part<'a>(file: &'a [u8], looked: Looked) -> &'a [u8]
+    ensures { λ r. ⌜ NestedIn (file .entry) looked r ⌝ }
+{
+    match looked {
+        Looked::Place { start: _, end: _ } => file,
+        Looked::Refused(_) => nothing(file),
+    }
+}
+
+// The file of a table that opened.
+pub fn opened_part<'a>(file: &'a [u8], opened: Opened) -> &'a [u8]
+    ensures { λ r. ⌜ OpenedIn (file .entry) opened r ⌝ }
+{
+    match opened {
+        Opened::Table(_) => file,
+        Opened::Refused(_) => nothing(file),
+    }
+}
+
+// A number of the pointer to a table that opened.
+pub fn opened_place(opened: Opened, number: u32) -> u32
+    ensures { λ r. ⌜ r ≡ openedPlace opened number ⌝ }
+{
+    match opened {
+        Opened::Table(_) => number,
+        Opened::Refused(_) => 0,
+    }
+}

@@ -1,0 +1,113 @@
+// A table as a view that borrows its file. Each function takes the view apart and calls covered functions: no branch, no arithmetic, no loop.
+// A view holds no proof that it is good: each call opens the table again, so a view of any numbers is harmless.
+use audit::check::Checked;
+use layout::table::Opened;
+use read::listing::Cursor;
+use read::listing::Listed;
+use read::listing::Valued;
+use read::lookup::Looked;
+ghost use mathlib.Core.Path.{_≡_};
+ghost use Rattle.words.specs.Hash.{plain};
+ghost use Rattle.audit.specs.Rules.{checkTable};
+ghost use Rattle.view.specs.Views.{OpenedOf, ValueOf, NestedOf, ListedOf, KeyOf};
+
+// A table of a lent file: the file, and the pointer to the table.
+pub struct TableView<'a> {
+    pub file: &'a [u8],
+    pub start: u32,
+    pub end: u32,
+}
+
+// What opening answers, and the table.
+pub struct OpenedView<'a> {
+    pub answer: Opened,
+    pub table: TableView<'a>,
+}
+
+// What a lookup answers, and the value's bytes.
+pub struct ValueView<'a> {
+    pub answer: Looked,
+    pub bytes: &'a [u8],
+}
+
+// What a lookup answers, and the nested table.
+pub struct NestedView<'a> {
+    pub answer: Looked,
+    pub table: TableView<'a>,
+}
+
+// What value listing answers (its item, the next position), and the value's bytes.
+pub struct ListedView<'a> {
+    pub answer: Valued,
+    pub bytes: &'a [u8],
+}
+
+// The table of a file at a pointer.
+pub fn open_view<'a>(file: &'a [u8], start: u32, end: u32) -> OpenedView<'a>
+    ensures { λ r. ⌜ OpenedOf (file .entry) start end r ⌝ }
+{
+    let answer = layout::table::open_table(file, start, end);
+    let lent = crate::part::opened_part(file, answer);
+    let from = crate::part::opened_place(answer, start);
+    let to = crate::part::opened_place(answer, end);
+    OpenedView {
+        answer,
+        table: TableView {
+            file: lent,
+            start: from,
+            end: to,
+        },
+    }
+}
+
+impl<'a> TableView<'a> {
+    // The value of a key.
+    pub fn value(self, key: &[u8]) -> ValueView<'a>
+        ensures { λ r. ⌜ ValueOf (self .entry) (now (key .entry)) r ⌝ }
+    {
+        let answer = read::lookup::lookup_value(self.file, self.start, self.end, key);
+        let bytes = crate::part::value_part(self.file, answer);
+        ValueView { answer, bytes }
+    }
+
+    // The nested table of a key.
+    pub fn nested(self, key: &[u8]) -> NestedView<'a>
+        ensures { λ r. ⌜ NestedOf (self .entry) (now (key .entry)) r ⌝ }
+    {
+        let answer = read::lookup::lookup_table(self.file, self.start, self.end, key);
+        let lent = crate::part::nested_part(self.file, answer);
+        let from = crate::part::place_start(answer);
+        let to = crate::part::place_end(answer);
+        NestedView {
+            answer,
+            table: TableView {
+                file: lent,
+                start: from,
+                end: to,
+            },
+        }
+    }
+
+    // The first value at or after the cursor.
+    pub fn next_value(self, cursor: Cursor) -> ListedView<'a>
+        ensures { λ r. ⌜ ListedOf (self .entry) (cursor .at) r ⌝ }
+    {
+        let answer = Cursor::next_value(cursor, self.file, self.start, self.end);
+        let bytes = crate::part::listed_part(self.file, answer);
+        ListedView { answer, bytes }
+    }
+
+    // The key at the cursor, written to the front of `out`. A refusal writes nothing.
+    pub fn next_key(self, cursor: Cursor, out: &mut [u8]) -> Listed
+        ensures { λ r. ⌜ KeyOf (self .entry) (cursor .at) (now (out .entry)) r (now (out .exit)) ⌝ }
+    {
+        Cursor::next_key(cursor, self.file, self.start, self.end, out)
+    }
+
+    // The check of the table.
+    pub fn check(self) -> Checked
+        ensures { λ r. ⌜ r ≡ checkTable plain (now (self .entry .file)) (self .entry .start) (self .entry .end) ⌝ }
+    {
+        audit::check::check_table(self.file, self.start, self.end)
+    }
+}
