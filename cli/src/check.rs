@@ -97,7 +97,7 @@ impl Checked {
 
 /// Checks a table and those nested in it: each before those it holds.
 fn visit(source: &Source, table: Table, path: &mut Vec<String>, walk: &mut Walk, verdicts: &mut Vec<Verdict>) -> Result<(), Failure> {
-    walk.enter(&table, path.len() + 1)?;
+    walk.enter(&table, path)?;
     out::progress(source.bytes.len(), || format!("{}: {}: checking {}", source.name, table_name(path), text::count(table.len(), "item")));
     let broken = table.check().err().map(|unsound| Broken { unsound, key: table.key_at(unsound.item) });
     verdicts.push(Verdict { path: path.clone(), items: table.len(), broken });

@@ -29,7 +29,7 @@ pub fn read(source: &Source) -> Result<Content<'_>, Failure> {
 }
 
 fn table<'a>(source: &'a Source, from: Table<'a>, path: &mut Vec<String>, walk: &mut Walk) -> Result<Content<'a>, Failure> {
-    walk.enter(&from, path.len() + 1)?;
+    walk.enter(&from, path)?;
     check::sound(&source.name, &from, path)?;
     let mut content = Content::new();
     for entry in walk.entries(&from)? {

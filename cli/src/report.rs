@@ -1,7 +1,7 @@
 //! What a merge tells: every key that stands in both files, and what was dropped.
 
 use crate::content::{self, Content, Node, Place};
-use crate::failure::{name, Failure};
+use crate::failure::Failure;
 use crate::header::ByteOrder;
 use crate::json::Json;
 use crate::merge::Side;
@@ -52,7 +52,7 @@ type Line = (&'static str, Option<Colour>, String);
 
 impl<'a> Report<'a> {
     pub fn new(own: &Source, other: &Source, out: &Path, keep: Option<Side>, separator: Option<u8>, order: ByteOrder) -> Report<'a> {
-        let (own, other, out) = (own.name.clone(), other.name.clone(), name(out.as_os_str()));
+        let [own, other, out] = [own.path.as_path(), &other.path, out].map(|path| path.to_string_lossy().into_owned());
         Report { own, other, out, keep, separator, order, both: Vec::new(), only_own: 0, only_other: 0, values: None, unmade: Vec::new() }
     }
 
@@ -107,7 +107,7 @@ impl<'a> Report<'a> {
     }
 
     fn lines(&self, short: usize) -> Vec<Line> {
-        let mut lines = vec![("merge", None, format!(" of own {} and other {}", self.own, self.other))];
+        let mut lines = vec![("merge", None, format!(" of own {} and other {}", text::shown(&self.own), text::shown(&self.other)))];
         if self.order == ByteOrder::Big {
             lines.push(("note", Some(Colour::Yellow), " the values of both files are big-endian".to_string()));
         }
@@ -116,9 +116,10 @@ impl<'a> Report<'a> {
             let why = self.separator.map_or("there is no separator".to_string(), |byte| format!("the separator {:?} does not make it", byte as char));
             lines.push(("note", Some(Colour::Yellow), format!(" container {} is not kept: {why}", text::path(path, key))));
         }
+        let out = text::shown(&self.out);
         let (word, colour, values) = match self.values {
-            Some(values) => ("merged", Colour::Green, format!(" into {}: {}", self.out, text::count(values, "value"))),
-            None => ("refused", Colour::Red, format!(" {} is not written", self.out)),
+            Some(values) => ("merged", Colour::Green, format!(" into {out}: {}", text::count(values, "value"))),
+            None => ("refused", Colour::Red, format!(": {out} is not written")),
         };
         let counts = format!("; {} only in own, {} only in other, {} the same in both", self.only_own, self.only_other, self.count(Outcome::Same));
         lines.push((word, Some(colour), format!("{values}{counts}, {}{}", text::count(self.conflicts(), "conflict"), self.dropped_count())));

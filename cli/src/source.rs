@@ -70,9 +70,10 @@ pub struct Walk {
 }
 
 impl Walk {
-    /// Takes a table that lies so deep, the root at 1.
-    pub fn enter(&mut self, table: &Table, depth: usize) -> Result<(), Failure> {
-        if depth > DEEPEST {
+    /// Takes a table that is reached by the keys of those around it.
+    pub fn enter(&mut self, table: &Table, path: &[String]) -> Result<(), Failure> {
+        self.hold(path.iter().map(String::len).sum())?;
+        if path.len() >= DEEPEST {
             return Err(Failure::no(format!("{}: tables are nested more than {DEEPEST} deep, and not followed", self.name)));
         }
         let pointer = table.pointer();
@@ -86,12 +87,16 @@ impl Walk {
     pub fn entries<'a>(&mut self, table: &Table<'a>) -> Result<Vec<Entry<'a>>, Failure> {
         let mut entries = Vec::new();
         for entry in table.entries() {
-            let size = entry.key.as_ref().map_or(0, String::len);
-            let left = self.key_bytes.checked_sub(size);
-            self.key_bytes = left.ok_or_else(|| Failure::usage(format!("{}: its keys take more than {} bytes", self.name, text::grouped(KEY_BYTES))))?;
+            self.hold(entry.key.as_ref().map_or(0, String::len))?;
             entries.push(entry);
         }
         entries.sort_by(|a, b| (a.key.is_err(), a.key.as_ref().ok(), a.index).cmp(&(b.key.is_err(), b.key.as_ref().ok(), b.index)));
         Ok(entries)
+    }
+
+    fn hold(&mut self, bytes: usize) -> Result<(), Failure> {
+        let left = self.key_bytes.checked_sub(bytes);
+        self.key_bytes = left.ok_or_else(|| Failure::usage(format!("{}: its keys take more than {} bytes", self.name, text::grouped(KEY_BYTES))))?;
+        Ok(())
     }
 }

@@ -14,7 +14,7 @@ pub fn run(args: &Args, out: &mut Out) -> Result<u8, Failure> {
     let source = Source::read(&args.words()[0])?;
     let root = source.root()?;
     out.line(format!("{}  {}", source.name, text::count(root.len(), "item")))?;
-    let mut tree = Tree { out, walk: source.walk(), indent: Vec::new(), tables: 0 };
+    let mut tree = Tree { out, walk: source.walk(), indent: Vec::new(), path: Vec::new() };
     tree.table(&root)?;
     Ok(0)
 }
@@ -24,18 +24,15 @@ struct Tree<'a> {
     walk: Walk,
     /// For each level above, whether more follows on it.
     indent: Vec<bool>,
-    /// How many tables lie around what is drawn.
-    tables: usize,
+    /// The keys of the tables around what is drawn.
+    path: Vec<String>,
 }
 
 impl Tree<'_> {
     fn table(&mut self, table: &Table) -> Result<(), Failure> {
-        self.tables += 1;
-        self.walk.enter(table, self.tables)?;
+        self.walk.enter(table, &self.path)?;
         let entries = self.walk.entries(table)?;
-        self.level(&entries, 0)?;
-        self.tables -= 1;
-        Ok(())
+        self.level(&entries, 0)
     }
 
     /// Entries in key order, below a container whose key is so long.
@@ -56,7 +53,11 @@ impl Tree<'_> {
             self.indent.push(more);
             match (&entry.key, &entry.item) {
                 (Ok(key), Ok(Item::Container)) => self.level(&behind[..own], key.len())?,
-                (_, Ok(Item::Table(nested))) => self.table(nested)?,
+                (Ok(key), Ok(Item::Table(nested))) => {
+                    self.path.push(key.clone());
+                    self.table(nested)?;
+                    self.path.pop();
+                }
                 _ => {}
             }
             self.indent.pop();
