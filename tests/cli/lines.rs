@@ -119,6 +119,19 @@ fn limits_are_named() {
     assert!(ran.stderr.lines().last().unwrap().contains("refusal 1: "));
 }
 
+/// Values whose keys are containers of others, and of each other: all stand, and gvdb-rs lays the same.
+#[test]
+fn values_above_values() {
+    let lines = "a/\t01\na/b/\t02\na/b/c\t03\na/b/d/e\t04\nt/\t{}\nt/\tx/\t05\nt/\tx/y\t06\nt/u\t07\n";
+    let (place, ran) = laid("above", lines.as_bytes());
+    ran.ends(0).prints("7 values");
+    assert_eq!(gvdb(["dump".as_ref(), place.as_os_str()]).ends(0).text(), lines);
+    let Some(mut oracle) = Oracle::start() else { return };
+    let table = oracle.read(&place);
+    assert_eq!(model::lines(&table, ""), lines);
+    assert_eq!(hex(&fs::read(&place).unwrap()), hex(&oracle.lay(&table)));
+}
+
 #[test]
 fn separators() {
     for (separator, containers) in [("/", vec!["a/"]), ("none", vec![]), (":", vec!["a/b:"])] {

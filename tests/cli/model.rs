@@ -100,9 +100,9 @@ fn drop_values(node: &Node, place: &[String], merged: &mut Merged) {
 /// A table of a few keys that often meet those of another.
 pub fn random(dice: &mut Dice, depth: u32) -> Table {
     let mut table = Table::new();
-    for _ in 0..dice.below(9) {
-        let parts = ["a", "b", "/", "é", "stand/", "c"];
-        let key: String = (0..1 + dice.below(4)).map(|_| parts[dice.below(6) as usize]).collect();
+    for _ in 0..dice.below(16) {
+        let parts = ["a", "/", "é/", "b"];
+        let key: String = (0..1 + dice.below(3)).map(|_| parts[dice.below(4) as usize]).collect();
         let node = if depth > 0 && dice.below(4) == 0 {
             Node::Table(random(dice, depth - 1))
         } else {
