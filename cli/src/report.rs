@@ -173,21 +173,23 @@ impl Both<'_> {
             Outcome::Tables => lines.push(("tables", Some(Colour::Blue), format!(" {place}: in both, merged key by key"))),
             Outcome::Conflict => {
                 lines.push(("conflict", Some(Colour::Red), format!(" {place}{}", self.difference(short))));
-                for side in [Side::Own, Side::Other] {
-                    let word = match keep {
-                        None => "   ",
-                        Some(kept) if kept == side => "    kept   ",
-                        Some(_) => "    dropped",
-                    };
-                    let colour = keep.map(|kept| if kept == side { Colour::Green } else { Colour::Red });
-                    lines.push((word, colour, format!(" {:<5}  {}", side.name(), held(self.node(side), short))));
-                    if let Node::Table(_) = self.node(side) {
-                        let values = self.values(side).into_iter();
-                        lines.extend(values.map(|((path, key), bytes)| {
-                            (word, colour, format!(" {:<5}    {}: {}", side.name(), text::path(&path, &key), bytes_held(bytes, short)))
-                        }));
-                    }
-                }
+                [Side::Own, Side::Other].into_iter().for_each(|side| self.side_lines(side, keep, short, lines));
+            }
+        }
+    }
+
+    /// What one side of a conflict holds, and whether it is kept. A line of what is dropped says the key too, so that it stands for itself.
+    fn side_lines(&self, side: Side, keep: Option<Side>, short: usize, lines: &mut Vec<Line>) {
+        let (word, colour, key) = match keep {
+            None => ("   ", None, String::new()),
+            Some(kept) if kept == side => ("    kept   ", Some(Colour::Green), String::new()),
+            Some(_) => ("    dropped", Some(Colour::Red), text::path(&self.path, &self.key) + ": "),
+        };
+        let side_name = side.name();
+        lines.push((word, colour, format!(" {side_name:<5}  {key}{}", held(self.node(side), short))));
+        if let Node::Table(_) = self.node(side) {
+            for ((path, key), bytes) in self.values(side) {
+                lines.push((word, colour, format!(" {side_name:<5}    {}: {}", text::path(&path, &key), bytes_held(bytes, short))));
             }
         }
     }

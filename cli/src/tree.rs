@@ -2,6 +2,7 @@
 
 use crate::args::Args;
 use crate::failure::{Failure, Told};
+use crate::header::ByteOrder;
 use crate::out::{Colour, Out};
 use crate::source::{Source, Walk};
 use crate::text;
@@ -13,7 +14,8 @@ const DEEPEST: usize = 64;
 pub fn run(args: &Args, out: &mut Out) -> Result<u8, Failure> {
     let source = Source::read(&args.words()[0])?;
     let root = source.root()?;
-    out.line(format!("{}  {}", source.name, text::count(root.len(), "item")))?;
+    let order = if source.header.order == ByteOrder::Big { ", big-endian values" } else { "" };
+    out.line(format!("{}  {}{order}", source.name, text::count(root.len(), "item")))?;
     let mut tree = Tree { out, walk: source.walk(), indent: Vec::new(), path: Vec::new() };
     tree.table(&root)?;
     Ok(0)

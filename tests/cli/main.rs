@@ -9,4 +9,5 @@ mod model;
 mod oracle;
 mod places;
 mod reading;
+mod tour;
 mod usage;

@@ -57,8 +57,11 @@ refused: out is not written; 1 only in own, 1 only in other, 1 the same in both,
     for (keep, kept) in [("own", "02"), ("other", "03")] {
         let ran = pair.merge(&["--keep", keep]).ends(0).prints("conflict \"/p/2\"").prints("same \"same\"");
         let lines: Vec<&str> = ran.text().lines().filter(|line| line.starts_with("    ")).collect();
-        let (own, other) = if keep == "own" { ("kept   ", "dropped") } else { ("dropped", "kept   ") };
-        assert_eq!(lines, [format!("    {own} own    value of 1 byte: 02"), format!("    {other} other  value of 1 byte: 03")]);
+        let expected = match keep {
+            "own" => ["    kept    own    value of 1 byte: 02", "    dropped other  \"/p/2\": value of 1 byte: 03"],
+            _ => ["    dropped own    \"/p/2\": value of 1 byte: 02", "    kept    other  value of 1 byte: 03"],
+        };
+        assert_eq!(lines, expected);
         assert_eq!(pair.dump(), format!("/p/1\t01\n/p/2\t{kept}\n/p/3\t04\nsame\tff\n"));
     }
 }
@@ -78,10 +81,10 @@ fn kinds_against_each_other() {
     let ran = pair.merge(&[]).ends(1).prints("conflict \"a/\"\n    own    value of 1 byte: 01\n    other  container (what is below it stays)\n");
     ran.prints("conflict \"t\"\n    own    table of 2 items\n    own      \"t\" > \"u\" > \"y\": value of 1 byte: 03\n    own      \"t\" > \"x\": value of 1 byte: 02\n    other  value of 1 byte: 05\n");
     pair.refused();
-    pair.merge(&["--keep", "own"]).ends(0).prints("    dropped other  value of 1 byte: 05").prints("(own kept, 1 value of other dropped)");
+    pair.merge(&["--keep", "own"]).ends(0).prints("    dropped other  \"t\": value of 1 byte: 05").prints("(own kept, 1 value of other dropped)");
     assert_eq!(pair.dump(), "a/\t01\na/b\t04\nt\t{}\nt\tu\t{}\nt\tu\ty\t03\nt\tx\t02\n");
     let ran = pair.merge(&["--keep", "other"]).ends(0).prints("    dropped own      \"t\" > \"u\" > \"y\": value of 1 byte: 03\n");
-    ran.prints("    dropped own    value of 1 byte: 01\n").prints("(other kept, 3 values of own dropped)");
+    ran.prints("    dropped own    \"a/\": value of 1 byte: 01\n").prints("(other kept, 3 values of own dropped)");
     assert_eq!(pair.dump(), "a/b\t04\nt\t05\n");
 }
 
@@ -250,7 +253,7 @@ fn the_report_has_every_byte() {
     assert!(refused.trim_end().lines().last().unwrap().starts_with("refused: out is not written"));
     pair.merge(&["--report=report", "--keep=other"]).ends(0);
     let report = fs::read_to_string(pair.folder.join("report")).unwrap();
-    assert!(report.contains(&format!("    dropped own    value of 100 bytes: {}01\n", "ab".repeat(99))) && report.contains("merged into out: 1 value;"));
+    assert!(report.contains(&format!("    dropped own    \"k\": value of 100 bytes: {}01\n", "ab".repeat(99))) && report.contains("merged into out: 1 value;"));
     let json = pair.merge(&["--report=report", "--keep=own", "--json"]).ends(0);
     assert_eq!(fs::read_to_string(pair.folder.join("report")).unwrap(), json.text());
     assert_eq!(Json::parse(json.text()).at("dropped").list()[0].at("value").text(), format!("{}02", "ab".repeat(99)));
