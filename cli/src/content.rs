@@ -80,9 +80,9 @@ pub struct Laid {
 pub fn lay(name: &str, content: &Content, separator: Option<u8>, order: ByteOrder) -> Result<Laid, Failure> {
     let size: usize = values(content).iter().map(|(_, bytes)| bytes.len()).sum();
     out::progress(size, || format!("{name}: laying {} of values", text::count(size, "byte")));
-    let mut builder = Builder::new(size + MAX_ITEMS * MAX_KEY);
-    let root = fill(&mut builder, name, content, separator, &mut Vec::new())?;
-    let mut image = builder.write(root).map_err(|refusal| Failure::refused(NO, name, refusal))?;
+    let mut laying = Laying { builder: Builder::new(size + MAX_ITEMS * MAX_KEY), name, separator, path: Vec::new() };
+    let root = laying.table(content)?;
+    let mut image = laying.builder.write(root).map_err(|refusal| Failure::refused(NO, name, refusal))?;
     header::lay(&mut image.bytes, Header { order, root: image.root });
     let laid = Source::of(name, image.bytes)?;
     let mut unmade = Vec::new();
@@ -92,44 +92,48 @@ pub fn lay(name: &str, content: &Content, separator: Option<u8>, order: ByteOrde
     Ok(Laid { bytes: laid.bytes, unmade })
 }
 
-/// Makes a table of the builder with this content. Keys go in ascending order, so children stand so too. A key that also names a container of the
-/// next key waits for the end, where it replaces the container; what is below it then stands by itself.
-fn fill(builder: &mut Builder, name: &str, content: &Content, separator: Option<u8>, path: &mut Vec<String>) -> Result<TableNumber, Failure> {
-    let table = builder.new_table(separator).map_err(|refusal| Failure::refused(NO, name, refusal))?;
-    let items: Vec<(&String, &Node)> = content.iter().filter(|(_, node)| !matches!(node, Node::Container)).collect();
-    let names_container = |at: &usize| {
-        let key = items[*at].0;
-        key.as_bytes().last().copied() == separator && separator.is_some() && items.get(at + 1).is_some_and(|(next, _)| next.starts_with(key.as_str()))
-    };
-    let (late, early): (Vec<usize>, Vec<usize>) = (0..items.len()).partition(names_container);
-    for at in early.into_iter().chain(late.into_iter().rev()) {
-        put(builder, name, table, items[at], separator, path)?;
-    }
-    Ok(table)
+/// Content on its way into a builder.
+struct Laying<'n> {
+    builder: Builder,
+    name: &'n str,
+    separator: Option<u8>,
+    /// The keys of the tables around what is inserted.
+    path: Vec<String>,
 }
 
-fn put(
-    builder: &mut Builder,
-    name: &str,
-    table: TableNumber,
-    (key, node): (&String, &Node),
-    separator: Option<u8>,
-    path: &mut Vec<String>,
-) -> Result<(), Failure> {
-    let inserted = match node {
-        Node::Container => return Ok(()),
-        Node::Value(bytes) => builder.insert(table, key, bytes),
-        Node::Table(nested) => {
-            path.push(key.clone());
-            let guest = fill(builder, name, nested, separator, path)?;
-            path.pop();
-            builder.insert_table(table, key, guest)
+impl Laying<'_> {
+    /// Makes a table with this content. Keys go in ascending order, so children stand so too. A key that also names a container of the next key
+    /// waits for the end, where it replaces the container; what is below it then stands by itself.
+    fn table(&mut self, content: &Content) -> Result<TableNumber, Failure> {
+        let table = self.builder.new_table(self.separator).map_err(|refusal| Failure::refused(NO, self.name, refusal))?;
+        let items: Vec<(&String, &Node)> = content.iter().filter(|(_, node)| !matches!(node, Node::Container)).collect();
+        let (late, early): (Vec<usize>, Vec<usize>) = (0..items.len()).partition(|&at| {
+            let key = items[at].0;
+            let ends = self.separator.is_some() && key.as_bytes().last().copied() == self.separator;
+            ends && items.get(at + 1).is_some_and(|(next, _)| next.starts_with(key.as_str()))
+        });
+        for at in early.into_iter().chain(late.into_iter().rev()) {
+            self.item(table, items[at].0, items[at].1)?;
         }
-    };
-    let what = || format!("{name}: key {}", text::cut(&text::path(path, key)));
-    match inserted.map_err(|refusal| Failure::refused(NO, &what(), refusal))? {
-        Inserted::New | Inserted::Replaced(Kind::Container) => Ok(()),
-        Inserted::Replaced(_) => Err(Failure::no(format!("{}: it would replace another; nothing is written", what()))),
+        Ok(table)
+    }
+
+    fn item(&mut self, table: TableNumber, key: &str, node: &Node) -> Result<(), Failure> {
+        let inserted = match node {
+            Node::Container => return Ok(()),
+            Node::Value(bytes) => self.builder.insert(table, key, bytes),
+            Node::Table(nested) => {
+                self.path.push(key.to_string());
+                let guest = self.table(nested)?;
+                self.path.pop();
+                self.builder.insert_table(table, key, guest)
+            }
+        };
+        let what = || format!("{}: key {}", self.name, text::cut(&text::path(&self.path, key)));
+        match inserted.map_err(|refusal| Failure::refused(NO, &what(), refusal))? {
+            Inserted::New | Inserted::Replaced(Kind::Container) => Ok(()),
+            Inserted::Replaced(_) => Err(Failure::no(format!("{}: it would replace another; nothing is written", what()))),
+        }
     }
 }
 
