@@ -36,7 +36,10 @@ fn table<'a>(source: &'a Source, from: Table<'a>, path: &mut Vec<String>, walk: 
         let refused = |refusal| Failure::refused(NO, &format!("{}: item {}", source.name, entry.index), refusal);
         let key = entry.key.map_err(refused)?;
         let node = match entry.item.map_err(refused)? {
-            Item::Value(bytes) => Node::Value(Cow::Borrowed(bytes)),
+            Item::Value(bytes) => {
+                walk.value(bytes)?;
+                Node::Value(Cow::Borrowed(bytes))
+            }
             Item::Container => Node::Container,
             Item::Table(nested) => {
                 path.push(key.clone());

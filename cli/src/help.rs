@@ -78,7 +78,7 @@ and is there whole or not at all. Files with big-endian values are merged only w
 other, and OUT is big-endian then. OUT holds at most 1,024 items (containers included) in
 64 tables, nested 8 deep, with keys of 1,024 bytes, in 16 MiB: else the merge is refused.
 
-    -o OUT           the file to write; it may be OWN or OTHER
+    -o OUT           the file to write, over what is there; it may be OWN or OTHER
     --keep WHICH     own or other: which value of a conflict is kept
     --report FILE    the report with every byte of each value; written for a refused merge too
     --separator C    makes the containers of OUT; / if not given, none for no containers
@@ -105,15 +105,17 @@ pass the check.
 ";
 
 pub const BUILD: &str = "\
-gvdb build -o OUT [--separator C|none] [--big-endian]
+gvdb build -o OUT [--separator C|none] [--big-endian] [--empty]
 
 Lays a file from lines on standard input, as `gvdb dump --help` describes them. Their order
 plays no part. A key that stands twice is refused, and so is one that is both a value and a
-table. Empty lines are passed over. OUT is checked and read back before it is put in place.
+table. Empty lines are passed over. Input without a line, or whose last line has no end, is
+refused: it may be cut. OUT is checked and read back before it is put in place.
 
-    -o OUT           the file to write
+    -o OUT           the file to write, over what is there
     --separator C    makes the containers; / if not given, none for no containers
     --big-endian     the header says that the values are big-endian
+    --empty          input without a line lays an empty table
 
     printf '/parcel/12/year\\te9070000\\n' | gvdb build -o anna.gvdb
 ";

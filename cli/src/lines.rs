@@ -53,6 +53,7 @@ pub fn build(args: &Args, out: &mut Out) -> Result<u8, Failure> {
     if input.len() > LONGEST_INPUT {
         return Err(Failure::usage(format!("standard input: longer than {} bytes", text::grouped(LONGEST_INPUT))));
     }
+    whole(&input, args.flag("--empty"))?;
     let content = parse(&input)?;
     let name = name(place);
     let laid = content::lay(&name, &content, separator, order)?;
@@ -60,6 +61,16 @@ pub fn build(args: &Args, out: &mut Out) -> Result<u8, Failure> {
     Pending::write(Path::new(place), &laid.bytes)?.put()?;
     out.line(format!("{name}: {}, {}", text::count(values, "value"), text::count(laid.bytes.len(), "byte")))?;
     Ok(0)
+}
+
+/// Whether the input can be all that was meant. Where a command in front fails, there is nothing, or a line that is cut; a file laid from that would lack what
+/// nobody dropped.
+fn whole(input: &[u8], may_be_empty: bool) -> Result<(), Failure> {
+    match input.last() {
+        None if !may_be_empty => Err(Failure::usage("standard input: no lines, so nothing is written (--empty lays an empty table)")),
+        Some(last) if *last != b'\n' => Err(Failure::usage("standard input: the last line has no end, so it may be cut; nothing is written")),
+        _ => Ok(()),
+    }
 }
 
 fn parse(input: &[u8]) -> Result<Content<'static>, Failure> {

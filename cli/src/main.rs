@@ -47,7 +47,12 @@ const COMMANDS: &[Command] = &[
         run: merge::run,
     },
     Command { name: "dump", help: help::DUMP, spec: Spec { flags: &[], valued: &[], words: &["FILE"] }, run: lines::dump },
-    Command { name: "build", help: help::BUILD, spec: Spec { flags: &["--big-endian"], valued: &["-o", "--separator"], words: &[] }, run: lines::build },
+    Command {
+        name: "build",
+        help: help::BUILD,
+        spec: Spec { flags: &["--big-endian", "--empty"], valued: &["-o", "--separator"], words: &[] },
+        run: lines::build,
+    },
 ];
 
 fn main() -> ExitCode {
@@ -69,7 +74,7 @@ fn main() -> ExitCode {
 fn run(words: Vec<OsString>, out: &mut Out) -> Result<u8, Failure> {
     let mut words = words.into_iter();
     let Some(first) = words.next() else {
-        eprint!("{}", help::USAGE);
+        let _ = write!(std::io::stderr(), "{}", help::USAGE);
         return Ok(failure::UNREADABLE);
     };
     let rest: Vec<OsString> = words.collect();

@@ -14,6 +14,8 @@ use std::path::{Path, PathBuf};
 pub const DEEPEST: usize = 64;
 /// The keys of one file that are held at a time, in bytes. Only a file made to be a trap has more.
 const KEY_BYTES: usize = 256 << 20;
+/// The values of one file that are taken, in bytes. Values that do not overlap are no longer than the file.
+const VALUE_BYTES: usize = 64 << 20;
 
 /// A file with its header, read.
 pub struct Source {
@@ -57,7 +59,7 @@ impl Source {
     }
 
     pub fn walk(&self) -> Walk {
-        Walk { name: self.name.clone(), table_bytes: self.bytes.len(), key_bytes: KEY_BYTES }
+        Walk { name: self.name.clone(), table_bytes: self.bytes.len(), key_bytes: KEY_BYTES, value_bytes: VALUE_BYTES }
     }
 }
 
@@ -67,6 +69,7 @@ pub struct Walk {
     name: String,
     table_bytes: usize,
     key_bytes: usize,
+    value_bytes: usize,
 }
 
 impl Walk {
@@ -95,8 +98,17 @@ impl Walk {
     }
 
     fn hold(&mut self, bytes: usize) -> Result<(), Failure> {
-        let left = self.key_bytes.checked_sub(bytes);
-        self.key_bytes = left.ok_or_else(|| Failure::usage(format!("{}: its keys take more than {} bytes", self.name, text::grouped(KEY_BYTES))))?;
+        self.key_bytes = spend(&self.name, "keys", self.key_bytes, bytes, KEY_BYTES)?;
         Ok(())
     }
+
+    /// Takes a value. One small file could hold a long one under many keys.
+    pub fn value(&mut self, bytes: &[u8]) -> Result<(), Failure> {
+        self.value_bytes = spend(&self.name, "values", self.value_bytes, bytes.len(), VALUE_BYTES)?;
+        Ok(())
+    }
+}
+
+fn spend(name: &str, what: &str, left: usize, bytes: usize, limit: usize) -> Result<usize, Failure> {
+    left.checked_sub(bytes).ok_or_else(|| Failure::no(format!("{name}: its {what} overlap: they take more than {} bytes", text::grouped(limit))))
 }

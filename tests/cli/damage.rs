@@ -73,6 +73,33 @@ fn a_table_that_holds_itself_is_not_followed_without_end() {
     }
 }
 
+/// Ten keys that all hold one value of 8 MB: sound by the rules, and far more than the file when it is written out.
+#[test]
+fn values_that_overlap() {
+    let folder = folder("overlap");
+    let place = folder.join("f.gvdb");
+    let short: String = (0..9).map(|i| format!("{i}\t00\n")).collect();
+    build(&place, &format!("{short}long\t{}\n", "ab".repeat(8_000_000)));
+    let mut file = fs::read(&place).unwrap();
+    let record = |i: usize| 24 + 8 + 4 * 10 + 24 * i;
+    let size = |file: &[u8], i: usize| {
+        u32::from_le_bytes(file[record(i) + 20..][..4].try_into().unwrap()) - u32::from_le_bytes(file[record(i) + 16..][..4].try_into().unwrap())
+    };
+    let long = (0..10).find(|&i| size(&file, i) == 8_000_000).unwrap();
+    let pointer = file[record(long) + 16..][..8].to_vec();
+    (0..10).for_each(|i| file[record(i) + 16..][..8].copy_from_slice(&pointer));
+    fs::write(&place, file).unwrap();
+    gvdb(["check".as_ref(), place.as_os_str()]).ends(0);
+    assert_eq!(gvdb(["list".as_ref(), place.as_os_str()]).ends(0).text().matches("8,000,000").count(), 10);
+    let out = folder.join("out");
+    let one = worked("one.gvdb");
+    for words in [vec!["dump".as_ref(), place.as_os_str()], vec!["merge".as_ref(), place.as_os_str(), one.as_os_str(), "-o".as_ref(), out.as_os_str()]] {
+        let ran = gvdb(words).ends(1);
+        assert!(ran.stderr.lines().last().unwrap().contains("its values overlap: they take more than 67,108,864 bytes") && ran.stdout.is_empty());
+    }
+    assert_eq!(names(&folder), ["f.gvdb"]);
+}
+
 #[test]
 fn what_is_no_file() {
     for (path, said) in

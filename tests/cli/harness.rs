@@ -97,7 +97,7 @@ pub fn names(folder: &Path) -> Vec<String> {
 /// Lays a file from lines.
 #[track_caller]
 pub fn build(place: &Path, lines: &str) {
-    gvdb_fed([OsStr::new("build"), OsStr::new("-o"), place.as_os_str()], lines.as_bytes()).ends(0);
+    gvdb_fed(["build".as_ref(), "--empty".as_ref(), OsStr::new("-o"), place.as_os_str()], lines.as_bytes()).ends(0);
 }
 
 pub fn hex(bytes: &[u8]) -> String {

@@ -30,7 +30,7 @@ fn real_files_there_and_back() {
         let big = fs::read(&file).unwrap().starts_with(b"raVGtnai");
         assert_eq!(dump.stderr.contains("big-endian"), big, "{file:?}");
         let place = folder.join("again.gvdb");
-        let words = [OsStr::new("build"), "-o".as_ref(), place.as_os_str(), if big { "--big-endian" } else { "--separator=/" }.as_ref()];
+        let words = [OsStr::new("build"), "--empty".as_ref(), "-o".as_ref(), place.as_os_str(), if big { "--big-endian" } else { "--separator=/" }.as_ref()];
         let built = gvdb_fed(words, &dump.stdout);
         if file.ends_with("dconf-big.gvdb") {
             built.ends(1).says("refusal 22");
@@ -70,6 +70,8 @@ fn lines_that_are_refused() {
         (b"t\t{}\nt\t01\n", 2, "line 2: key \"t\" is a value on one line"),
         (b"a\t01\na\tb\t01\n", 2, "line 2: a table on its path is a value on another line"),
         (b"a\tb\t01\na\t01\n", 2, "line 2: key \"a\" is a value on one line"),
+        (b"", 2, "standard input: no lines, so nothing is written"),
+        (b"a\t0102\nb\t01", 2, "standard input: the last line has no end"),
         (b"no tab\n", 2, "line 1: no TAB between key and value"),
         (b"a\t0\n", 2, "line 1: the value is neither"),
         (b"a\t0g\n", 2, "line 1: the value is neither"),
@@ -87,9 +89,8 @@ fn lines_that_are_refused() {
         assert!(!place.exists() && names(place.parent().unwrap()).is_empty());
     }
     laid("deep", b"1\t2\t3\t4\t5\t6\t7\tk\t01\n").1.ends(0);
-    laid("empty", b"").1.ends(0).prints("0 values, 32 bytes");
     laid("crlf", b"a\t01\r\nb\t02\r\n").1.ends(0).prints("2 values");
-    laid("last", b"a\t01").1.ends(0).prints("1 value");
+    laid("blank", b"\n").1.ends(0).prints("0 values, 32 bytes");
 }
 
 #[test]
