@@ -132,7 +132,7 @@ impl Broken {
         let Unsound { rule, item } = self.unsound;
         let meaning = self.unsound.meaning();
         match &self.key {
-            Ok(key) => format!("rule {rule} is broken by item {item}, key {}: {meaning}", text::quoted(key)),
+            Ok(key) => format!("rule {rule} is broken by item {item}, key {}: {meaning}", text::cut(&text::quoted(key))),
             Err(refusal) => format!("rule {rule} is broken by item {item}: {meaning} ({refusal})"),
         }
     }
