@@ -1,0 +1,158 @@
+//! Building and writing: tables in memory of their own, laid as an image.
+
+use crate::ffi;
+use crate::refusal::{accepted, Refusal};
+use crate::table::Pointer;
+use std::fmt;
+
+/// Room beside keys and values in an image: 1,024 items with bucket, record, padding and child index, and 64 table heads take under 45,000 bytes.
+const IMAGE_FRAME: usize = 65_536;
+
+/// The kind of an item.
+#[derive(Clone, Copy, PartialEq, Eq, Hash, Debug)]
+pub enum Kind {
+    /// Bytes ('v').
+    Value,
+    /// A nested table ('H').
+    Table,
+    /// A container ('L').
+    Container,
+}
+
+/// What an insert did.
+#[derive(Clone, Copy, PartialEq, Eq, Hash, Debug)]
+#[must_use = "a replaced item is lost: look whether the key was new"]
+pub enum Inserted {
+    /// The key is new in its table.
+    New,
+    /// The key was there, and what it held is gone.
+    Replaced(Kind),
+}
+
+/// A table of a builder, by its number.
+#[derive(Clone, Copy, PartialEq, Eq, Hash, Debug)]
+pub struct TableNumber(u32);
+
+impl TableNumber {
+    /// The number, counted from 0.
+    pub fn number(self) -> u32 {
+        self.0
+    }
+}
+
+/// What a write lays. Bytes 0 to 23 are zero: they are the file header's, with the root pointer in the last eight.
+#[derive(Clone, PartialEq, Eq, Debug)]
+pub struct Image {
+    /// The whole image.
+    pub bytes: Vec<u8>,
+    /// Where the written table lies in it.
+    pub root: Pointer,
+}
+
+/// Tables in the making. A builder holds at most 1,024 items and 64 tables, nested at most 8 deep, with keys of at most 1,024 bytes.
+///
+/// Whoever inserts is told whether something was replaced:
+///
+/// ```
+/// use gvdb::{Builder, Inserted, Kind, Refusal};
+///
+/// # fn main() -> Result<(), Refusal> {
+/// let mut builder = Builder::new(4096);
+/// let root = builder.new_table(Some(b'/'))?;
+/// assert_eq!(builder.insert(root, "/parcel/12/year", [0xE8, 0x07])?, Inserted::New);
+/// assert_eq!(builder.insert(root, "/parcel/12/year", [0xE9, 0x07])?, Inserted::Replaced(Kind::Value));
+///
+/// let stands = builder.new_table(None)?;
+/// assert_eq!(builder.insert(stands, "oak", [3])?, Inserted::New);
+/// assert_eq!(builder.insert_table(root, "stands", stands)?, Inserted::New);
+/// assert_eq!(builder.insert(stands, "beech", [4]), Err(Refusal::TableUnknown)); // it is placed
+///
+/// assert_eq!(builder.item_count(root)?, 5);
+/// let image = builder.write(root)?;
+/// let table = gvdb::Table::open(&image.bytes, image.root.start, image.root.end)?;
+/// assert_eq!(table.get_table("stands")?.get("oak")?, [3]);
+/// # Ok(())
+/// # }
+/// ```
+#[derive(Clone, PartialEq, Eq)]
+pub struct Builder {
+    words: Vec<usize>,
+    arena: Vec<u8>,
+}
+
+impl Builder {
+    /// An empty builder with an arena of so many bytes. The arena holds each item's whole key, containers included, and each accepted value,
+    /// replaced ones too; it does not grow, and an insert that would pass it is refused with 23.
+    ///
+    /// `total of values + 1,048,576` is enough for every history that replaces nothing: 1,024 items have keys of at most 1,024 bytes.
+    pub fn new(arena_bytes: usize) -> Builder {
+        let mut words = vec![0; ffi::memory_words()];
+        let mut arena = vec![0; arena_bytes];
+        let number = ffi::fresh(&mut words, &mut arena);
+        assert_eq!(number, 0, "a fresh start on words of the length asked is never refused");
+        Builder { words, arena }
+    }
+
+    /// A new table. With a separator, an insert makes the containers on the key's path. Refusals: 28 (separator not 1 to 127), 27.
+    pub fn new_table(&mut self, separator: Option<u8>) -> Result<TableNumber, Refusal> {
+        let made = ffi::new_table(&mut self.words, &mut self.arena, separator.as_slice());
+        accepted(made.number)?;
+        Ok(TableNumber(made.table))
+    }
+
+    /// Inserts a value, already encoded. Refusals: 24, 8, 20, 21, 22, 23.
+    pub fn insert(&mut self, table: TableNumber, key: impl AsRef<[u8]>, value: impl AsRef<[u8]>) -> Result<Inserted, Refusal> {
+        outcome(ffi::insert(&mut self.words, &mut self.arena, table.0, key.as_ref(), value.as_ref()))
+    }
+
+    /// Puts a table of this builder under a key of another. It takes no more inserts then. Refusals: 24, 25, 8, 20, 21, 26, 22, 23.
+    pub fn insert_table(&mut self, table: TableNumber, key: impl AsRef<[u8]>, guest: TableNumber) -> Result<Inserted, Refusal> {
+        outcome(ffi::insert_table(&mut self.words, &mut self.arena, table.0, key.as_ref(), guest.0))
+    }
+
+    /// The number of items of a table, containers included. Refusal: 24 for a number of another builder.
+    pub fn item_count(&self, table: TableNumber) -> Result<usize, Refusal> {
+        let counted = ffi::item_count(&self.words, &self.arena, table.0);
+        accepted(counted.number)?;
+        Ok(counted.count as usize)
+    }
+
+    /// Lays a table and those nested in it as an image. The builder stays as it was and usable. Refusals: 24, 30, 31 (over 16,777,216 bytes).
+    ///
+    /// ```
+    /// # use gvdb::{Builder, Refusal};
+    /// let mut builder = Builder::new(16);
+    /// let root = builder.new_table(None).unwrap();
+    /// builder.insert(root, "a", [1, 2]).unwrap();
+    /// let image = builder.write(root).unwrap();
+    /// assert_eq!((image.bytes.len(), image.root.start, image.root.end), (66, 24, 60));
+    /// builder.insert(root, "", []).unwrap();
+    /// assert_eq!(builder.write(root), Err(Refusal::EmptyKey));
+    /// ```
+    pub fn write(&mut self, table: TableNumber) -> Result<Image, Refusal> {
+        // Keys and values of an image are in the arena, so this is room enough; a longer image is over the limit.
+        let room = self.arena.len().saturating_add(IMAGE_FRAME).min(crate::MAX_FILE);
+        let mut bytes = vec![0; room];
+        let written = ffi::write(&mut self.words, &self.arena, table.0, &mut bytes);
+        accepted(written.number)?;
+        bytes.truncate(written.length as usize);
+        bytes.shrink_to_fit();
+        Ok(Image { bytes, root: Pointer { start: written.start, end: written.end } })
+    }
+}
+
+impl fmt::Debug for Builder {
+    fn fmt(&self, f: &mut fmt::Formatter<'_>) -> fmt::Result {
+        f.debug_struct("Builder").field("arena_bytes", &self.arena.len()).finish_non_exhaustive()
+    }
+}
+
+fn outcome(answer: ffi::Inserted) -> Result<Inserted, Refusal> {
+    accepted(answer.number)?;
+    Ok(match u8::try_from(answer.replaced) {
+        Ok(0) => Inserted::New,
+        Ok(b'H') => Inserted::Replaced(Kind::Table),
+        Ok(b'L') => Inserted::Replaced(Kind::Container),
+        _ => Inserted::Replaced(Kind::Value),
+    })
+}

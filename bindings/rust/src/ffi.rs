@@ -1,0 +1,147 @@
+//! The functions of libgvdb.a, over slices. All of the crate's `unsafe` is here: each call lends pointers of slices with their lengths, and Rust's
+//! borrows keep the lent buffers of one call apart.
+#![allow(unsafe_code)]
+
+#[repr(C)]
+pub struct Opened {
+    pub number: u32,
+    pub items: u32,
+    pub buckets: u32,
+    pub blooms: u32,
+}
+
+#[repr(C)]
+pub struct Place {
+    pub number: u32,
+    pub start: u32,
+    pub end: u32,
+}
+
+#[repr(C)]
+pub struct Key {
+    pub number: u32,
+    pub length: usize,
+    pub next: usize,
+}
+
+#[repr(C)]
+pub struct Value {
+    pub number: u32,
+    pub start: u32,
+    pub end: u32,
+    pub index: usize,
+    pub next: usize,
+}
+
+#[repr(C)]
+pub struct Checked {
+    pub number: u32,
+    pub rule: u32,
+    pub item: usize,
+}
+
+#[repr(C)]
+pub struct Numbered {
+    pub number: u32,
+    pub table: u32,
+}
+
+#[repr(C)]
+pub struct Inserted {
+    pub number: u32,
+    pub replaced: u32,
+}
+
+#[repr(C)]
+pub struct Counted {
+    pub number: u32,
+    pub count: u32,
+}
+
+#[repr(C)]
+pub struct Written {
+    pub number: u32,
+    pub start: u32,
+    pub end: u32,
+    pub length: u32,
+}
+
+extern "C" {
+    fn gvdb_open(file: *const u8, size: usize, start: u32, end: u32) -> Opened;
+    fn gvdb_get(file: *const u8, size: usize, start: u32, end: u32, key: *const u8, length: usize) -> Place;
+    fn gvdb_get_table(file: *const u8, size: usize, start: u32, end: u32, key: *const u8, length: usize) -> Place;
+    fn gvdb_next_key(file: *const u8, size: usize, start: u32, end: u32, position: usize, out: *mut u8, room: usize) -> Key;
+    fn gvdb_next_value(file: *const u8, size: usize, start: u32, end: u32, position: usize) -> Value;
+    fn gvdb_check(file: *const u8, size: usize, start: u32, end: u32) -> Checked;
+    fn gvdb_memory_words() -> usize;
+    fn gvdb_fresh(words: *mut usize, count: usize, arena: *mut u8, room: usize) -> u32;
+    fn gvdb_new_table(words: *mut usize, count: usize, arena: *mut u8, room: usize, separator: *const u8, length: usize) -> Numbered;
+    #[rustfmt::skip]
+    fn gvdb_insert(
+        words: *mut usize,
+        count: usize,
+        arena: *mut u8,
+        room: usize,
+        table: u32,
+        key: *const u8,
+        length: usize,
+        value: *const u8,
+        size: usize,
+    ) -> Inserted;
+    fn gvdb_insert_table(words: *mut usize, count: usize, arena: *mut u8, room: usize, table: u32, key: *const u8, length: usize, guest: u32) -> Inserted;
+    fn gvdb_item_count(words: *const usize, count: usize, arena: *const u8, room: usize, table: u32) -> Counted;
+    fn gvdb_write(words: *mut usize, count: usize, arena: *const u8, room: usize, table: u32, image: *mut u8, size: usize) -> Written;
+}
+
+pub fn open(file: &[u8], start: u32, end: u32) -> Opened {
+    unsafe { gvdb_open(file.as_ptr(), file.len(), start, end) }
+}
+
+pub fn get(file: &[u8], start: u32, end: u32, key: &[u8]) -> Place {
+    unsafe { gvdb_get(file.as_ptr(), file.len(), start, end, key.as_ptr(), key.len()) }
+}
+
+pub fn get_table(file: &[u8], start: u32, end: u32, key: &[u8]) -> Place {
+    unsafe { gvdb_get_table(file.as_ptr(), file.len(), start, end, key.as_ptr(), key.len()) }
+}
+
+pub fn next_key(file: &[u8], start: u32, end: u32, position: usize, out: &mut [u8]) -> Key {
+    unsafe { gvdb_next_key(file.as_ptr(), file.len(), start, end, position, out.as_mut_ptr(), out.len()) }
+}
+
+pub fn next_value(file: &[u8], start: u32, end: u32, position: usize) -> Value {
+    unsafe { gvdb_next_value(file.as_ptr(), file.len(), start, end, position) }
+}
+
+pub fn check(file: &[u8], start: u32, end: u32) -> Checked {
+    unsafe { gvdb_check(file.as_ptr(), file.len(), start, end) }
+}
+
+pub fn memory_words() -> usize {
+    unsafe { gvdb_memory_words() }
+}
+
+pub fn fresh(words: &mut [usize], arena: &mut [u8]) -> u32 {
+    unsafe { gvdb_fresh(words.as_mut_ptr(), words.len(), arena.as_mut_ptr(), arena.len()) }
+}
+
+pub fn new_table(words: &mut [usize], arena: &mut [u8], separator: &[u8]) -> Numbered {
+    unsafe { gvdb_new_table(words.as_mut_ptr(), words.len(), arena.as_mut_ptr(), arena.len(), separator.as_ptr(), separator.len()) }
+}
+
+pub fn insert(words: &mut [usize], arena: &mut [u8], table: u32, key: &[u8], value: &[u8]) -> Inserted {
+    let (count, room) = (words.len(), arena.len());
+    unsafe { gvdb_insert(words.as_mut_ptr(), count, arena.as_mut_ptr(), room, table, key.as_ptr(), key.len(), value.as_ptr(), value.len()) }
+}
+
+pub fn insert_table(words: &mut [usize], arena: &mut [u8], table: u32, key: &[u8], guest: u32) -> Inserted {
+    unsafe { gvdb_insert_table(words.as_mut_ptr(), words.len(), arena.as_mut_ptr(), arena.len(), table, key.as_ptr(), key.len(), guest) }
+}
+
+pub fn item_count(words: &[usize], arena: &[u8], table: u32) -> Counted {
+    unsafe { gvdb_item_count(words.as_ptr(), words.len(), arena.as_ptr(), arena.len(), table) }
+}
+
+pub fn write(words: &mut [usize], arena: &[u8], table: u32, image: &mut [u8]) -> Written {
+    unsafe { gvdb_write(words.as_mut_ptr(), words.len(), arena.as_ptr(), arena.len(), table, image.as_mut_ptr(), image.len()) }
+}

@@ -1,0 +1,357 @@
+//! Reading: a table of a file, its items, and the check.
+
+use crate::ffi;
+use crate::refusal::{accepted, Refusal, Unsound};
+use std::fmt;
+
+/// The longest key that a listing has room for. A longer one is refused with 14; only a file whose fragments overlap has one.
+const KEY_ROOM: usize = crate::MAX_FILE;
+
+/// A stretch of a file, from `start` to before `end`.
+#[derive(Clone, Copy, PartialEq, Eq, Hash, Debug)]
+pub struct Pointer {
+    /// The first byte.
+    pub start: u32,
+    /// The byte after the last.
+    pub end: u32,
+}
+
+/// A table of a file, opened. It borrows the file and copies nothing: values are parts of the file.
+///
+/// Any bytes and any pointer may be given; what cannot be read is refused with a number.
+///
+/// ```
+/// use gvdb::{Builder, Refusal, Table};
+///
+/// # fn main() -> Result<(), Refusal> {
+/// let mut builder = Builder::new(4096);
+/// let root = builder.new_table(Some(b'/'))?;
+/// builder.insert(root, "/parcel/12/year", [0xE9, 0x07])?;
+/// let image = builder.write(root)?;
+///
+/// let table = Table::open(&image.bytes, image.root.start, image.root.end)?;
+/// assert_eq!(table.get("/parcel/12/year"), Ok(&[0xE9, 0x07][..]));
+/// assert_eq!(table.get("/parcel/13/year"), Err(Refusal::KeyNotFound));
+/// assert_eq!(table.get("/parcel/12/"), Err(Refusal::OtherKind)); // a container
+/// assert_eq!(table.len(), 4); // "/", "/parcel/", "/parcel/12/" and the value
+/// assert_eq!(table.check(), Ok(()));
+///
+/// assert_eq!(Table::open(&image.bytes, 25, 60).unwrap_err(), Refusal::Misaligned);
+/// # Ok(())
+/// # }
+/// ```
+#[derive(Clone, Copy)]
+pub struct Table<'a> {
+    file: &'a [u8],
+    pointer: Pointer,
+    items: u32,
+    buckets: u32,
+    blooms: u32,
+}
+
+impl<'a> Table<'a> {
+    /// Opens the table at a pointer of the file. Refusals: 1 to 7.
+    pub fn open(file: &'a [u8], start: u32, end: u32) -> Result<Table<'a>, Refusal> {
+        let opened = ffi::open(file, start, end);
+        accepted(opened.number)?;
+        Ok(Table { file, pointer: Pointer { start, end }, items: opened.items, buckets: opened.buckets, blooms: opened.blooms })
+    }
+
+    /// Where the table lies in its file.
+    pub fn pointer(&self) -> Pointer {
+        self.pointer
+    }
+
+    /// The number of items, containers included.
+    pub fn len(&self) -> usize {
+        self.items as usize
+    }
+
+    /// Whether the table has no items.
+    pub fn is_empty(&self) -> bool {
+        self.items == 0
+    }
+
+    /// The number of hash buckets.
+    pub fn buckets(&self) -> usize {
+        self.buckets as usize
+    }
+
+    /// The number of bloom words.
+    pub fn bloom_words(&self) -> usize {
+        self.blooms as usize
+    }
+
+    /// The value at a key: a part of the file. Refusals: 8, 12, 13, then 2 or 3 of the value's pointer.
+    pub fn get(&self, key: impl AsRef<[u8]>) -> Result<&'a [u8], Refusal> {
+        let place = ffi::get(self.file, self.pointer.start, self.pointer.end, key.as_ref());
+        accepted(place.number)?;
+        self.part(place.start, place.end)
+    }
+
+    /// The nested table at a key. Refusals: 8, 12, 13, then 2 to 7 of the nested table.
+    pub fn get_table(&self, key: impl AsRef<[u8]>) -> Result<Table<'a>, Refusal> {
+        let place = ffi::get_table(self.file, self.pointer.start, self.pointer.end, key.as_ref());
+        accepted(place.number)?;
+        Table::open(self.file, place.start, place.end)
+    }
+
+    /// [`get_table`](Table::get_table) under the name that gvdb-rs gives it.
+    pub fn get_hash_table(&self, key: impl AsRef<[u8]>) -> Result<Table<'a>, Refusal> {
+        self.get_table(key)
+    }
+
+    /// The key of the item with this index, whether a lookup finds it or not. Refusals: 15, then 2, 9, 10 or 11, then 14.
+    pub fn key_at(&self, index: usize) -> Result<String, Refusal> {
+        self.key_in(index, &mut Vec::new())
+    }
+
+    /// The keys of all items in their order, of containers and nested tables too. A refused item is passed over: the next is the one behind it.
+    ///
+    /// ```
+    /// # use gvdb::{Builder, Refusal, Table};
+    /// # fn main() -> Result<(), Refusal> {
+    /// # let mut builder = Builder::new(4096);
+    /// # let root = builder.new_table(Some(b'/'))?;
+    /// # builder.insert(root, "a/b", [7])?;
+    /// # let image = builder.write(root)?;
+    /// # let table = Table::open(&image.bytes, image.root.start, image.root.end)?;
+    /// let keys: Result<Vec<String>, Refusal> = table.keys().collect();
+    /// assert_eq!(keys?, ["a/b", "a/"]);
+    /// # Ok(())
+    /// # }
+    /// ```
+    pub fn keys(&self) -> Keys<'a> {
+        Keys { table: *self, position: 0, buffer: Vec::new() }
+    }
+
+    /// The values of all items that are values, in their order. One whose pointer is refused (2 or 3) is passed over.
+    ///
+    /// ```
+    /// # use gvdb::{Builder, Refusal, Table};
+    /// # fn main() -> Result<(), Refusal> {
+    /// # let mut builder = Builder::new(4096);
+    /// # let root = builder.new_table(Some(b'/'))?;
+    /// # builder.insert(root, "a/b", [7])?;
+    /// # let image = builder.write(root)?;
+    /// # let table = Table::open(&image.bytes, image.root.start, image.root.end)?;
+    /// let values: Result<Vec<&[u8]>, Refusal> = table.values().collect();
+    /// assert_eq!(values?, [&[7][..]]);
+    /// # Ok(())
+    /// # }
+    /// ```
+    pub fn values(&self) -> Values<'a> {
+        Values { table: *self, position: 0 }
+    }
+
+    /// Every item with its index, key and content, in one pass.
+    ///
+    /// ```
+    /// # use gvdb::{Builder, Item, Refusal, Table};
+    /// # fn main() -> Result<(), Refusal> {
+    /// # let mut builder = Builder::new(4096);
+    /// # let root = builder.new_table(Some(b'/'))?;
+    /// # builder.insert(root, "a/b", [7])?;
+    /// # let image = builder.write(root)?;
+    /// # let table = Table::open(&image.bytes, image.root.start, image.root.end)?;
+    /// for entry in table.entries() {
+    ///     match entry.item? {
+    ///         Item::Value(bytes) => println!("{}: {} bytes", entry.key?, bytes.len()),
+    ///         Item::Table(nested) => println!("{}: a table of {} items", entry.key?, nested.len()),
+    ///         Item::Container => println!("{}: a container", entry.key?),
+    ///     }
+    /// }
+    /// # Ok(())
+    /// # }
+    /// ```
+    pub fn entries(&self) -> Entries<'a> {
+        let mut values = ValuePlaces { table: *self, position: 0 };
+        let ahead = values.next();
+        Entries { keys: self.keys(), values, ahead }
+    }
+
+    /// The table check: whether every item keeps the six rules; else the first item that breaks one, and its first broken rule.
+    /// It covers this table; nested ones are checked by themselves.
+    ///
+    /// ```
+    /// # use gvdb::{Builder, Refusal, Table, Unsound};
+    /// # fn main() -> Result<(), Refusal> {
+    /// # let mut builder = Builder::new(4096);
+    /// # let root = builder.new_table(None)?;
+    /// # builder.insert(root, "a", [1, 2])?;
+    /// # let mut image = builder.write(root)?;
+    /// image.bytes[50] = b'x'; // the kind of the first item
+    /// let table = Table::open(&image.bytes, image.root.start, image.root.end)?;
+    /// assert_eq!(table.check(), Err(Unsound { rule: 3, item: 0 }));
+    /// # Ok(())
+    /// # }
+    /// ```
+    pub fn check(&self) -> Result<(), Unsound> {
+        let checked = ffi::check(self.file, self.pointer.start, self.pointer.end);
+        match accepted(checked.number) {
+            Ok(()) => Ok(()),
+            Err(Refusal::CheckBroken) => Err(Unsound { rule: checked.rule, item: checked.item }),
+            Err(refusal) => unreachable!("the table is open, and the check says {refusal}"),
+        }
+    }
+
+    /// A place that the library has judged to lie in the file.
+    fn part(&self, start: u32, end: u32) -> Result<&'a [u8], Refusal> {
+        self.file.get(start as usize..end as usize).ok_or(Refusal::PointerOutside)
+    }
+
+    /// The key at an index, by way of a buffer that grows until the key fits.
+    fn key_in(&self, index: usize, buffer: &mut Vec<u8>) -> Result<String, Refusal> {
+        loop {
+            let key = ffi::next_key(self.file, self.pointer.start, self.pointer.end, index, buffer);
+            match accepted(key.number) {
+                Err(Refusal::BufferTooShort) if buffer.len() < KEY_ROOM => {
+                    let room = (buffer.len() * 2).clamp(1024, KEY_ROOM);
+                    buffer.resize(room, 0);
+                }
+                Err(refusal) => return Err(refusal),
+                Ok(()) => return String::from_utf8(buffer[..key.length].to_vec()).map_err(|_| Refusal::FragmentNotUtf8),
+            }
+        }
+    }
+}
+
+impl fmt::Debug for Table<'_> {
+    fn fmt(&self, f: &mut fmt::Formatter<'_>) -> fmt::Result {
+        f.debug_struct("Table").field("pointer", &self.pointer).field("items", &self.items).finish_non_exhaustive()
+    }
+}
+
+/// The keys of a table: [`Table::keys`].
+#[derive(Clone, Debug)]
+pub struct Keys<'a> {
+    table: Table<'a>,
+    position: usize,
+    buffer: Vec<u8>,
+}
+
+impl Iterator for Keys<'_> {
+    type Item = Result<String, Refusal>;
+
+    fn next(&mut self) -> Option<Self::Item> {
+        if self.position >= self.table.len() {
+            return None;
+        }
+        let key = self.table.key_in(self.position, &mut self.buffer);
+        self.position += 1;
+        Some(key)
+    }
+
+    fn size_hint(&self) -> (usize, Option<usize>) {
+        let left = self.table.len() - self.position;
+        (left, Some(left))
+    }
+}
+
+impl ExactSizeIterator for Keys<'_> {}
+
+/// The values of a table: [`Table::values`].
+#[derive(Clone, Debug)]
+pub struct Values<'a> {
+    table: Table<'a>,
+    position: usize,
+}
+
+impl<'a> Iterator for Values<'a> {
+    type Item = Result<&'a [u8], Refusal>;
+
+    fn next(&mut self) -> Option<Self::Item> {
+        let mut places = ValuePlaces { table: self.table, position: self.position };
+        let (_, value) = places.next()?;
+        self.position = places.position;
+        Some(value)
+    }
+}
+
+/// The values of a table, each with the index of its item.
+#[derive(Clone, Debug)]
+struct ValuePlaces<'a> {
+    table: Table<'a>,
+    position: usize,
+}
+
+impl<'a> Iterator for ValuePlaces<'a> {
+    type Item = (usize, Result<&'a [u8], Refusal>);
+
+    fn next(&mut self) -> Option<Self::Item> {
+        let Table { file, pointer, .. } = self.table;
+        let value = ffi::next_value(file, pointer.start, pointer.end, self.position);
+        let bytes = match accepted(value.number) {
+            Err(Refusal::PastTheLast) => return None,
+            Err(refusal) => Err(refusal),
+            Ok(()) => self.table.part(value.start, value.end),
+        };
+        self.position = value.next;
+        Some((value.index, bytes))
+    }
+}
+
+/// What an item holds.
+#[derive(Clone, Copy, Debug)]
+pub enum Item<'a> {
+    /// A value: its bytes in the file.
+    Value(&'a [u8]),
+    /// A nested table.
+    Table(Table<'a>),
+    /// A container: the items below it have longer keys. In a table that does not pass the check it may also be an item of an unknown kind.
+    Container,
+}
+
+/// One item of a table, as [`Table::entries`] meets it.
+#[derive(Clone, Debug)]
+pub struct Entry<'a> {
+    /// The item's index.
+    pub index: usize,
+    /// Its key, or why it does not read.
+    pub key: Result<String, Refusal>,
+    /// What it holds, or why that does not open. A value needs no readable key; of the others the lookup of the key decides.
+    pub item: Result<Item<'a>, Refusal>,
+}
+
+/// The items of a table: [`Table::entries`].
+#[derive(Clone, Debug)]
+pub struct Entries<'a> {
+    keys: Keys<'a>,
+    values: ValuePlaces<'a>,
+    ahead: Option<(usize, Result<&'a [u8], Refusal>)>,
+}
+
+impl<'a> Iterator for Entries<'a> {
+    type Item = Entry<'a>;
+
+    fn next(&mut self) -> Option<Self::Item> {
+        let index = self.keys.position;
+        let key = self.keys.next()?;
+        let item = match self.ahead {
+            Some((value_index, bytes)) if value_index == index => {
+                self.ahead = self.values.next();
+                bytes.map(Item::Value)
+            }
+            _ => match &key {
+                Ok(key) => nested(&self.keys.table, key),
+                Err(refusal) => Err(*refusal),
+            },
+        };
+        Some(Entry { index, key, item })
+    }
+
+    fn size_hint(&self) -> (usize, Option<usize>) {
+        self.keys.size_hint()
+    }
+}
+
+impl ExactSizeIterator for Entries<'_> {}
+
+/// What lies under a key that is no value's: a table, or a container if the lookup finds another kind.
+fn nested<'a>(table: &Table<'a>, key: &str) -> Result<Item<'a>, Refusal> {
+    match table.get_table(key) {
+        Ok(nested) => Ok(Item::Table(nested)),
+        Err(Refusal::OtherKind) => Ok(Item::Container),
+        Err(refusal) => Err(refusal),
+    }
+}

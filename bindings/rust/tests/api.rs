@@ -1,0 +1,138 @@
+//! The crate from outside: growth of buffers, items that are passed over, limits, and the refusals' names.
+
+use gvdb::{Builder, Image, Inserted, Item, Kind, Refusal, Table, MAX_FILE, MAX_ITEMS, MAX_KEY, MAX_TABLES};
+
+fn flat(entries: &[(&str, &[u8])]) -> Image {
+    let mut builder = Builder::new(1 << 20);
+    let root = builder.new_table(None).unwrap();
+    for (key, value) in entries {
+        assert_eq!(builder.insert(root, key, value), Ok(Inserted::New));
+    }
+    builder.write(root).unwrap()
+}
+
+fn open(image: &Image) -> Table<'_> {
+    Table::open(&image.bytes, image.root.start, image.root.end).unwrap()
+}
+
+/// Where the record of an item lies in an image of ours: behind 8 bytes and a bucket word for each item.
+fn record(image: &Image, index: usize) -> usize {
+    image.root.start as usize + 8 + 4 * open(image).buckets() + 24 * index
+}
+
+fn put(image: &mut Image, at: usize, word: u32) {
+    image.bytes[at..at + 4].copy_from_slice(&word.to_le_bytes());
+}
+
+#[test]
+fn a_refused_item_is_passed_over() {
+    let mut image = flat(&[("a", b"1"), ("b", b"2"), ("c", b"3")]);
+    let whole: Vec<String> = open(&image).keys().map(Result::unwrap).collect();
+    let (key, value) = (record(&image, 1) + 8, record(&image, 2) + 16);
+    put(&mut image, key, 1 << 30);
+    put(&mut image, value, 9);
+    let keys: Vec<_> = open(&image).keys().collect();
+    assert_eq!(keys, [Ok(whole[0].clone()), Err(Refusal::PointerOutside), Ok(whole[2].clone())]);
+    assert_eq!(open(&image).values().map(|value| value.err()).collect::<Vec<_>>(), [None, None, Some(Refusal::Misaligned)]);
+    let entries: Vec<_> = open(&image).entries().collect();
+    assert!(matches!(entries[1].item, Ok(Item::Value(_))) && entries[1].key.is_err());
+    assert!(matches!(entries[2].item, Err(Refusal::Misaligned)) && entries[2].key.is_ok());
+    assert_eq!(open(&image).keys().len(), 3);
+    assert_eq!(open(&image).key_at(3), Err(Refusal::PastTheLast));
+}
+
+#[test]
+fn a_listed_key_longer_than_any_builder_takes() {
+    let (long, longer) = ("a".repeat(1000), "b".repeat(1024));
+    let mut image = flat(&[(&long, b""), (&longer, b"")]);
+    let child = open(&image).keys().position(|key| key.unwrap() == longer).unwrap();
+    let parent = record(&image, child) + 4;
+    put(&mut image, parent, 1 - child as u32);
+    assert_eq!(open(&image).key_at(child), Ok(long + &longer));
+}
+
+#[test]
+fn kinds_of_entries_and_of_replaced_items() {
+    let mut builder = Builder::new(4096);
+    let (root, guest) = (builder.new_table(Some(b'/')).unwrap(), builder.new_table(None).unwrap());
+    assert_eq!(builder.insert(root, "a/b", "1"), Ok(Inserted::New));
+    assert_eq!(builder.insert_table(root, "t", guest), Ok(Inserted::New));
+    let image = builder.write(root).unwrap();
+    let mut kinds: Vec<_> = open(&image)
+        .entries()
+        .map(|entry| {
+            let kind = match entry.item.unwrap() {
+                Item::Value(bytes) => format!("value of {}", bytes.len()),
+                Item::Table(nested) => format!("table of {}", nested.len()),
+                Item::Container => "container".to_string(),
+            };
+            (entry.key.unwrap(), kind)
+        })
+        .collect();
+    kinds.sort();
+    let expected = [("a/", "container"), ("a/b", "value of 1"), ("t", "table of 0")];
+    assert_eq!(kinds, expected.map(|(key, kind)| (key.to_string(), kind.to_string())));
+    assert_eq!(builder.insert(root, "a/", ""), Ok(Inserted::Replaced(Kind::Container)));
+    assert_eq!(builder.insert(root, "a/", ""), Ok(Inserted::Replaced(Kind::Value)));
+    assert_eq!(builder.insert(root, "t", ""), Ok(Inserted::Replaced(Kind::Table)));
+    assert_eq!(builder.insert(root, "a/c", ""), Err(Refusal::NotContainer));
+}
+
+#[test]
+fn the_builders_limits() {
+    let mut builder = Builder::new(1 << 21);
+    let root = builder.new_table(None).unwrap();
+    assert_eq!(builder.insert(root, "k".repeat(MAX_KEY), ""), Ok(Inserted::New));
+    assert_eq!(builder.insert(root, "k".repeat(MAX_KEY + 1), ""), Err(Refusal::KeyTooLong));
+    assert_eq!(builder.insert(root, b"\xC3", ""), Err(Refusal::KeyNotUtf8));
+    for i in 1..MAX_ITEMS {
+        assert_eq!(builder.insert(root, i.to_string(), ""), Ok(Inserted::New));
+    }
+    assert_eq!(builder.insert(root, "one more", ""), Err(Refusal::TooManyItems));
+    assert_eq!(builder.item_count(root), Ok(MAX_ITEMS));
+    assert_eq!(builder.new_table(Some(0)), Err(Refusal::SeparatorOutside));
+    assert_eq!(builder.new_table(Some(128)), Err(Refusal::SeparatorOutside));
+    for _ in 1..MAX_TABLES {
+        builder.new_table(Some(b':')).unwrap();
+    }
+    assert_eq!(builder.new_table(None), Err(Refusal::TooManyTables));
+    assert_eq!(builder.insert_table(root, "1", root), Err(Refusal::TableInItself));
+    let mut small = Builder::new(3);
+    let root = small.new_table(Some(b'/')).unwrap();
+    assert_eq!(small.insert(root, "a/b", ""), Err(Refusal::ArenaFull));
+}
+
+/// The room that a write lends is enough for every image: keys of 1,024 bytes that share nothing, each with a value that needs padding.
+#[test]
+fn the_largest_frame_and_the_longest_image() {
+    let mut builder = Builder::new(1024 * 1025);
+    let root = builder.new_table(None).unwrap();
+    for i in 0..MAX_ITEMS {
+        assert_eq!(builder.insert(root, format!("{i:01024}"), [1]), Ok(Inserted::New));
+    }
+    assert!(builder.write(root).unwrap().bytes.len() > 1024 * 1024);
+
+    let frame = flat(&[("a", b"")]).bytes.len();
+    let longest = MAX_FILE - frame;
+    for (size, answer) in [(longest, Ok(MAX_FILE)), (longest + 1, Err(Refusal::ImageTooLong))] {
+        let mut builder = Builder::new(MAX_FILE + 1);
+        let root = builder.new_table(None).unwrap();
+        assert_eq!(builder.insert(root, "a", vec![0xFF; size]), Ok(Inserted::New));
+        assert_eq!(builder.write(root).map(|image| image.bytes.len()), answer);
+    }
+}
+
+#[test]
+fn refusals_are_those_of_the_library() {
+    let source = include_str!("../../../crates/layout/src/refusal.rt");
+    let mut named = 0;
+    for line in source.lines() {
+        if let Some((name, number)) = line.trim().strip_prefix("Refusal::").and_then(|line| line.split_once(" => ")) {
+            let number = number.trim_end_matches(',').parse().unwrap();
+            assert_eq!(Refusal::from_number(number).map(Refusal::name), Some(name));
+            named += 1;
+        }
+    }
+    assert_eq!(named, Refusal::ALL.len());
+    assert!(Refusal::ALL.iter().all(|refusal| Refusal::from_number(refusal.number()) == Some(*refusal) && !refusal.sentence().is_empty()));
+}

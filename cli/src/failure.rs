@@ -1,0 +1,71 @@
+//! How a command ends when it does not do what was asked: one line on standard error and an exit status.
+
+use gvdb::Refusal;
+use std::ffi::OsStr;
+use std::io;
+use std::path::Path;
+
+use crate::text;
+
+/// The answer is no: not sound, no such key, a conflict, a refusal of the builder.
+pub const NO: u8 = 1;
+/// Bad usage, or something that cannot be read or written.
+pub const UNREADABLE: u8 = 2;
+
+/// A number with its sentence: a refusal of the library, or one of the file header.
+#[derive(Clone, Copy, Debug)]
+pub struct Told {
+    pub number: u32,
+    pub sentence: &'static str,
+}
+
+impl From<Refusal> for Told {
+    fn from(refusal: Refusal) -> Told {
+        Told { number: refusal.number(), sentence: refusal.sentence() }
+    }
+}
+
+#[derive(Debug)]
+pub struct Failure {
+    pub status: u8,
+    /// Empty: nothing is said (nobody reads any more).
+    pub line: String,
+    /// The number of a refusal, if that is what ended it.
+    pub number: Option<u32>,
+}
+
+impl Failure {
+    pub fn usage(line: impl Into<String>) -> Failure {
+        Failure { status: UNREADABLE, line: line.into(), number: None }
+    }
+
+    pub fn no(line: impl Into<String>) -> Failure {
+        Failure { status: NO, line: line.into(), number: None }
+    }
+
+    /// A refusal, with what was refused before it.
+    pub fn refused(status: u8, what: &str, told: impl Into<Told>) -> Failure {
+        let Told { number, sentence } = told.into();
+        Failure { status, line: format!("{what}: refusal {number}: {sentence}"), number: Some(number) }
+    }
+
+    /// A file or folder that the system does not let us read or write.
+    pub fn system(path: &Path, error: io::Error) -> Failure {
+        Failure::usage(format!("{}: {error}", name(path.as_os_str())))
+    }
+}
+
+/// Writing to standard output. A reader that has gone away is no news.
+impl From<io::Error> for Failure {
+    fn from(error: io::Error) -> Failure {
+        match error.kind() {
+            io::ErrorKind::BrokenPipe => Failure::usage(""),
+            _ => Failure::usage(format!("standard output: {error}")),
+        }
+    }
+}
+
+/// The name of a file as it is printed: on one line.
+pub fn name(path: &OsStr) -> String {
+    text::shown(&path.to_string_lossy())
+}

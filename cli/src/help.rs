@@ -1,0 +1,121 @@
+//! What `--help` says.
+
+pub const USAGE: &str = "\
+gvdb: checks, lists, merges, dumps and builds GVDB files
+
+    gvdb check FILE...               every table of each file: sound, or what is broken
+    gvdb list FILE [PREFIX]          keys with kind and size
+    gvdb tree FILE                   containers and nested tables, drawn
+    gvdb get FILE KEY                one value
+    gvdb merge OWN OTHER -o OUT      both files' values into one; no value is lost unsaid
+    gvdb dump FILE                   a file as lines of text
+    gvdb build -o OUT                lines of text as a file
+    gvdb COMMAND --help              more, with an example
+    gvdb --version
+
+Exit status: 0 done; 1 the answer is no (not sound, no such key, a conflict, a refusal);
+2 bad usage, or something cannot be read or written.
+";
+
+pub const CHECK: &str = "\
+gvdb check FILE... [--json]
+
+Checks each table of each file, nested ones too, against six rules: (1) the key of each
+item reads, (2) a lookup of it finds the item, (3) its kind is known, (4) its value opens,
+(5) a container's children are there, name it and stand once, (6) the parent of an item is
+a container that lists it. Of a table that is not sound the first broken rule is told.
+Exit status: 0 all sound, 1 one is not, 2 one cannot be read.
+
+    --json    one list, with an object for each file
+
+    gvdb check owners/*.gvdb
+";
+
+pub const LIST: &str = "\
+gvdb list FILE [PREFIX] [--values] [--table KEY]... [--json]
+
+Lists the keys of the root table that start with PREFIX, in ascending order. The size is
+in bytes for a value, in items for a table, and for a container in items right below it.
+Control characters and backslashes are escaped as by `gvdb dump`.
+
+    --values      hex of values of at most 32 bytes, behind a TAB
+    --table KEY   the nested table at KEY instead; again for one in that
+    --json        one object
+
+    gvdb list anna.gvdb /parcel/12/ --values
+";
+
+pub const TREE: &str = "\
+gvdb tree FILE
+
+Draws the containers and nested tables of a file, with the size of each value.
+
+    gvdb tree anna.gvdb
+";
+
+pub const GET: &str = "\
+gvdb get FILE KEY [--table KEY]... [--hex | --raw]
+
+Writes the value at KEY: its bytes as they are to a pipe or a file, hex to a terminal.
+
+    --table KEY   look in the nested table at KEY; again for one in that
+    --hex, --raw  hex, or the bytes, wherever it goes
+
+    gvdb get anna.gvdb /parcel/12/year | xxd
+";
+
+pub const MERGE: &str = "\
+gvdb merge OWN OTHER -o OUT [--keep own|other] [--report FILE] [--separator C|none] [--json]
+
+Writes the values of both files into OUT. Every key that stands in both is named with both
+values. `same`: the values are equal, nothing is lost. `conflict`: they differ, or one is a
+value, the other a table or container. A conflict refuses the merge and nothing is written,
+unless --keep decides; what is dropped is named even then, each value of a dropped table
+too. Nested tables in both files are merged by the same rule.
+
+Both files have to pass the check. OUT is checked and read back before it is put in place,
+and is there whole or not at all. Files with big-endian values are merged only with each
+other, and OUT is big-endian then. OUT holds at most 1,024 items (containers included) in
+64 tables, nested 8 deep, with keys of 1,024 bytes, in 16 MiB: else the merge is refused.
+
+    -o OUT           the file to write, over what is there; it may be OWN or OTHER
+    --keep WHICH     own or other: which value of a conflict is kept
+    --report FILE    the report with every byte of each value; written for a refused merge too
+    --separator C    makes the containers of OUT; / if not given, none for no containers
+    --json           the report as one object
+
+    gvdb merge anna.gvdb district.gvdb -o merged.gvdb --keep own --report merged.txt
+";
+
+pub const DUMP: &str = "\
+gvdb dump FILE
+
+Writes a file as lines, in ascending key order, which `gvdb build` lays again:
+
+    key TAB hex                 a value of the root table
+    table TAB key TAB hex       a value of the nested table at the key `table`; deeper ones
+                                have more fields in front
+    key TAB {}                  a nested table, which may be empty
+
+In keys a backslash is \\\\, a tab \\t, a newline \\n, a return \\r, and a byte of any other
+control character \\xHH. Containers have no lines: the separator makes them. The file has to
+pass the check.
+
+    gvdb dump anna.gvdb | sed s/oak/beech/ | gvdb build -o changed.gvdb
+";
+
+pub const BUILD: &str = "\
+gvdb build -o OUT [--separator C|none] [--big-endian] [--empty]
+
+Lays a file from lines on standard input, as `gvdb dump --help` describes them. Their order
+plays no part. A key that stands twice is refused, and so is one that is both a value and a
+table. Empty lines are passed over. Input without a line, or whose last line has no end, is
+refused: it may be cut. OUT is checked and read back before it is put in place.
+
+    -o OUT           the file to write, over what is there
+    --separator C    makes the containers; / if not given, none for no containers
+    --big-endian     the header says that the values are big-endian
+    --empty          input without a line lays an empty table
+
+    printf '/parcel/12/year\\te9070000\\n' | gvdb build -o anna.gvdb
+";

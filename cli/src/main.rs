@@ -1,0 +1,102 @@
+//! The command line `gvdb`: a thin program over the crate. Each command is a module; this one picks it and ends with its status.
+
+mod args;
+mod check;
+mod content;
+mod failure;
+mod header;
+mod help;
+mod json;
+mod lines;
+mod list;
+mod merge;
+mod out;
+mod report;
+mod source;
+mod text;
+mod tree;
+
+use args::{Args, Spec};
+use failure::{name, Failure};
+use out::Out;
+use std::ffi::OsString;
+use std::io::Write;
+use std::process::ExitCode;
+
+struct Command {
+    name: &'static str,
+    help: &'static str,
+    spec: Spec,
+    run: fn(&Args, &mut Out) -> Result<u8, Failure>,
+}
+
+const COMMANDS: &[Command] = &[
+    Command { name: "check", help: help::CHECK, spec: Spec { flags: &["--json"], valued: &[], words: &["FILE..."] }, run: check::run },
+    Command {
+        name: "list",
+        help: help::LIST,
+        spec: Spec { flags: &["--json", "--values"], valued: &["--table"], words: &["FILE", "[PREFIX]"] },
+        run: list::run,
+    },
+    Command { name: "tree", help: help::TREE, spec: Spec { flags: &[], valued: &[], words: &["FILE"] }, run: tree::run },
+    Command { name: "get", help: help::GET, spec: Spec { flags: &["--hex", "--raw"], valued: &["--table"], words: &["FILE", "KEY"] }, run: list::get },
+    Command {
+        name: "merge",
+        help: help::MERGE,
+        spec: Spec { flags: &["--json"], valued: &["-o", "--keep", "--report", "--separator"], words: &["OWN", "OTHER"] },
+        run: merge::run,
+    },
+    Command { name: "dump", help: help::DUMP, spec: Spec { flags: &[], valued: &[], words: &["FILE"] }, run: lines::dump },
+    Command {
+        name: "build",
+        help: help::BUILD,
+        spec: Spec { flags: &["--big-endian", "--empty"], valued: &["-o", "--separator"], words: &[] },
+        run: lines::build,
+    },
+];
+
+fn main() -> ExitCode {
+    let mut out = Out::new();
+    let status = run(std::env::args_os().skip(1).collect(), &mut out);
+    // What is still in the buffer may fail too, and that is no success.
+    let flushed = out.stdout.flush().map_err(Failure::from);
+    match status.and_then(|status| flushed.map(|()| status)) {
+        Ok(status) => ExitCode::from(status),
+        Err(failure) => {
+            if !failure.line.is_empty() {
+                out::say(&failure.line);
+            }
+            ExitCode::from(failure.status)
+        }
+    }
+}
+
+fn run(words: Vec<OsString>, out: &mut Out) -> Result<u8, Failure> {
+    let mut words = words.into_iter();
+    let Some(first) = words.next() else {
+        let _ = write!(std::io::stderr(), "{}", help::USAGE);
+        return Ok(failure::UNREADABLE);
+    };
+    let rest: Vec<OsString> = words.collect();
+    match first.to_str() {
+        Some("--version" | "-V") => return out.line(concat!("gvdb ", env!("CARGO_PKG_VERSION"))).map(|()| 0),
+        Some("--help" | "-h" | "help") => return said(out, rest.first().and_then(|word| command(word)).map_or(help::USAGE, |command| command.help)),
+        _ => {}
+    }
+    let command = command(&first).ok_or_else(|| Failure::usage(format!("no command {} (see gvdb --help)", name(&first))))?;
+    if rest.iter().take_while(|word| *word != "--").any(|word| word == "--help" || word == "-h") {
+        return said(out, command.help);
+    }
+    let args =
+        Args::parse(&command.spec, rest.into_iter()).map_err(|failure| Failure::usage(format!("{}: {} (see gvdb {0} --help)", command.name, failure.line)))?;
+    (command.run)(&args, out)
+}
+
+fn command(word: &OsString) -> Option<&'static Command> {
+    COMMANDS.iter().find(|command| word == command.name)
+}
+
+fn said(out: &mut Out, text: &str) -> Result<u8, Failure> {
+    write!(out.stdout, "{text}")?;
+    Ok(0)
+}

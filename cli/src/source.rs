@@ -1,0 +1,114 @@
+//! Files that are read, and the walk over their tables.
+
+use crate::failure::{name, Failure, UNREADABLE};
+use crate::header::{self, Header};
+use crate::{out, text};
+use gvdb::{Entry, Table, MAX_FILE};
+use std::ffi::OsStr;
+use std::fs::File;
+use std::io::Read;
+use std::os::unix::ffi::OsStrExt;
+use std::path::{Path, PathBuf};
+
+/// Tables nested deeper than this are not walked.
+pub const DEEPEST: usize = 64;
+/// The keys of one file that are held at a time, in bytes. Only a file made to be a trap has more.
+const KEY_BYTES: usize = 256 << 20;
+/// The values of one file that are taken, in bytes. Values that do not overlap are no longer than the file.
+const VALUE_BYTES: usize = 64 << 20;
+
+/// A file with its header, read.
+pub struct Source {
+    pub path: PathBuf,
+    /// The path as it is printed.
+    pub name: String,
+    pub bytes: Vec<u8>,
+    pub header: Header,
+}
+
+impl Source {
+    pub fn read(path: &OsStr) -> Result<Source, Failure> {
+        let name = name(path);
+        let path = Path::new(path);
+        let mut bytes = Vec::new();
+        let file = File::open(path).map_err(|error| Failure::system(path, error))?;
+        file.take(MAX_FILE as u64 + 1).read_to_end(&mut bytes).map_err(|error| Failure::system(path, error))?;
+        out::progress(bytes.len(), || format!("{name}: {} read", text::count(bytes.len(), "byte")));
+        Ok(Source { path: path.to_path_buf(), ..Source::of(&name, bytes)? })
+    }
+
+    /// Bytes that are read as a file of this name.
+    pub fn of(name: &str, bytes: Vec<u8>) -> Result<Source, Failure> {
+        let header = header::read(&bytes).map_err(|told| Failure::refused(UNREADABLE, name, told))?;
+        Ok(Source { path: PathBuf::new(), name: name.to_string(), bytes, header })
+    }
+
+    pub fn root(&self) -> Result<Table<'_>, Failure> {
+        let root = self.header.root;
+        Table::open(&self.bytes, root.start, root.end).map_err(|refusal| Failure::refused(UNREADABLE, &format!("{}: root table", self.name), refusal))
+    }
+
+    /// The table that is reached from the root by the keys of nested ones.
+    pub fn table<'a>(&self, keys: impl Iterator<Item = &'a OsStr>) -> Result<Table<'_>, Failure> {
+        let mut table = self.root()?;
+        for key in keys {
+            let what = || format!("{}: table {}", self.name, text::quoted(&key.to_string_lossy()));
+            table = table.get_table(key.as_bytes()).map_err(|refusal| Failure::refused(crate::failure::NO, &what(), refusal))?;
+        }
+        Ok(table)
+    }
+
+    pub fn walk(&self) -> Walk {
+        Walk { name: self.name.clone(), table_bytes: self.bytes.len(), key_bytes: KEY_BYTES, value_bytes: VALUE_BYTES }
+    }
+}
+
+/// Bounds a walk over the tables of a file. Tables that do not overlap take no more bytes than the file, so a walk that takes more has met one
+/// twice or in itself, and would grow without need.
+pub struct Walk {
+    name: String,
+    table_bytes: usize,
+    key_bytes: usize,
+    value_bytes: usize,
+}
+
+impl Walk {
+    /// Takes a table that is reached by the keys of those around it.
+    pub fn enter(&mut self, table: &Table, path: &[String]) -> Result<(), Failure> {
+        self.hold(path.iter().map(String::len).sum())?;
+        if path.len() >= DEEPEST {
+            return Err(Failure::no(format!("{}: tables are nested more than {DEEPEST} deep, and not followed", self.name)));
+        }
+        let pointer = table.pointer();
+        let size = (pointer.end - pointer.start) as usize;
+        let left = self.table_bytes.checked_sub(size);
+        self.table_bytes = left.ok_or_else(|| Failure::no(format!("{}: tables overlap or hold each other, and are not followed", self.name)))?;
+        Ok(())
+    }
+
+    /// All entries of a table: those whose keys read in ascending order, then the others by index.
+    pub fn entries<'a>(&mut self, table: &Table<'a>) -> Result<Vec<Entry<'a>>, Failure> {
+        let mut entries = Vec::new();
+        for entry in table.entries() {
+            self.hold(entry.key.as_ref().map_or(0, String::len))?;
+            entries.push(entry);
+        }
+        entries.sort_by(|a, b| (a.key.is_err(), a.key.as_ref().ok(), a.index).cmp(&(b.key.is_err(), b.key.as_ref().ok(), b.index)));
+        Ok(entries)
+    }
+
+    fn hold(&mut self, bytes: usize) -> Result<(), Failure> {
+        self.key_bytes = spend(&self.name, "keys", self.key_bytes, bytes, KEY_BYTES)?;
+        Ok(())
+    }
+
+    /// Takes a value. One small file could hold a long one under many keys.
+    pub fn value(&mut self, bytes: &[u8]) -> Result<(), Failure> {
+        self.value_bytes = spend(&self.name, "values", self.value_bytes, bytes.len(), VALUE_BYTES)?;
+        Ok(())
+    }
+}
+
+fn spend(name: &str, what: &str, left: usize, bytes: usize, limit: usize) -> Result<usize, Failure> {
+    left.checked_sub(bytes).ok_or_else(|| Failure::no(format!("{name}: its {what} overlap: they take more than {} bytes", text::grouped(limit))))
+}

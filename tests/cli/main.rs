@@ -1,0 +1,13 @@
+//! The command line from outside, as processes. Built and run by tests/cli/run, which names the program and gvdb-rs by GVDB, ROOT, REAL and ORACLE.
+
+mod damage;
+mod harness;
+mod json;
+mod lines;
+mod merge;
+mod model;
+mod oracle;
+mod places;
+mod reading;
+mod tour;
+mod usage;

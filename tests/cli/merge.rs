@@ -1,0 +1,290 @@
+//! The merge: nothing is lost unsaid.
+
+use crate::harness::*;
+use crate::json::Json;
+use crate::model::{self, random, Merged, Node, Table};
+use crate::oracle::Oracle;
+use std::collections::BTreeSet;
+use std::ffi::OsStr;
+use std::fs;
+use std::path::{Path, PathBuf};
+
+struct Pair {
+    folder: PathBuf,
+}
+
+impl Pair {
+    fn new(name: &str, own: &str, other: &str) -> Pair {
+        let folder = folder(name);
+        build(&folder.join("own"), own);
+        build(&folder.join("other"), other);
+        Pair { folder }
+    }
+
+    fn out(&self) -> PathBuf {
+        self.folder.join("out")
+    }
+
+    fn merge(&self, words: &[&str]) -> Ran {
+        let _ = fs::remove_file(self.out());
+        shell(&self.folder, &format!("\"$GVDB\" merge own other -o out {}", words.join(" ")))
+    }
+
+    fn dump(&self) -> String {
+        gvdb(["check".as_ref(), self.out().as_os_str()]).ends(0);
+        gvdb(["dump".as_ref(), self.out().as_os_str()]).ends(0).text().to_string()
+    }
+
+    fn refused(&self) {
+        assert_eq!(names(&self.folder), ["other", "own"], "something was written");
+    }
+}
+
+#[test]
+fn a_conflict_refuses_and_names_both_values() {
+    let pair = Pair::new("conflict", "/p/1\t01\n/p/2\t02\nsame\tff\n", "/p/2\t03\n/p/3\t04\nsame\tff\n");
+    let ran = pair.merge(&[]).ends(1).says("out: 1 conflict, nothing is written");
+    let report = "\
+merge of own own and other other
+conflict \"/p/2\"
+    own    value of 1 byte: 02
+    other  value of 1 byte: 03
+same \"same\": value of 1 byte: ff
+refused: out is not written; 1 only in own, 1 only in other, 1 the same in both, 1 conflict
+";
+    assert_eq!(ran.text(), report);
+    pair.refused();
+    for (keep, kept) in [("own", "02"), ("other", "03")] {
+        let ran = pair.merge(&["--keep", keep]).ends(0).prints("conflict \"/p/2\"").prints("same \"same\"");
+        let lines: Vec<&str> = ran.text().lines().filter(|line| line.starts_with("    ")).collect();
+        let expected = match keep {
+            "own" => ["    kept    own    value of 1 byte: 02", "    dropped other  \"/p/2\": value of 1 byte: 03"],
+            _ => ["    dropped own    \"/p/2\": value of 1 byte: 02", "    kept    other  value of 1 byte: 03"],
+        };
+        assert_eq!(lines, expected);
+        assert_eq!(pair.dump(), format!("/p/1\t01\n/p/2\t{kept}\n/p/3\t04\nsame\tff\n"));
+    }
+}
+
+#[test]
+fn without_conflict_it_merges() {
+    let pair = Pair::new("plain", "/p/1\t01\nt\ta\t01\n", "/p/3\t04\nt\tb\t02\nu\t{}\n");
+    pair.merge(&[])
+        .ends(0)
+        .prints("tables \"t\": in both, merged key by key\nmerged into out: 4 values; 2 only in own, 2 only in other, 0 the same in both, 0 conflicts\n");
+    assert_eq!(pair.dump(), "/p/1\t01\n/p/3\t04\nt\t{}\nt\ta\t01\nt\tb\t02\nu\t{}\n");
+}
+
+#[test]
+fn kinds_against_each_other() {
+    let pair = Pair::new("kinds", "a/\t01\nt\tx\t02\nt\tu\ty\t03\n", "a/b\t04\nt\t05\n");
+    let ran = pair.merge(&[]).ends(1).prints("conflict \"a/\"\n    own    value of 1 byte: 01\n    other  container (what is below it stays)\n");
+    ran.prints("conflict \"t\"\n    own    table of 2 items\n    own      \"t\" > \"u\" > \"y\": value of 1 byte: 03\n    own      \"t\" > \"x\": value of 1 byte: 02\n    other  value of 1 byte: 05\n");
+    pair.refused();
+    pair.merge(&["--keep", "own"]).ends(0).prints("    dropped other  \"t\": value of 1 byte: 05").prints("(own kept, 1 value of other dropped)");
+    assert_eq!(pair.dump(), "a/\t01\na/b\t04\nt\t{}\nt\tu\t{}\nt\tu\ty\t03\nt\tx\t02\n");
+    let ran = pair.merge(&["--keep", "other"]).ends(0).prints("    dropped own      \"t\" > \"u\" > \"y\": value of 1 byte: 03\n");
+    ran.prints("    dropped own    \"a/\": value of 1 byte: 01\n").prints("(other kept, 3 values of own dropped)");
+    assert_eq!(pair.dump(), "a/b\t04\nt\t05\n");
+}
+
+fn places(list: &Json, outcome: Option<&str>) -> BTreeSet<Vec<String>> {
+    let chosen = list.list().iter().filter(|entry| outcome.is_none() || outcome == Some(entry.at("outcome").text()));
+    let place = |entry: &Json| entry.at("path").list().iter().chain([entry.at("key")]).map(|key| key.text().to_string()).collect();
+    chosen.map(place).collect()
+}
+
+/// Random pairs against the model, and against what gvdb-rs reads and lays.
+#[test]
+fn random_merges() {
+    let mut oracle = Oracle::start();
+    let mut dice = Dice(0x5EED_0F0A_4B1D_6E55);
+    let (mut conflicts, mut plain) = (0, 0);
+    for _ in 0..80 {
+        let (own, other) = (random(&mut dice, 2), random(&mut dice, 2));
+        let pair = Pair::new("random", &model::lines(&own, ""), &model::lines(&other, ""));
+        for keep in ["own", "other"] {
+            let mut merged = Merged::default();
+            let expected = model::merge(&own, &other, keep == "own", &[], &mut merged);
+            let json = pair.merge(&["--json", "--keep", keep]).ends(0);
+            let json = Json::parse(json.text());
+            assert_eq!(places(json.at("both"), Some("conflict")), merged.conflicts, "{own:?} {other:?}");
+            assert_eq!(places(json.at("both"), Some("same")), merged.same);
+            assert_eq!(places(json.at("dropped"), None), merged.dropped.keys().cloned().collect());
+            for entry in json.at("dropped").list() {
+                let place: Vec<String> = entry.at("path").list().iter().chain([entry.at("key")]).map(|key| key.text().to_string()).collect();
+                assert_eq!(unhex(entry.at("value").text()), merged.dropped[&place]);
+            }
+            assert_eq!(pair.dump(), model::lines(&expected, ""));
+            if let Some(oracle) = &mut oracle {
+                assert_eq!(oracle.read(&pair.out()), expected);
+                assert_eq!(hex(&fs::read(pair.out()).unwrap()), hex(&oracle.lay(&expected)), "{own:?} {other:?}");
+            }
+            let _ = fs::remove_file(pair.out());
+            match merged.conflicts.is_empty() {
+                true => plain += 1,
+                false => {
+                    pair.merge(&["--json"]).ends(1);
+                    pair.refused();
+                    conflicts += 1;
+                }
+            }
+        }
+    }
+    assert!(conflicts > 20 && plain > 5, "{conflicts} {plain}");
+}
+
+/// Files that gvdb-rs laid, merged: gvdb-rs reads the values of both.
+#[test]
+fn files_of_gvdb_rs() {
+    let folder = folder("gvdb-rs");
+    let out = folder.join("out");
+    let merge = |own: &Path, other: &Path| gvdb(["merge".as_ref(), own.as_os_str(), other.as_os_str(), "-o".as_ref(), out.as_os_str()]);
+    merge(&worked("gvdbrs-test1.gvdb"), &worked("gvdbrs-test3.gresource")).ends(0).prints("5 values; 1 only in own, 4 only in other");
+    let Some(mut oracle) = Oracle::start() else { return };
+    let mut both = oracle.read(&worked("gvdbrs-test1.gvdb"));
+    both.extend(oracle.read(&worked("gvdbrs-test3.gresource")));
+    assert_eq!((oracle.read(&out), both.len()), (both, 5));
+}
+
+#[test]
+fn real_files_with_themselves_and_each_other() {
+    let Some(real) = real() else { return };
+    let folder = folder("real-merge");
+    let out = folder.join("out");
+    let merge = |own: &str, other: &str| gvdb(["merge".as_ref(), real.join(own).as_os_str(), real.join(other).as_os_str(), "-o".as_ref(), out.as_os_str()]);
+    merge("dconf-small.gvdb", "dconf-small.gvdb").ends(0).prints("3 values; 0 only in own, 0 only in other, 3 the same in both, 0 conflicts");
+    merge("dconf-small.gvdb", "schemas-eog.gvdb").ends(0).prints("note container \"\" is not kept: the separator '/' does not make it");
+    merge("dconf-deep.gvdb", "dconf-list.gvdb");
+    let Some(mut oracle) = Oracle::start() else { return };
+    let (own, other) = (oracle.read(&real.join("schemas-nautilus-data.gvdb")), oracle.read(&real.join("schemas-eog.gvdb")));
+    merge("schemas-nautilus-data.gvdb", "schemas-eog.gvdb").ends(0);
+    assert_eq!(oracle.read(&out), model::merge(&own, &other, true, &[], &mut Merged::default()));
+    fs::remove_file(&out).unwrap();
+    for (own, other, said) in [
+        ("dconf-small.gvdb", "dconf-accent.gvdb", "dconf-accent.gvdb: root table: not sound, rule 2"),
+        ("dconf-empty.gvdb", "dconf-small.gvdb", "dconf-empty.gvdb: root table: not sound, rule 3"),
+        ("dconf-big.gvdb", "dconf-small.gvdb", "refusal 22: the builder would hold more than 1,024 items"),
+    ] {
+        merge(own, other).ends(1).says(said);
+    }
+    merge("dconf-small.gvdb", "dconftest-invalid_header").ends(2).says("refusal 17");
+    assert!(names(&folder).is_empty());
+}
+
+#[test]
+fn byte_orders() {
+    let pair = Pair::new("orders", "a\t01\n", "b\t02\n");
+    let big =
+        |name: &str, lines: &[u8]| gvdb_fed(["build".as_ref(), "--big-endian".as_ref(), "-o".as_ref(), pair.folder.join(name).as_os_str()], lines).ends(0);
+    big("other", b"b\t02\n");
+    pair.merge(&["--keep=own"]).ends(1).says("own has little-endian values, other big-endian ones: they cannot stand in one file");
+    pair.refused();
+    big("own", b"a\t01\n");
+    pair.merge(&[]).ends(0).prints("note the values of both files are big-endian\n");
+    let bytes = fs::read(pair.out()).unwrap();
+    assert!(bytes.starts_with(b"raVGtnai\0\0\0\0\0\0\0\0\x18\0\0\0"));
+    let little = Pair::new("orders-little", "a\t01\n", "b\t02\n");
+    little.merge(&[]).ends(0);
+    assert_eq!(bytes[8..], fs::read(little.out()).unwrap()[8..]);
+    let Some(mut oracle) = Oracle::start() else { return };
+    assert_eq!(oracle.read(&pair.out()), Table::from([("a".into(), Node::Value(vec![1])), ("b".into(), Node::Value(vec![2]))]));
+}
+
+#[test]
+fn limits_end_the_merge_with_nothing_written() {
+    let flat = |from: usize, count: usize| (from..from + count).map(|i| format!("{i}\t00\n")).collect::<String>();
+    let tables = |from: usize, count: usize| (from..from + count).map(|i| format!("{i}\t{{}}\n")).collect::<String>();
+    let value = |key: &str, size: usize| format!("{key}\t{}\n", "00".repeat(size));
+    for (own, other, number) in [
+        (flat(0, 600), flat(600, 425), 22),
+        (tables(0, 40), tables(40, 24), 27),
+        (value("a", 9_000_000), value("b", 9_000_000), 31),
+        ("1\t2\t3\t4\t5\t6\t7\tk\t00\n".to_string(), flat(0, 1024), 22),
+    ] {
+        let pair = Pair::new("limits", &own, &other);
+        let ran = pair.merge(&["--keep=own"]).ends(1);
+        assert!(ran.stderr.lines().last().unwrap().contains(&format!("refusal {number}: ")) && ran.stdout.is_empty(), "{}", ran.stderr);
+        pair.refused();
+    }
+    let pair = Pair::new("fits", &flat(0, 600), &flat(600, 424));
+    pair.merge(&[]).ends(0).prints("1,024 values");
+}
+
+/// A key over 1,024 bytes, an item with the empty key and nine tables in each other can be in a file, but not in OUT.
+#[test]
+fn what_other_writers_lay_and_ours_refuses() {
+    let Some(mut oracle) = Oracle::start() else { return };
+    let mut deep = Table::from([("k".to_string(), Node::Value(vec![1]))]);
+    for _ in 0..8 {
+        deep = Table::from([("t".to_string(), Node::Table(deep))]);
+    }
+    let long = Table::from([("k".repeat(1025), Node::Value(vec![1]))]);
+    for (table, number) in [(long, 20), (deep, 26)] {
+        let pair = Pair::new("others", "a\t01\n", "");
+        fs::write(pair.folder.join("other"), oracle.lay(&table)).unwrap();
+        gvdb(["check".as_ref(), pair.folder.join("other").as_os_str()]).ends(0);
+        let ran = pair.merge(&[]).ends(1).says(&format!("refusal {number}: "));
+        assert!(ran.stderr.len() < 300);
+        pair.refused();
+    }
+    // a value under the empty key: 24 bytes of header, one item with hash 5381 and no key, its value at 64
+    let mut file = b"GVariant\0\0\0\0\0\0\0\0".to_vec();
+    for word in [24u32, 60, 0x28000000, 1, 0, 5381, u32::MAX, 60, 0x0076_0000, 64, 65, 0] {
+        file.extend(word.to_le_bytes());
+    }
+    file.push(7);
+    let pair = Pair::new("empty-key", "a\t01\n", "");
+    fs::write(pair.folder.join("other"), file).unwrap();
+    gvdb(["check".as_ref(), pair.folder.join("other").as_os_str()]).ends(0);
+    pair.merge(&[]).ends(1).says("refusal 30");
+    pair.refused();
+}
+
+#[test]
+fn the_report_has_every_byte() {
+    let long = |last: &str| format!("k\t{}{last}\n", "ab".repeat(99));
+    let pair = Pair::new("report", &long("01"), &long("02"));
+    let ran = pair.merge(&["--report", "report"]).ends(1).prints("conflict \"k\": they differ from byte 99 on\n");
+    assert!(ran.prints(&format!("value of 100 bytes: {}...\n", "ab".repeat(32))).stderr.lines().count() == 1);
+    assert_eq!(names(&pair.folder), ["other", "own", "report"]);
+    let refused = fs::read_to_string(pair.folder.join("report")).unwrap();
+    assert!(refused.contains(&format!("{}01\n", "ab".repeat(99))) && refused.contains(&format!("{}02\n", "ab".repeat(99))));
+    assert!(refused.trim_end().lines().last().unwrap().starts_with("refused: out is not written"));
+    pair.merge(&["--report=report", "--keep=other"]).ends(0);
+    let report = fs::read_to_string(pair.folder.join("report")).unwrap();
+    assert!(report.contains(&format!("    dropped own    \"k\": value of 100 bytes: {}01\n", "ab".repeat(99))) && report.contains("merged into out: 1 value;"));
+    let json = pair.merge(&["--report=report", "--keep=own", "--json"]).ends(0);
+    assert_eq!(fs::read_to_string(pair.folder.join("report")).unwrap(), json.text());
+    assert_eq!(Json::parse(json.text()).at("dropped").list()[0].at("value").text(), format!("{}02", "ab".repeat(99)));
+    fs::remove_file(pair.folder.join("report")).unwrap();
+    // a report that cannot be written stops the merge, and one over the files themselves is no report
+    for (place, said) in
+        [("/proc/report", "/proc/report: "), ("own", "is one of the files merged"), ("./out", "is one of the files merged"), (".", "not a plain file")]
+    {
+        pair.merge(&["--keep=own", "--report", place]).ends(2).says(said);
+        pair.refused();
+    }
+}
+
+#[test]
+fn own_may_be_out() {
+    let pair = Pair::new("in-place", "a\t01\n", "b\t02\n");
+    shell(&pair.folder, "\"$GVDB\" merge own other -o own").ends(0);
+    assert_eq!(gvdb([OsStr::new("dump"), pair.folder.join("own").as_os_str()]).ends(0).text(), "a\t01\nb\t02\n");
+    let before = fs::read(pair.folder.join("own")).unwrap();
+    shell(&pair.folder, "\"$GVDB\" merge own other -o own").ends(0).prints("1 only in own, 0 only in other, 1 the same in both");
+    assert_eq!(fs::read(pair.folder.join("own")).unwrap(), before);
+    pair.refused();
+}
+
+#[test]
+fn containers_are_the_separators() {
+    let pair = Pair::new("containers", "a:b\t01\n", "c/d\t02\n");
+    gvdb_fed(["build".as_ref(), "-o".as_ref(), pair.folder.join("own").as_os_str(), "--separator=:".as_ref()], b"a:b\t01\n").ends(0);
+    pair.merge(&[]).ends(0).prints("note container \"a:\" is not kept: the separator '/' does not make it\n");
+    pair.merge(&["--separator", "none"]).ends(0).prints("note container \"c/\" is not kept: there is no separator\n");
+    let json = pair.merge(&["--separator", ":", "--json"]).ends(0);
+    let json = Json::parse(json.text());
+    assert_eq!((json.at("separator").text(), json.at("containers_not_kept").list()[0].at("key").text()), (":", "c/"));
+}

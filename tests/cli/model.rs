@@ -1,0 +1,114 @@
+//! What a file holds, and what a merge should make of two: written from the help text, for comparison.
+
+use crate::harness::{hex, Dice};
+use std::collections::{BTreeMap, BTreeSet};
+
+#[derive(Clone, Debug, PartialEq)]
+pub enum Node {
+    Value(Vec<u8>),
+    Table(Table),
+}
+
+pub type Table = BTreeMap<String, Node>;
+
+/// The containers that `/` makes of a table's keys, but for those that are a value's or a table's own key.
+pub fn containers(table: &Table) -> BTreeSet<String> {
+    let mut found = BTreeSet::new();
+    for key in table.keys() {
+        for (at, _) in key.match_indices('/') {
+            let prefix = &key[..at + 1];
+            if prefix != key && !table.contains_key(prefix) {
+                found.insert(prefix.to_string());
+            }
+        }
+    }
+    found
+}
+
+/// The lines of `gvdb dump`. The keys of the model need no escapes.
+pub fn lines(table: &Table, around: &str) -> String {
+    let mut text = String::new();
+    for (key, node) in table {
+        match node {
+            Node::Value(bytes) => text += &format!("{around}{key}\t{}\n", hex(bytes)),
+            Node::Table(nested) => {
+                text += &format!("{around}{key}\t{{}}\n");
+                text += &lines(nested, &format!("{around}{key}\t"));
+            }
+        }
+    }
+    text
+}
+
+/// What a merge makes of two tables, with the places (keys of tables, then the key) that are in conflict and that are the same.
+#[derive(Default, Debug)]
+pub struct Merged {
+    pub conflicts: BTreeSet<Vec<String>>,
+    pub same: BTreeSet<Vec<String>>,
+    pub dropped: BTreeMap<Vec<String>, Vec<u8>>,
+}
+
+pub fn merge(own: &Table, other: &Table, keep_own: bool, path: &[String], merged: &mut Merged) -> Table {
+    let mut out = Table::new();
+    let (own_containers, other_containers) = (containers(own), containers(other));
+    let keys: BTreeSet<&String> = own.keys().chain(other.keys()).collect();
+    for key in keys {
+        let place = [path, std::slice::from_ref(key)].concat();
+        match (own.get(key), other.get(key)) {
+            (Some(Node::Table(a)), Some(Node::Table(b))) => {
+                out.insert(key.clone(), Node::Table(merge(a, b, keep_own, &place, merged)));
+            }
+            (Some(a), Some(b)) if a == b => {
+                merged.same.insert(place);
+                out.insert(key.clone(), a.clone());
+            }
+            (Some(a), Some(b)) => {
+                let (kept, dropped) = if keep_own { (a, b) } else { (b, a) };
+                drop_values(dropped, &place, merged);
+                merged.conflicts.insert(place);
+                out.insert(key.clone(), kept.clone());
+            }
+            (Some(node), None) => one_side(key, node, other_containers.contains(key), keep_own, place, merged, &mut out),
+            (None, Some(node)) => one_side(key, node, own_containers.contains(key), !keep_own, place, merged, &mut out),
+            (None, None) => unreachable!(),
+        }
+    }
+    out
+}
+
+/// A key that the other file has at most as a container.
+fn one_side(key: &str, node: &Node, against_container: bool, kept: bool, place: Vec<String>, merged: &mut Merged, out: &mut Table) {
+    if against_container {
+        merged.conflicts.insert(place.clone());
+    }
+    if against_container && !kept {
+        drop_values(node, &place, merged);
+    } else {
+        out.insert(key.to_string(), node.clone());
+    }
+}
+
+fn drop_values(node: &Node, place: &[String], merged: &mut Merged) {
+    match node {
+        Node::Value(bytes) => {
+            merged.dropped.insert(place.to_vec(), bytes.clone());
+        }
+        Node::Table(nested) => nested.iter().for_each(|(key, node)| drop_values(node, &[place, std::slice::from_ref(key)].concat(), merged)),
+    }
+}
+
+/// A table of a few keys that often meet those of another.
+pub fn random(dice: &mut Dice, depth: u32) -> Table {
+    let mut table = Table::new();
+    for _ in 0..dice.below(16) {
+        let parts = ["a", "/", "é/", "b"];
+        let key: String = (0..1 + dice.below(3)).map(|_| parts[dice.below(4) as usize]).collect();
+        let node = if depth > 0 && dice.below(4) == 0 {
+            Node::Table(random(dice, depth - 1))
+        } else {
+            Node::Value((0..dice.below(3)).map(|_| dice.below(2) as u8).collect())
+        };
+        table.insert(key, node);
+    }
+    table
+}
