@@ -49,3 +49,13 @@ two-image = refl
 pub lengths : (length (imageOf plain none 0) ≡ 32) × (length (imageOf plain one 0) ≡ 66) × (length (imageOf plain two 0) ≡ 104)
 unfolding none one two pick zeros spelled hashBy hashFrom aligned precedes entryAt isChild fragmentAt membersBelow rowsOf insertKey sortKeys keyOrder hashesOf bucketOf run runsBelow numbered bucketStart byNumber itemOf indexIn numberOf wordsOf chunkSize valueStart itemBytes payload place recordBytes records planBytes childrenIn childrenOf parentNumber childWords valueOf coversOf planOf tableBytes imageOf
 lengths = (refl, refl, refl)
+
+-- "a/c", then "a/b": the container's children stand by arrival, not by name
+unfoldable pub three : State
+three =
+    rowsOf (entry 0 (97 ∷ 47 ∷ []) Content.container noItem ∷ entry 0 (97 ∷ 47 ∷ 99 ∷ []) (Content.bytes []) 0
+    ∷ entry 0 (97 ∷ 47 ∷ 98 ∷ []) (Content.bytes []) 0 ∷ [])
+
+pub by-arrival : childrenOf (three 0) 0 ≡ 1 ∷ 2 ∷ []
+unfolding three pick precedes entryAt membersBelow rowsOf insertKey sortKeys keyOrder childrenIn childrenOf
+by-arrival = refl
