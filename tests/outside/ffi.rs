@@ -107,6 +107,11 @@ pub fn check(file: &[u8], start: u32, end: u32) -> Check {
     unsafe { gvdb_check(file.as_ptr(), file.len(), start, end) }
 }
 
+/// The least length of a builder's words.
+pub fn memory_words() -> usize {
+    unsafe { gvdb_memory_words() }
+}
+
 /// A builder over memory of its own.
 #[derive(Clone, PartialEq, Eq)]
 pub struct Builder {
@@ -117,10 +122,14 @@ pub struct Builder {
 impl Builder {
     /// A fresh start on memory that held something else.
     pub fn fresh(room: usize) -> Builder {
-        let mut builder = Builder { words: vec![0x5A5A_5A5A_5A5A; unsafe { gvdb_memory_words() }], arena: vec![0xC3; room] };
-        let number = unsafe { gvdb_fresh(builder.words.as_mut_ptr(), builder.words.len(), builder.arena.as_ptr(), room) };
-        assert_eq!(number, 0);
+        let mut builder = Builder { words: vec![0x5A5A_5A5A_5A5A; memory_words()], arena: vec![0xC3; room] };
+        assert_eq!(builder.again(), 0);
         builder
+    }
+
+    /// A fresh start on the same memory.
+    pub fn again(&mut self) -> u32 {
+        unsafe { gvdb_fresh(self.words.as_mut_ptr(), self.words.len(), self.arena.as_ptr(), self.arena.len()) }
     }
 
     pub fn new_table(&mut self, separator: &[u8]) -> Table {
@@ -141,6 +150,7 @@ impl Builder {
         unsafe { gvdb_item_count(self.words.as_ptr(), self.words.len(), self.arena.as_ptr(), self.arena.len(), table) }
     }
 
+    /// The write borrows the builder's link words and puts them back.
     pub fn write(&mut self, table: u32, image: &mut [u8]) -> Image {
         unsafe { gvdb_write(self.words.as_mut_ptr(), self.words.len(), self.arena.as_ptr(), self.arena.len(), table, image.as_mut_ptr(), image.len()) }
     }

@@ -1,0 +1,253 @@
+//! Nanoseconds per operation of this library and of gvdb-rs, measured in turns in one run. Use: bench [--rounds N]
+//! Each call is measured whole, as a user makes it: gvdb-rs takes its own copies of keys and values, and has its table open; ours is lent
+//! its memory, and opens the table and tests the key at each call.
+
+#[path = "../../tests/outside/ffi.rs"]
+mod ffi;
+
+use ffi::Builder;
+use gvdb::read::{oracle as raw, File, HashTable};
+use gvdb::write::{FileWriter, HashTableBuilder};
+use std::borrow::Cow;
+use std::hint::black_box;
+use std::time::{Duration, Instant};
+
+const VALUE: [u8; 8] = *b"\x01\x02\x03\x04\x05\x06\x07\x08";
+const ROOM: usize = 1 << 20;
+/// How many operations a turn has at least.
+const TURN: usize = 20_000;
+
+/// Keys of eight segments: seven containers stand above each, 22 above them all, so that 1,000 keys are 1,022 items.
+fn keys(count: usize, leaf: &str) -> Vec<String> {
+    (0..count).map(|i| format!("/parcel/12/stand/3/plot/{}/{leaf}-{:03}", i % 16, i / 16)).collect()
+}
+
+/// The same keys in an order that repeats from run to run and is not that of the table.
+fn shuffled(mut keys: Vec<String>) -> Vec<String> {
+    let mut dice = 0x9E37_79B9_7F4A_7C15u64;
+    for i in (1..keys.len()).rev() {
+        dice = dice.wrapping_mul(6_364_136_223_846_793_005).wrapping_add(1_442_695_040_888_963_407);
+        keys.swap(i, (dice >> 33) as usize % (i + 1));
+    }
+    keys
+}
+
+/// Times a call alone, whatever is made before it and dropped after it.
+fn timed<T>(call: impl FnOnce() -> T) -> (Duration, T) {
+    let start = Instant::now();
+    let made = call();
+    (start.elapsed(), made)
+}
+
+/// Ours: a builder with a table, memory used anew.
+fn start(builder: &mut Builder) {
+    builder.again();
+    assert_eq!(builder.new_table(b"/").number, 0);
+}
+
+fn fill(builder: &mut Builder, keys: &[String]) {
+    for key in keys {
+        assert_eq!(builder.insert(0, key.as_bytes(), &VALUE).number, 0);
+    }
+}
+
+fn filled(keys: &[String]) -> HashTableBuilder<'static> {
+    let mut builder = HashTableBuilder::new();
+    fill_theirs(&mut builder, keys);
+    builder
+}
+
+fn fill_theirs(builder: &mut HashTableBuilder<'static>, keys: &[String]) {
+    for key in keys {
+        builder.insert(key.as_str(), raw::RawIn(VALUE.to_vec())).expect("a new key");
+    }
+}
+
+fn write_theirs(builder: HashTableBuilder<'static>) -> Vec<u8> {
+    FileWriter::new().write_to_vec_with_table(builder).expect("an image")
+}
+
+/// What both sides work on: the keys, the image and a copy that gvdb-rs accepts.
+struct Ground {
+    keys: Vec<String>,
+    absent: Vec<String>,
+    builder: Builder,
+    image: Vec<u8>,
+    end: u32,
+    theirs: Vec<u8>,
+}
+
+impl Ground {
+    fn new(count: usize) -> Ground {
+        let keys = shuffled(keys(count, "year"));
+        let mut builder = Builder::fresh(ROOM);
+        start(&mut builder);
+        fill(&mut builder, &keys);
+        let mut image = vec![0; ROOM];
+        let written = builder.write(0, &mut image);
+        assert_eq!(written.number, 0);
+        image.truncate(written.length as usize);
+        let theirs = write_theirs(filled(&keys));
+        assert_eq!(image[24..], theirs[24..], "the images differ");
+        Ground { keys, absent: shuffled(self::keys(count, "none")), builder, image, end: written.end, theirs }
+    }
+
+    fn items(&self) -> usize {
+        ffi::open(&self.image, 24, self.end).items as usize
+    }
+}
+
+/// A turn of one side: the time and how many operations it was.
+type Turn<'a> = Box<dyn FnMut() -> (Duration, usize) + 'a>;
+
+/// Repeats a pass until a turn has enough operations.
+fn turn<'a>(operations: usize, mut pass: impl FnMut() -> Duration + 'a) -> Turn<'a> {
+    let passes = TURN.div_ceil(operations);
+    Box::new(move || ((0..passes).map(|_| pass()).sum(), passes * operations))
+}
+
+fn lookups<'a>(ground: &'a Ground, table: &'a HashTable<'a, 'a>, keys: &'a [String], there: bool) -> (Turn<'a>, Turn<'a>) {
+    let ours = move || {
+        timed(|| {
+            for key in keys {
+                assert_eq!(ffi::get(black_box(&ground.image), 24, ground.end, black_box(key.as_bytes())).number == 0, there);
+            }
+        })
+        .0
+    };
+    let theirs = move || {
+        timed(|| {
+            for key in keys {
+                assert_eq!(raw::raw_value(black_box(table), black_box(key)).is_ok(), there);
+            }
+        })
+        .0
+    };
+    (turn(keys.len(), ours), turn(keys.len(), theirs))
+}
+
+fn list_ours(ground: &Ground, items: usize) -> Duration {
+    let mut out = [0; 1024];
+    timed(|| {
+        for i in 0..items {
+            assert_eq!(ffi::next_key(black_box(&ground.image), 24, ground.end, i, black_box(&mut out)).number, 0);
+        }
+    })
+    .0
+}
+
+fn list_theirs(table: &HashTable) -> Duration {
+    timed(|| {
+        for key in black_box(table).keys() {
+            black_box(key.expect("a key"));
+        }
+    })
+    .0
+}
+
+fn inserts<'a>(ground: &'a Ground) -> (Turn<'a>, Turn<'a>) {
+    let mut builder = ground.builder.clone();
+    let ours = move || {
+        start(&mut builder);
+        timed(|| fill(&mut builder, black_box(&ground.keys))).0
+    };
+    let theirs = move || {
+        let mut builder = HashTableBuilder::new();
+        timed(|| fill_theirs(&mut builder, black_box(&ground.keys))).0
+    };
+    (turn(ground.keys.len(), ours), turn(ground.keys.len(), theirs))
+}
+
+fn writes<'a>(ground: &'a Ground) -> (Turn<'a>, Turn<'a>) {
+    let (mut builder, mut image) = (ground.builder.clone(), vec![0; ROOM]);
+    let ours = move || timed(|| assert_eq!(black_box(&mut builder).write(0, &mut image).number, 0)).0;
+    let theirs = move || {
+        let builder = filled(&ground.keys);
+        timed(|| write_theirs(builder)).0
+    };
+    (turn(ground.keys.len(), ours), turn(ground.keys.len(), theirs))
+}
+
+/// From nothing to an image.
+fn both<'a>(ground: &'a Ground) -> (Turn<'a>, Turn<'a>) {
+    let (mut builder, mut image) = (ground.builder.clone(), vec![0; ROOM]);
+    let ours = move || {
+        timed(|| {
+            start(&mut builder);
+            fill(&mut builder, black_box(&ground.keys));
+            assert_eq!(builder.write(0, &mut image).number, 0);
+        })
+        .0
+    };
+    let theirs = move || timed(|| write_theirs(filled(black_box(&ground.keys)))).0;
+    (turn(ground.keys.len(), ours), turn(ground.keys.len(), theirs))
+}
+
+fn median(mut times: Vec<f64>) -> f64 {
+    times.sort_by(f64::total_cmp);
+    times[times.len() / 2]
+}
+
+/// The medians of both sides, whose turns alternate so that noise meets both; the first turn of each warms up.
+fn measure(rounds: usize, (mut ours, mut theirs): (Turn, Turn)) -> (f64, f64) {
+    let per = |(time, operations): (Duration, usize)| time.as_nanos() as f64 / operations as f64;
+    (ours(), theirs());
+    let (mut a, mut b) = (Vec::new(), Vec::new());
+    for _ in 0..rounds {
+        a.push(per(ours()));
+        b.push(per(theirs()));
+    }
+    (median(a), median(b))
+}
+
+/// What is measured, with the ratio that is wanted.
+const GOALS: [(&str, f64); 7] = [
+    ("insert", 0.2),
+    ("write", 0.3),
+    ("insert and write", 0.3),
+    ("lookup, there", 0.6),
+    ("lookup, not there", 0.6),
+    ("key listing", 0.5),
+    ("check / key listing", 1.0),
+];
+
+/// The pairs of times at one number of keys, in the order of GOALS.
+fn column(rounds: usize, count: usize) -> Vec<(f64, f64)> {
+    let ground = Ground::new(count);
+    let file = File::from_bytes(Cow::Borrowed(&ground.theirs)).expect("a file");
+    let table = file.hash_table().expect("a table");
+    let items = ground.items();
+    let listing = || turn(items, || list_theirs(&table));
+    vec![
+        measure(rounds, inserts(&ground)),
+        measure(rounds, writes(&ground)),
+        measure(rounds, both(&ground)),
+        measure(rounds, lookups(&ground, &table, &ground.keys, true)),
+        measure(rounds, lookups(&ground, &table, &ground.absent, false)),
+        measure(rounds, (turn(items, || list_ours(&ground, items)), listing())),
+        measure(rounds, (turn(items, || timed(|| assert_eq!(ffi::check(black_box(&ground.image), 24, ground.end).number, 0)).0), listing())),
+    ]
+}
+
+fn main() {
+    let arguments: Vec<String> = std::env::args().skip(1).collect();
+    let rounds = match &arguments[..] {
+        [] => 21,
+        [flag, number] if flag == "--rounds" => number.parse().expect("a number of rounds"),
+        _ => panic!("use: bench [--rounds N]"),
+    };
+    let counts = [100, 300, 1000];
+    let columns: Vec<_> = counts.iter().map(|count| column(rounds, *count)).collect();
+    println!("nanoseconds for each key (listing and check: each item), here / gvdb-rs, medians of {rounds} rounds");
+    println!("| operation | {} keys | {} keys | {} keys |\n|---|---|---|---|", counts[0], counts[1], counts[2]);
+    for (row, (name, _)) in GOALS.iter().enumerate() {
+        let cells: Vec<String> = columns.iter().map(|c| format!("{:.0} / {:.0}", c[row].0, c[row].1)).collect();
+        println!("| {name} | {} |", cells.join(" | "));
+    }
+    println!("ratios");
+    for (row, (name, goal)) in GOALS.iter().enumerate() {
+        let ratios: Vec<f64> = columns.iter().map(|c| c[row].0 / c[row].1).collect();
+        let verdict = if ratios.iter().all(|r| r <= goal) { "met" } else { "missed" };
+        println!("| {name} | {:.2} | {:.2} | {:.2} | at most {goal}: {verdict} |", ratios[0], ratios[1], ratios[2]);
+    }
+}
