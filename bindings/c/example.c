@@ -1,0 +1,170 @@
+/*
+ * A forest register in memory: two tables are built, laid as one image, read back and checked. Every answer is printed, refusals too.
+ * Use: cc -I bindings/c bindings/c/example.c target/staticlib/libgvdb.a
+ */
+#include <inttypes.h>
+#include <stdio.h>
+#include <stdlib.h>
+#include <string.h>
+
+#include "gvdb.h"
+
+#define ROOM 1024
+#define BYTES(text) (const uint8_t *)(text), strlen(text)
+#define BUILDER words, word_count, arena, sizeof arena
+
+/* The builder's memory, and the image that is written from it. */
+static size_t *words;
+static size_t word_count;
+static uint8_t arena[ROOM];
+static uint8_t image[4096];
+
+static void start(void)
+{
+    word_count = gvdb_memory_words();
+    words = malloc(word_count * sizeof *words);
+    if (words == NULL) {
+        exit(1);
+    }
+    printf("fresh with a word too few: %" PRIu32 "\n", gvdb_fresh(words, word_count - 1, arena, sizeof arena));
+    printf("fresh: %" PRIu32 "\n", gvdb_fresh(BUILDER));
+}
+
+static uint32_t new_table(const char *separator)
+{
+    gvdb_table made = gvdb_new_table(BUILDER, BYTES(separator));
+    printf("new table with separator \"%s\": %" PRIu32 ", table %" PRIu32 "\n", separator, made.number, made.table);
+    return made.table;
+}
+
+/* Prints what is done to a key, other bytes than letters as numbers. */
+static void say_key(const char *call, const char *key)
+{
+    printf("%s \"", call);
+    for (; *key != '\0'; key++) {
+        if (*key >= ' ' && *key <= '~') {
+            putchar(*key);
+        } else {
+            printf("\\x%02X", (unsigned)(unsigned char)*key);
+        }
+    }
+    printf("\": ");
+}
+
+static void say_inserted(const char *key, gvdb_inserted news)
+{
+    say_key("insert", key);
+    printf("%" PRIu32, news.number);
+    if (news.replaced != 0) {
+        printf(", replaced '%c'", (char)news.replaced);
+    }
+    printf("\n");
+}
+
+static void insert(uint32_t table, const char *key, const char *value)
+{
+    say_inserted(key, gvdb_insert(BUILDER, table, BYTES(key), BYTES(value)));
+}
+
+static void insert_table(uint32_t table, const char *key, uint32_t guest)
+{
+    say_inserted(key, gvdb_insert_table(BUILDER, table, BYTES(key), guest));
+}
+
+static void say_count(uint32_t table)
+{
+    gvdb_count counted = gvdb_item_count(BUILDER, table);
+    printf("items of table %" PRIu32 ": %" PRIu32 ", %" PRIu32 "\n", table, counted.number, counted.count);
+}
+
+static void get(gvdb_image at, const char *key)
+{
+    gvdb_place place = gvdb_get(image, at.length, at.start, at.end, BYTES(key));
+    say_key("get", key);
+    printf("%" PRIu32 ", \"%.*s\"\n", place.number, (int)(place.end - place.start), (const char *)image + place.start);
+}
+
+static void list_keys(gvdb_image at)
+{
+    uint8_t key[16];
+    size_t position = 0;
+    for (;;) {
+        gvdb_key listed = gvdb_next_key(image, at.length, at.start, at.end, position, key, sizeof key);
+        if (listed.number == GVDB_PAST_THE_LAST) {
+            return;
+        }
+        printf("key %zu: %" PRIu32 ", \"%.*s\"\n", position, listed.number, (int)listed.length, (const char *)key);
+        position += 1;
+    }
+}
+
+static void list_values(gvdb_image at)
+{
+    gvdb_value value = gvdb_next_value(image, at.length, at.start, at.end, 0);
+    while (value.number != GVDB_PAST_THE_LAST) {
+        printf("value of item %zu: %" PRIu32 ", \"%.*s\"\n", value.index, value.number, (int)(value.end - value.start), (const char *)image + value.start);
+        value = gvdb_next_value(image, at.length, at.start, at.end, value.next);
+    }
+}
+
+static void check(const char *what, gvdb_image at)
+{
+    gvdb_checked checked = gvdb_check(image, at.length, at.start, at.end);
+    printf("check of %s: %" PRIu32 ", rule %" PRIu32 ", item %zu\n", what, checked.number, checked.rule, checked.item);
+}
+
+static void read_back(gvdb_image root)
+{
+    gvdb_opened opened = gvdb_open(image, root.length, root.start, root.end);
+    printf("open: %" PRIu32 ", items %" PRIu32 ", buckets %" PRIu32 ", bloom words %" PRIu32 "\n", opened.number, opened.items, opened.buckets, opened.blooms);
+    get(root, "parcel/12/year");
+    get(root, "parcel/12/");
+    get(root, "parcel/12");
+    get(root, "\xC3");
+    list_keys(root);
+    list_values(root);
+    check("the root table", root);
+    gvdb_place nested = gvdb_get_table(image, root.length, root.start, root.end, BYTES("owner"));
+    printf("get table \"owner\": %" PRIu32 "\n", nested.number);
+    root.start = nested.start;
+    root.end = nested.end;
+    get(root, "name");
+    check("the nested table", root);
+    root.end -= 1;
+    check("a pointer that is a byte too short", root);
+}
+
+int main(void)
+{
+    start();
+    uint32_t register_table = new_table("/");
+    uint32_t owner = new_table("");
+    new_table("::");
+    insert(register_table, "parcel/12/year", "1998");
+    insert(register_table, "parcel/12/year", "1999");
+    insert(register_table, "parcel/12/stand/3", "spruce");
+    insert(register_table, "kept", "");
+    insert(register_table, "\xFF", "no text");
+    insert(owner, "name", "A. Forester");
+    insert_table(register_table, "owner", owner);
+    insert_table(register_table, "owner", owner);
+    insert_table(register_table, "self", register_table);
+    insert(owner, "name", "too late");
+    say_count(register_table);
+    say_count(owner);
+    say_count(7);
+    gvdb_image written = gvdb_write(BUILDER, register_table, image, 100);
+    printf("write into 100 bytes: %" PRIu32 "\n", written.number);
+    written = gvdb_write(BUILDER, register_table, image, sizeof image);
+    printf("write: %" PRIu32 ", root %" PRIu32 " to %" PRIu32 ", length %" PRIu32 "\n", written.number, written.start, written.end, written.length);
+    read_back(written);
+    image[written.end - 1] ^= 1;
+    check("an image with a bit changed", written);
+    insert(register_table, "parcel/12/year", "2000");
+    insert(register_table, "parcel/12/stand/", "none");
+    insert(register_table, "parcel/12/stand/4", "pine");
+    words[0] += 1;
+    insert(register_table, "kept", "memory that was changed");
+    free(words);
+    return 0;
+}

@@ -1,0 +1,198 @@
+/*
+ * GVDB hash tables: read, checked, built and laid. The functions of libgvdb.a.
+ *
+ * Nothing is allocated and nothing is kept between calls: the caller lends every buffer, and what a call answers depends on its arguments and on
+ * what the lent buffers hold. No content of a buffer can make a call fail. Every answer has a number: 0 for a success, else a refusal (below). On a
+ * refusal all other fields are 0 unless said otherwise, and no lent buffer is written to.
+ *
+ * What a caller has to see to:
+ *   - a pointer is valid for its length, and for writing where it is not const; of a length of 0 it may be any pointer that is not null;
+ *   - words are aligned to 8;
+ *   - no two buffers of one call overlap;
+ *   - a buffer is not used by another thread during a call that may write to it.
+ * Any address will do for a file, an arena or an image. A size_t has 64 bits.
+ */
+#ifndef GVDB_H
+#define GVDB_H
+
+#include <stddef.h>
+#include <stdint.h>
+
+#ifdef __cplusplus
+extern "C" {
+#endif
+
+/* The numbers of the answers. */
+enum {
+    GVDB_OK = 0,                  /* a success */
+    GVDB_FILE_TOO_LONG = 1,       /* the file has over 16,777,216 bytes */
+    GVDB_POINTER_OUTSIDE = 2,     /* a pointer's start is above its end, or its end past the file */
+    GVDB_MISALIGNED = 3,          /* a pointer's start is not a multiple of the alignment asked */
+    GVDB_TABLE_TOO_SHORT = 4,     /* the table has under 8 bytes */
+    GVDB_BLOOM_TOO_LONG = 5,      /* its bloom words do not fit */
+    GVDB_BUCKETS_TOO_LONG = 6,    /* its buckets do not fit */
+    GVDB_ITEMS_UNEVEN = 7,        /* the bytes after the buckets are not a multiple of 24 */
+    GVDB_KEY_NOT_UTF8 = 8,        /* the given key is not UTF-8 */
+    GVDB_FRAGMENT_NOT_UTF8 = 9,   /* a stored key fragment is not UTF-8 */
+    GVDB_PARENT_OUTSIDE = 10,     /* a parent index is not below the item count */
+    GVDB_PARENTS_ENDLESS = 11,    /* a parent chain never reaches a root */
+    GVDB_KEY_NOT_FOUND = 12,      /* the key is not there */
+    GVDB_OTHER_KIND = 13,         /* the item's kind is unknown, or another than asked */
+    GVDB_BUFFER_TOO_SHORT = 14,   /* the listed key is longer than the lent buffer */
+    GVDB_PAST_THE_LAST = 15,      /* the position is past the last item, or past the last value */
+    GVDB_KEY_TOO_LONG = 20,       /* the key of an insert has over 1,024 bytes */
+    GVDB_NOT_CONTAINER = 21,      /* a parent on the key's path is not a container */
+    GVDB_TOO_MANY_ITEMS = 22,     /* there would be over 1,024 items in all tables */
+    GVDB_ARENA_FULL = 23,         /* keys and values would need more than the arena */
+    GVDB_TABLE_UNKNOWN = 24,      /* no table has this number, or it is placed in another one */
+    GVDB_TABLE_IN_ITSELF = 25,    /* the table would be put into itself */
+    GVDB_NESTED_TOO_DEEP = 26,    /* tables would nest over 8 deep */
+    GVDB_TOO_MANY_TABLES = 27,    /* there would be over 64 tables */
+    GVDB_SEPARATOR_OUTSIDE = 28,  /* the separator is neither none nor one byte from 1 to 127 */
+    GVDB_MEMORY_BROKEN = 29,      /* the builder's memory is too short, of another length than at the fresh start, or was changed between calls */
+    GVDB_EMPTY_KEY = 30,          /* an item to be written has the empty key */
+    GVDB_IMAGE_TOO_LONG = 31,     /* the image is longer than the lent buffer, or than 16,777,216 bytes */
+    GVDB_CHECK_BROKEN = 40        /* an item of the table breaks a rule of the check */
+};
+
+/* What a table opens as: how many items, buckets and bloom words it has. */
+typedef struct gvdb_opened {
+    uint32_t number;
+    uint32_t items;
+    uint32_t buckets;
+    uint32_t blooms;
+} gvdb_opened;
+
+/* A place in the file: its bytes from start up to end. */
+typedef struct gvdb_place {
+    uint32_t number;
+    uint32_t start;
+    uint32_t end;
+} gvdb_place;
+
+/* A listed key: its length, and the position of the next one. */
+typedef struct gvdb_key {
+    uint32_t number;
+    size_t length;
+    size_t next;
+} gvdb_key;
+
+/* A listed value: its place in the file, the index of its item, and the position to go on from. */
+typedef struct gvdb_value {
+    uint32_t number;
+    uint32_t start;
+    uint32_t end;
+    size_t index;
+    size_t next;
+} gvdb_value;
+
+/* What the check says: with GVDB_CHECK_BROKEN the first item that breaks a rule, and its first broken rule, 1 to 6. */
+typedef struct gvdb_checked {
+    uint32_t number;
+    uint32_t rule;
+    size_t item;
+} gvdb_checked;
+
+/* A new table's number. */
+typedef struct gvdb_table {
+    uint32_t number;
+    uint32_t table;
+} gvdb_table;
+
+/* The news of an insert: replaced is 0 for a new key, else the kind that was there: 'v' a value, 'H' a table, 'L' a container. */
+typedef struct gvdb_inserted {
+    uint32_t number;
+    uint32_t replaced;
+} gvdb_inserted;
+
+/* How many items a table has, containers included. */
+typedef struct gvdb_count {
+    uint32_t number;
+    uint32_t count;
+} gvdb_count;
+
+/* A written image: the pointer of its root table, and its length. */
+typedef struct gvdb_image {
+    uint32_t number;
+    uint32_t start;
+    uint32_t end;
+    uint32_t length;
+} gvdb_image;
+
+/*
+ * Reading. A table is named by the file's bytes and the pointer to it, from start up to end; the root pointer of a GVDB file is at its bytes 16 to 23.
+ * Opening refuses with 1, then 2 and 3 of the pointer, then 4 to 7; every call below opens the table first and refuses with the same numbers.
+ */
+
+/* Opens a table. */
+gvdb_opened gvdb_open(const uint8_t *file, size_t file_length, uint32_t start, uint32_t end);
+
+/* Looks a value up. The answer is its place in the file, or 8, 12, 13, or 2 and 3 of its own pointer. */
+gvdb_place gvdb_get(const uint8_t *file, size_t file_length, uint32_t start, uint32_t end, const uint8_t *key, size_t key_length);
+
+/* Looks a nested table up. The answer is its pointer, once it opens; or 8, 12, 13, or what opening it refuses. */
+gvdb_place gvdb_get_table(const uint8_t *file, size_t file_length, uint32_t start, uint32_t end, const uint8_t *key, size_t key_length);
+
+/*
+ * Writes the key of the item at a position, counted from 0, to the front of out; bytes of out past the key stay. Refuses with 15 past the last item;
+ * 2, 9, 10 or 11 of a key that does not read; 14 for one that is too long. After any of these but 15 a caller may go on at position + 1.
+ */
+gvdb_key gvdb_next_key(const uint8_t *file, size_t file_length, uint32_t start, uint32_t end, size_t position, uint8_t *out, size_t out_length);
+
+/*
+ * The first value at or after a position. 15 where there is none. 2 or 3 of the value's own pointer come with index and next, so that a caller can
+ * go on; next is then at least 1, and 0 with the 2 and 3 of opening.
+ */
+gvdb_value gvdb_next_value(const uint8_t *file, size_t file_length, uint32_t start, uint32_t end, size_t position);
+
+/*
+ * Checks a table, not those nested in it. The rules, for each item: (1) its key would list; (2) lookup of that key answers this item; (3) its kind is
+ * known; (4) its value pointer opens, for 'H' as a table, for 'L' with a length divisible by 4; (5) of an 'L', each child index is below the count,
+ * names this item as parent and appears once; (6) its parent, if any, is an 'L' that keeps rule 4 and lists it.
+ * What it costs is linear for ordinary tables; a hostile file can make it quadratic and worse.
+ */
+gvdb_checked gvdb_check(const uint8_t *file, size_t file_length, uint32_t start, uint32_t end);
+
+/*
+ * Building. A builder is two lent buffers, words and arena, which every call gets whole, with the lengths of the fresh start. The words hold records, at
+ * least gvdb_memory_words() of them; the arena holds keys and values and may have any length, 0 too. Whoever changes neither between calls never
+ * meets 29, which comes first in every call. Both can be copied: a copy is a second builder.
+ */
+
+/* The least length of a builder's words. */
+size_t gvdb_memory_words(void);
+
+/* Makes an empty builder, whatever the memory held. 29 where there are too few words. The arena is not written to. */
+uint32_t gvdb_fresh(size_t *words, size_t words_length, uint8_t *arena, size_t arena_length);
+
+/* Makes a table; tables are counted from 0. The separator is empty for none, or one byte from 1 to 127. Refuses with 28, 27. */
+gvdb_table gvdb_new_table(size_t *words, size_t words_length, const uint8_t *arena, size_t arena_length, const uint8_t *separator, size_t separator_length);
+
+/*
+ * Inserts a value, or replaces what the key had. With a separator, each prefix of the key that ends at one is a container, made if missing.
+ * Refuses with 24, 8, 20, 21, 22, 23.
+ */
+gvdb_inserted gvdb_insert(size_t *words, size_t words_length, uint8_t *arena, size_t arena_length, uint32_t table, const uint8_t *key, size_t key_length,
+                          const uint8_t *value, size_t value_length);
+
+/*
+ * Inserts a table, the guest, under a key of another. The guest is placed by that, and takes no more inserts; so it stays if it is replaced.
+ * Refuses with 24 for the table, 24 for the guest, 25, 8, 20, 21, 26, 22, 23.
+ */
+gvdb_inserted gvdb_insert_table(size_t *words, size_t words_length, uint8_t *arena, size_t arena_length, uint32_t table, const uint8_t *key,
+                                size_t key_length, uint32_t guest);
+
+/* How many items a table has, containers included; of a placed table too. 24 for a number that is unknown. */
+gvdb_count gvdb_item_count(const size_t *words, size_t words_length, const uint8_t *arena, size_t arena_length, uint32_t table);
+
+/*
+ * Lays the image of a table, with those nested in it, into the front of a buffer; bytes past the image stay, and bytes 0 to 23 are zeros, for a file's
+ * header. The builder is as it was afterwards and can be used on; its words are borrowed during the call. Refuses with 24, 30, 31.
+ */
+gvdb_image gvdb_write(size_t *words, size_t words_length, const uint8_t *arena, size_t arena_length, uint32_t table, uint8_t *image, size_t image_length);
+
+#ifdef __cplusplus
+}
+#endif
+
+#endif
