@@ -112,6 +112,31 @@ pub fn memory_words() -> usize {
     unsafe { gvdb_memory_words() }
 }
 
+pub fn fresh(words: &mut [usize], arena: &mut [u8]) -> u32 {
+    unsafe { gvdb_fresh(words.as_mut_ptr(), words.len(), arena.as_ptr(), arena.len()) }
+}
+
+pub fn new_table(words: &mut [usize], arena: &mut [u8], separator: &[u8]) -> Table {
+    unsafe { gvdb_new_table(words.as_mut_ptr(), words.len(), arena.as_ptr(), arena.len(), separator.as_ptr(), separator.len()) }
+}
+
+pub fn insert(words: &mut [usize], arena: &mut [u8], table: u32, key: &[u8], value: &[u8]) -> Inserted {
+    unsafe { gvdb_insert(words.as_mut_ptr(), words.len(), arena.as_mut_ptr(), arena.len(), table, key.as_ptr(), key.len(), value.as_ptr(), value.len()) }
+}
+
+pub fn insert_table(words: &mut [usize], arena: &mut [u8], table: u32, key: &[u8], guest: u32) -> Inserted {
+    unsafe { gvdb_insert_table(words.as_mut_ptr(), words.len(), arena.as_mut_ptr(), arena.len(), table, key.as_ptr(), key.len(), guest) }
+}
+
+pub fn item_count(words: &[usize], arena: &[u8], table: u32) -> Count {
+    unsafe { gvdb_item_count(words.as_ptr(), words.len(), arena.as_ptr(), arena.len(), table) }
+}
+
+/// The write borrows the builder's link words and puts them back.
+pub fn write(words: &mut [usize], arena: &[u8], table: u32, image: &mut [u8]) -> Image {
+    unsafe { gvdb_write(words.as_mut_ptr(), words.len(), arena.as_ptr(), arena.len(), table, image.as_mut_ptr(), image.len()) }
+}
+
 /// A builder over memory of its own.
 #[derive(Clone, PartialEq, Eq)]
 pub struct Builder {
@@ -129,29 +154,26 @@ impl Builder {
 
     /// A fresh start on the same memory.
     pub fn again(&mut self) -> u32 {
-        unsafe { gvdb_fresh(self.words.as_mut_ptr(), self.words.len(), self.arena.as_ptr(), self.arena.len()) }
+        fresh(&mut self.words, &mut self.arena)
     }
 
     pub fn new_table(&mut self, separator: &[u8]) -> Table {
-        unsafe { gvdb_new_table(self.words.as_mut_ptr(), self.words.len(), self.arena.as_ptr(), self.arena.len(), separator.as_ptr(), separator.len()) }
+        new_table(&mut self.words, &mut self.arena, separator)
     }
 
     pub fn insert(&mut self, table: u32, key: &[u8], value: &[u8]) -> Inserted {
-        let (words, arena) = (&mut self.words, &mut self.arena);
-        unsafe { gvdb_insert(words.as_mut_ptr(), words.len(), arena.as_mut_ptr(), arena.len(), table, key.as_ptr(), key.len(), value.as_ptr(), value.len()) }
+        insert(&mut self.words, &mut self.arena, table, key, value)
     }
 
     pub fn insert_table(&mut self, table: u32, key: &[u8], guest: u32) -> Inserted {
-        let (words, arena) = (&mut self.words, &mut self.arena);
-        unsafe { gvdb_insert_table(words.as_mut_ptr(), words.len(), arena.as_mut_ptr(), arena.len(), table, key.as_ptr(), key.len(), guest) }
+        insert_table(&mut self.words, &mut self.arena, table, key, guest)
     }
 
     pub fn item_count(&self, table: u32) -> Count {
-        unsafe { gvdb_item_count(self.words.as_ptr(), self.words.len(), self.arena.as_ptr(), self.arena.len(), table) }
+        item_count(&self.words, &self.arena, table)
     }
 
-    /// The write borrows the builder's link words and puts them back.
     pub fn write(&mut self, table: u32, image: &mut [u8]) -> Image {
-        unsafe { gvdb_write(self.words.as_mut_ptr(), self.words.len(), self.arena.as_ptr(), self.arena.len(), table, image.as_mut_ptr(), image.len()) }
+        write(&mut self.words, &self.arena, table, image)
     }
 }

@@ -1,0 +1,254 @@
+//! Histories of builder calls, answered by all three; the images that they write, byte for byte from 24.
+
+use crate::dice::Dice;
+use crate::document::build as document;
+use crate::document::build::Held;
+use crate::ffi;
+use crate::lent::Memory;
+use crate::make;
+use crate::ours;
+use crate::reading::{hex, Case};
+use crate::tally::{Difference, Outcome, Tally, Who};
+use crate::theirs;
+
+#[derive(Clone, Debug)]
+pub enum Call {
+    NewTable(Vec<u8>),
+    Insert(u32, Vec<u8>, Vec<u8>),
+    InsertTable(u32, Vec<u8>, u32),
+    Count(u32),
+    Write(u32),
+}
+
+impl Call {
+    fn describe(&self) -> String {
+        match self {
+            Call::NewTable(separator) => format!("new table, separator [{}]", hex(separator)),
+            Call::Insert(table, key, value) => format!("insert into {table}: [{}] = [{}]", hex(key), hex(value)),
+            Call::InsertTable(table, key, guest) => format!("insert table into {table}: [{}] = {guest}", hex(key)),
+            Call::Count(table) => format!("count {table}"),
+            Call::Write(table) => format!("write {table}"),
+        }
+    }
+}
+
+/// A builder's room and the calls on it.
+#[derive(Clone)]
+pub struct History {
+    pub room: usize,
+    pub calls: Vec<Call>,
+}
+
+fn separator(dice: &Dice) -> Vec<u8> {
+    match dice.below(40) {
+        0 => dice.pick(&[&b"\0"[..], b"\x80", b"ab", b"\xff", b"//"]).to_vec(),
+        1 => vec![1],
+        2 => vec![127],
+        3..=5 => b"a".to_vec(),
+        6..=12 => Vec::new(),
+        _ => b"/".to_vec(),
+    }
+}
+
+impl History {
+    pub fn random(dice: &Dice) -> History {
+        let room = match dice.below(6) {
+            0 => dice.below(60),
+            1 => dice.below(400),
+            _ => 1 << 17,
+        };
+        let many = dice.one_in(150);
+        let length = if many { 1400 } else { 2 + dice.below(*dice.pick(&[4, 10, 40])) };
+        let mut history = History { room, calls: vec![Call::NewTable(separator(dice))] };
+        let (mut tables, mut keys) = (1, Vec::new());
+        let crowd = if dice.one_in(200) { 70 } else { 4 };
+        for _ in 0..length {
+            let table = dice.below(tables + usize::from(dice.one_in(30))) as u32;
+            let call = match dice.below(if many { 100 } else { 24 }) {
+                0 | 1 if tables < crowd => {
+                    tables += 1;
+                    Call::NewTable(separator(dice))
+                }
+                2..=4 => Call::InsertTable(table, make::key(dice, Some(b'/'), &keys), dice.below(tables + 1) as u32),
+                5 => Call::Write(table),
+                6 => Call::Count(table),
+                _ => {
+                    let size = *dice.pick(&[0, 0, 1, 2, 3, 7, 8, 9, 40]);
+                    Call::Insert(table, fresh_key(dice, many, &keys), dice.bytes(size))
+                }
+            };
+            if let Call::Insert(_, key, _) | Call::InsertTable(_, key, _) = &call {
+                keys.push(key.clone());
+            }
+            history.calls.push(call);
+        }
+        history.calls.extend((0..tables as u32).map(Call::Write));
+        history
+    }
+
+    /// A chain of tables that each hold the one before, as deep as is allowed and one deeper.
+    pub fn deep(dice: &Dice) -> History {
+        let mut calls = vec![Call::NewTable(separator(dice))];
+        for table in 1..10 {
+            let size = dice.below(3);
+            calls.push(Call::Insert(table - 1, make::key(dice, None, &[]), dice.bytes(size)));
+            calls.push(Call::NewTable(separator(dice)));
+            calls.push(Call::InsertTable(table, make::key(dice, Some(b'/'), &[]), table - 1));
+            if dice.one_in(3) {
+                calls.push(Call::Write(table));
+            }
+        }
+        calls.extend((0..10).map(Call::Write));
+        History { room: 1 << 17, calls }
+    }
+
+    pub fn describe(&self) -> String {
+        format!("room {}: {}", self.room, described(&self.calls))
+    }
+
+    /// Answers the images that were written, for the runs of reading.
+    pub fn compare(&self, tally: &mut Tally) -> Result<Vec<Case>, Difference> {
+        let mut state = State::fresh(self.room);
+        for call in &self.calls {
+            state.step(call, tally).map_err(|mut difference| {
+                difference.question = format!("{} ({})", difference.question, call.describe());
+                difference
+            })?;
+        }
+        Ok(state.images)
+    }
+}
+
+pub fn described(calls: &[Call]) -> String {
+    calls.iter().map(Call::describe).collect::<Vec<_>>().join("; ")
+}
+
+/// In a long history most keys are new.
+fn fresh_key(dice: &Dice, many: bool, keys: &[Vec<u8>]) -> Vec<u8> {
+    if many {
+        return format!("{}/{}", dice.below(20), dice.below(5000)).into_bytes();
+    }
+    make::key(dice, Some(b'/'), keys)
+}
+
+/// The same builder three times.
+struct State {
+    memory: Memory,
+    paper: document::Builder,
+    rust: theirs::Builder,
+    images: Vec<Case>,
+}
+
+impl State {
+    fn fresh(room: usize) -> State {
+        let mut memory = Memory::new(&vec![0x5A5A_5A5A; ffi::memory_words() + room % 3], &vec![0xC3; room]);
+        assert_eq!(memory.fresh(), 0);
+        State { memory, paper: document::Builder::fresh(room), rust: theirs::Builder::default(), images: Vec::new() }
+    }
+
+    /// One call; a refusal is held to change nothing.
+    fn step(&mut self, call: &Call, tally: &mut Tally) -> Outcome {
+        let before = self.memory.clone();
+        let ours = match call {
+            Call::NewTable(separator) => self.new_table(separator, tally),
+            Call::Insert(table, key, value) => self.insert(*table, key, value, tally),
+            Call::InsertTable(table, key, guest) => self.insert_table(*table, key, *guest, tally),
+            Call::Count(table) => self.count(*table, tally),
+            Call::Write(table) => self.write(*table, tally),
+        }?;
+        tally.number(ours);
+        let reads = matches!(call, Call::Count(_) | Call::Write(_));
+        assert!((ours == 0 && !reads) || self.memory == before, "a refusal, a count or a write changed the builder");
+        Ok(())
+    }
+
+    fn new_table(&mut self, separator: &[u8], tally: &mut Tally) -> Result<u32, Difference> {
+        let (ours, paper) = (self.memory.new_table(separator), self.paper.new_table(separator));
+        tally.same(Who::Document, "new table", &ours, &paper.map(|table| table as u32), String::new)?;
+        if ours.is_ok() {
+            self.rust.new_table(separator);
+        }
+        Ok(ours.err().unwrap_or(0))
+    }
+
+    fn insert(&mut self, table: u32, key: &[u8], value: &[u8], tally: &mut Tally) -> Result<u32, Difference> {
+        let (ours, paper) = (self.memory.insert(table, key, value), self.paper.insert(table, key, value));
+        tally.same(Who::Document, "insert", &ours, &paper, String::new)?;
+        if ours.is_ok() || ours == Err(21) {
+            let text = std::str::from_utf8(key).expect("accepted");
+            let rust = self.rust.insert(table as usize, text, value);
+            self.with_rust("insert", table, ours, rust, tally)?;
+        }
+        Ok(ours.err().unwrap_or(0))
+    }
+
+    fn insert_table(&mut self, table: u32, key: &[u8], guest: u32, tally: &mut Tally) -> Result<u32, Difference> {
+        let (ours, paper) = (self.memory.insert_table(table, key, guest), self.paper.insert_table(table, key, guest));
+        tally.same(Who::Document, "insert table", &ours, &paper, String::new)?;
+        if ours.is_ok() || ours == Err(21) {
+            let text = std::str::from_utf8(key).expect("accepted");
+            let rust = self.rust.insert_table(table as usize, text, guest as usize);
+            self.with_rust("insert table", table, ours, rust, tally)?;
+        }
+        Ok(ours.err().unwrap_or(0))
+    }
+
+    /// gvdb-rs says nothing of what was replaced; its item count is compared, or 21.
+    fn with_rust(&mut self, kind: &'static str, table: u32, ours: Result<u32, u32>, rust: Result<u32, u32>, tally: &mut Tally) -> Outcome {
+        let counted = ours.and_then(|_| self.memory.item_count(table));
+        tally.same(Who::Rust, kind, &counted, &rust, || "count or refusal".into())
+    }
+
+    fn count(&mut self, table: u32, tally: &mut Tally) -> Result<u32, Difference> {
+        let (ours, paper) = (self.memory.item_count(table), self.paper.item_count(table));
+        tally.same(Who::Document, "item count", &ours, &paper, String::new)?;
+        Ok(ours.err().unwrap_or(0))
+    }
+
+    /// A write into a buffer with room to spare, one that just fits and one a byte too short.
+    fn write(&mut self, table: u32, tally: &mut Tally) -> Result<u32, Difference> {
+        let paper = self.paper.write(table);
+        let rust = paper.map_or(Err(24), |table| self.rust.write(table));
+        let rust = if paper == Err(30) { self.rust.write(table as usize) } else { rust };
+        let room = rust.as_ref().map_or(64, Vec::len);
+        let ours = self.memory.write(table, room + 40);
+        tally.same(Who::Document, "write", &ours.as_ref().map(|_| ()).map_err(|number| *number), &paper.map(|_| ()), String::new)?;
+        if paper == Err(24) {
+            return Ok(24);
+        }
+        let body = ours.as_ref().map(|(image, _)| image[24..].to_vec()).map_err(|number| *number);
+        tally.same(Who::Rust, "image", &body, &rust.map(|image| image[24..].to_vec()), String::new)?;
+        let (image, end) = match ours {
+            Ok(written) => written,
+            Err(number) => return Ok(number),
+        };
+        assert!(image[..24].iter().all(|byte| *byte == 0), "the header is not zero");
+        assert!(self.memory.write(table, room) == Ok((image.clone(), end)), "a second write differs");
+        tally.number(31);
+        tally.same(Who::Document, "write", &self.memory.write(table, room - 1).map(|_| ()), &Err(31), || "a byte too few".into())?;
+        let keys = self.reads_back(&image, 24, end, table as usize, tally)?;
+        self.images.push(Case { file: image, start: 24, end, keys });
+        Ok(0)
+    }
+
+    /// Each item of a table is found in the image as the builder holds it, nested ones too, and the tables pass the check.
+    fn reads_back(&self, image: &[u8], start: u32, end: u32, table: usize, tally: &mut Tally) -> Result<Vec<Vec<u8>>, Difference> {
+        tally.same(Who::Document, "image passes", &ours::check(image, start, end), &Ok(None), String::new)?;
+        let items = &self.paper.tables[table].items;
+        for (key, held) in items {
+            let found = match ours::get(image, start, end, key) {
+                Ok((from, to)) => Ok(Held::Value(image[from as usize..to as usize].to_vec())),
+                Err(number) => Err(number),
+            };
+            let expected = if matches!(held, Held::Value(_)) { Ok(held.clone()) } else { Err(13) };
+            tally.same(Who::Document, "image reads back", &found, &expected, || hex(key))?;
+            if let Held::Table(guest) = held {
+                let nested = ours::get_table(image, start, end, key);
+                tally.same(Who::Document, "image reads back", &nested.is_ok(), &true, || hex(key))?;
+                let (from, to) = nested.expect("compared");
+                self.reads_back(image, from, to, *guest, tally)?;
+            }
+        }
+        Ok(items.keys().take(40).cloned().collect())
+    }
+}

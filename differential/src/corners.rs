@@ -1,0 +1,167 @@
+//! Every difference that docs/DIFFERENCES.md lists, with its smallest input, as both sides have it. What gvdb-rs cannot be asked is asked here alone.
+
+use crate::lent::{File, Memory};
+use crate::ours;
+use crate::tally::Tally;
+use crate::theirs;
+use crate::{document, ffi};
+use gvdb::write::{FileWriter, HashTableBuilder};
+
+const MOST: usize = 16_777_216;
+
+/// A header with this root, and what follows it.
+fn file(start: u32, end: u32, body: &[u8]) -> Vec<u8> {
+    [&b"GVariant\0\0\0\0\0\0\0\0"[..], &start.to_le_bytes(), &end.to_le_bytes(), body].concat()
+}
+
+fn opens_there(bytes: &[u8]) -> Result<usize, u32> {
+    theirs::with_root(bytes, |opened| opened.map(|table| table.keys().len()))
+}
+
+fn file_length() {
+    let mut bytes = file(24, 32, &[0; 8]);
+    for (size, ours) in [(MOST, Ok((0, 0, 0))), (MOST + 1, Err(1))] {
+        bytes.resize(size, 0);
+        let lent = File::new(&bytes);
+        assert_eq!((ours::open(lent.bytes(), 24, 32), opens_there(lent.bytes())), (ours, Ok(0)));
+    }
+}
+
+fn bloom_words_and_buckets() {
+    for (table, ours) in [(b"\x01\0\0\x28\0\0\0\0", 5), (b"\0\0\0\x28\x01\0\0\0", 6)] {
+        let lent = File::new(&file(24, 32, table));
+        assert_eq!((ours::open(lent.bytes(), 24, 32), opens_there(lent.bytes())), (Err(ours), Err(theirs::FIVE_OR_SIX)));
+    }
+}
+
+fn address() {
+    let lent = File::shifted(&file(24, 32, &[0; 8]), 1);
+    assert_eq!((ours::open(lent.bytes(), 24, 32), opens_there(lent.bytes())), (Ok((0, 0, 0)), Err(4)));
+}
+
+/// A table of one item that is its own parent, with this fragment.
+fn own_parent(fragment: &[u8], hash: u32) -> Vec<u8> {
+    let words = [0x2800_0000, 1, 0, hash, 0, 60, 0x0076_0000 + fragment.len() as u32, 0, 0];
+    let body: Vec<u8> = words.iter().flat_map(|word: &u32| word.to_le_bytes()).chain(fragment.iter().copied()).collect();
+    file(24, 60, &body)
+}
+
+/// gvdb-rs overflows its stack on the lookup of the first, so it is asked the rest only.
+fn loops_of_parents() {
+    let empty = File::new(&own_parent(b"", 5381));
+    assert_eq!(empty.bytes().len(), 60);
+    assert_eq!((ours::get(empty.bytes(), 24, 60, b""), ours::key(empty.bytes(), 24, 60, 0, 9)), (Err(12), Err(11)));
+    assert_eq!(theirs::with_root(empty.bytes(), |opened| theirs::keys(opened.expect("opens"))), [Err(11)]);
+    let full = File::new(&own_parent(b"a", document::hash(b"a")));
+    assert_eq!((ours::get(full.bytes(), 24, 60, b"a"), ours::key(full.bytes(), 24, 60, 0, 9)), (Err(12), Err(11)));
+    assert_eq!(theirs::with_root(full.bytes(), |opened| theirs::get(full.bytes(), opened.expect("opens"), "a")), Err(12));
+}
+
+fn builder(room: usize) -> (Memory, theirs::Builder) {
+    let mut memory = Memory::new(&vec![0; ffi::memory_words()], &vec![0; room]);
+    assert_eq!((memory.fresh(), memory.new_table(b"")), (0, Ok(0)));
+    let mut rust = theirs::Builder::default();
+    rust.new_table(b"");
+    (memory, rust)
+}
+
+/// 14, the news of a second insert, the empty arena, and a key that is not UTF-8.
+fn small_ones() {
+    let (mut memory, mut rust) = builder(2);
+    assert_eq!((memory.insert(0, b"a", b""), rust.insert(0, "a", b"")), (Ok(0), Ok(1)));
+    assert_eq!((memory.insert(0, b"a", b"v"), rust.insert(0, "a", b"v")), (Ok(118), Ok(1)));
+    assert_eq!((memory.insert(0, b"a", b"v"), rust.insert(0, "a", b"v")), (Err(23), Ok(1)));
+    assert_eq!(memory.insert(0, b"\xff", b""), Err(8));
+    let (image, end) = memory.write(0, 999).expect("an image");
+    assert_eq!((ours::key(&image, 24, end, 0, 1), ours::key(&image, 24, end, 0, 0)), (Ok(b"a".to_vec()), Err(14)));
+    assert_eq!(ours::get(&image, 24, end, b"\xff"), Err(8));
+}
+
+/// The header of an image, a buffer that is too short for it, and a builder that goes on after a write.
+fn headers_and_buffers() {
+    let (mut memory, mut rust) = builder(16);
+    assert_eq!((memory.insert(0, b"a", b"\x01\x02"), rust.insert(0, "a", b"\x01\x02")), (Ok(0), Ok(1)));
+    let there = rust.write(0).expect("an image");
+    assert_eq!(memory.write(0, 65), Err(31));
+    let (here, _) = memory.write(0, 66).expect("an image");
+    assert_eq!((here.len(), there.len(), &here[24..]), (66, 66, &there[24..]));
+    assert_eq!((&here[..24], &there[..8]), (&[0; 24][..], &b"GVariant"[..]));
+    assert_eq!((memory.insert(0, b"b", b""), memory.write(0, 999).is_ok()), (Ok(0), true));
+}
+
+/// Keys over 1,024 bytes; over 65,535 gvdb-rs cuts their length to sixteen bits.
+fn long_keys() {
+    let (mut memory, mut rust) = builder(1 << 18);
+    let key = vec![b'k'; 65_537];
+    let text = std::str::from_utf8(&key).expect("letters");
+    assert_eq!((memory.insert(0, &key[..1025], b""), rust.insert(0, &text[..1025], b"")), (Err(20), Ok(1)));
+    assert_eq!((memory.insert(0, &key, b""), rust.insert(0, text, b"")), (Err(20), Ok(2)));
+    let there = File::new(&rust.write(0).expect("an image"));
+    let found = |key: &str| theirs::with_root(there.bytes(), |opened| theirs::get(there.bytes(), opened.expect("opens"), key).err());
+    assert_eq!((found(&text[..1025]), found(text), found("k")), (None, Some(12), Some(12)));
+}
+
+/// One item, one table and one level too many.
+fn limits() {
+    let (mut memory, mut rust) = builder(1 << 18);
+    for index in 0..1025 {
+        let (key, full) = (format!("{index}"), index == 1024);
+        assert_eq!((memory.insert(0, key.as_bytes(), b""), rust.insert(0, &key, b"")), (if full { Err(22) } else { Ok(0) }, Ok(index + 1)));
+    }
+    let (mut memory, mut rust) = builder(1 << 10);
+    for table in 1..65 {
+        rust.new_table(b"");
+        assert_eq!(memory.new_table(b""), if table == 64 { Err(27) } else { Ok(table) });
+    }
+    for table in 1..9 {
+        let ours = memory.insert_table(table, b"t", table - 1);
+        assert_eq!((ours, rust.insert_table(table as usize, "t", table as usize - 1)), (if table == 8 { Err(26) } else { Ok(0) }, Ok(1)));
+    }
+    assert_eq!((memory.insert_table(9, b"t", 9), memory.insert_table(9, b"t", 3), memory.insert(3, b"t", b"")), (Err(25), Err(24), Err(24)));
+    assert!(rust.write(8).is_ok());
+}
+
+fn separators() {
+    let mut memory = builder(9).0;
+    let mut there = HashTableBuilder::with_path_separator(Some("::"));
+    assert!(there.insert("a::b", gvdb::read::oracle::RawIn(Vec::new())).is_ok() && there.len() == 2);
+    assert!(FileWriter::new().write_to_vec_with_table(there).is_ok());
+    for separator in [&b"::"[..], b"\0", b"\x80"] {
+        assert_eq!(memory.new_table(separator), Err(28));
+    }
+}
+
+/// An image of just the longest length, and one byte more.
+fn longest_image() {
+    for (size, longer) in [(MOST - 64, false), (MOST - 63, true)] {
+        let (mut memory, mut rust) = builder(MOST);
+        let value = vec![7; size];
+        assert_eq!((memory.insert(0, b"a", &value), rust.insert(0, "a", &value)), (Ok(0), Ok(1)));
+        let (ours, there) = (memory.write(0, MOST + 9), rust.write(0).expect("an image"));
+        assert_eq!(there.len(), MOST + usize::from(longer));
+        match ours {
+            Ok((image, _)) => assert!(!longer && image[24..] == there[24..]),
+            Err(number) => assert!(longer && number == 31),
+        }
+    }
+}
+
+pub fn show(tally: &mut Tally) {
+    let corners: [fn(); 11] = [
+        file_length,
+        bloom_words_and_buckets,
+        address,
+        loops_of_parents,
+        small_ones,
+        headers_and_buffers,
+        long_keys,
+        limits,
+        separators,
+        longest_image,
+        || assert_eq!(document::hash("\u{e9}".as_bytes()), 5_866_513),
+    ];
+    for corner in corners {
+        corner();
+        tally.alone("corners of docs/DIFFERENCES.md", 1);
+    }
+}

@@ -1,0 +1,128 @@
+//! Memory that no history made: every call answers, a refusal changes nothing, and what is written passes the check.
+
+use crate::building::Call;
+use crate::dice::Dice;
+use crate::ffi;
+use crate::lent::Memory;
+use crate::make;
+use crate::ours;
+use crate::tally::{Outcome, Tally, Who};
+
+/// Where the words of a builder's memory stand: header and tables, heads of buckets, items of 12 words, links.
+const PARTS: [(usize, usize); 4] = [(0, 264), (264, 1024), (1288, 240), (13_576, 1024)];
+
+fn any_word(dice: &Dice) -> usize {
+    match dice.below(6) {
+        0 => dice.below(30),
+        1 => usize::MAX - dice.below(3),
+        2 => 0xFFFF_FFFF,
+        3 => dice.next() as usize,
+        4 => *dice.pick(&[72, 76, 118, 1024, 1025, 64, 65, 256, 0]),
+        _ => dice.below(2000),
+    }
+}
+
+/// Honest memory with some words changed.
+fn tampered(dice: &Dice) -> Memory {
+    let room = 700;
+    let mut memory = Memory::new(&vec![0; ffi::memory_words()], &vec![0; room]);
+    memory.fresh();
+    memory.new_table(b"/").expect("room");
+    memory.new_table(b"").expect("room");
+    for index in 0..dice.below(14) {
+        let _ = memory.insert((index % 2) as u32, format!("p/{}/{}", index % 3, dice.below(9)).as_bytes(), b"value");
+    }
+    if dice.one_in(2) {
+        let _ = memory.insert_table(0, b"p/t", 1);
+    }
+    for _ in 0..dice.below(4) {
+        let (from, size) = *dice.pick(&PARTS);
+        let at = from + dice.below(size);
+        memory.words()[at] = any_word(dice);
+    }
+    memory
+}
+
+/// Words at random, in whose header only what every call judges is right; the arena is random too.
+fn random(dice: &Dice) -> Memory {
+    let room = dice.below(300);
+    let mut words: Vec<usize> = (0..ffi::memory_words()).map(|_| any_word(dice)).collect();
+    let header = [words.len(), room, dice.below(65), dice.below(*dice.pick(&[4, 40, 1025])), dice.below(room + 1)];
+    words[..5].copy_from_slice(&header);
+    for table in 0..64 {
+        if !dice.one_in(4) {
+            words[8 + 4 * table] = *dice.pick(&[47, 256]);
+            words[9 + 4 * table] = dice.below(2);
+        }
+    }
+    if dice.one_in(4) {
+        let at = dice.below(5);
+        words[at] = any_word(dice);
+    }
+    Memory::new(&words, &dice.bytes(room))
+}
+
+/// Memory of lengths that no fresh start had.
+fn of_other_length(dice: &Dice) -> Memory {
+    let mut honest = tampered(dice);
+    let size = *dice.pick(&[0, 1, 4, 8, 263, 14_599]);
+    let words = honest.words()[..size].to_vec();
+    let room = dice.below(9);
+    Memory::new(&words, &dice.bytes(room))
+}
+
+fn any_call(dice: &Dice) -> Call {
+    let table = if dice.one_in(9) { u32::MAX } else { dice.below(4) as u32 };
+    match dice.below(8) {
+        0 => Call::NewTable(dice.pick(&[&b""[..], b"/", b"\0", b"ab"]).to_vec()),
+        1 | 2 => Call::Insert(table, make::key(dice, Some(b'/'), &[b"p/1/2".to_vec()]), b"value".to_vec()),
+        3 => Call::InsertTable(table, make::key(dice, Some(b'/'), &[]), dice.below(4) as u32),
+        4 => Call::Count(table),
+        _ => Call::Write(table),
+    }
+}
+
+/// The number of a call's answer, and the image that it wrote.
+fn answer(memory: &mut Memory, call: &Call, room: usize) -> (u32, Option<(Vec<u8>, u32)>) {
+    let told = |answer: Result<u32, u32>| (answer.err().unwrap_or(0), None);
+    match call {
+        Call::NewTable(separator) => told(memory.new_table(separator)),
+        Call::Insert(table, key, value) => told(memory.insert(*table, key, value)),
+        Call::InsertTable(table, key, guest) => told(memory.insert_table(*table, key, *guest)),
+        Call::Count(table) => told(memory.item_count(*table)),
+        Call::Write(table) => match memory.write(*table, room) {
+            Ok(written) => (0, Some(written)),
+            Err(number) => (number, None),
+        },
+    }
+}
+
+/// A few calls on one memory, which are noted before they are made.
+pub fn compare(dice: &Dice, tally: &mut Tally, calls: &mut Vec<Call>) -> Outcome {
+    let mut memory = match dice.below(5) {
+        0 => of_other_length(dice),
+        1 | 2 => random(dice),
+        _ => tampered(dice),
+    };
+    for _ in 0..1 + dice.below(6) {
+        let call = any_call(dice);
+        calls.push(call.clone());
+        step(&mut memory, &call, *dice.pick(&[0, 24, 100, 4096]), tally)?;
+    }
+    Ok(())
+}
+
+fn step(memory: &mut Memory, call: &Call, room: usize, tally: &mut Tally) -> Outcome {
+    let before = memory.clone();
+    let mut twin = memory.clone();
+    let (number, image) = answer(memory, call, room);
+    tally.number(number);
+    tally.alone(if number == 29 { "calls on garbage memory, refused with 29" } else { "calls on garbage memory, else" }, 1);
+    let reads = matches!(call, Call::Count(_) | Call::Write(_));
+    assert!((number == 0 && !reads) || *memory == before, "a refusal, a count or a write changed garbage memory");
+    assert!(answer(&mut twin, call, room) == (number, image.clone()) && twin == *memory, "the same call on the same memory differs");
+    match image {
+        Some((image, end)) => tally.same(Who::Document, "image passes", &ours::check(&image, 24, end), &Ok(None), || "of garbage memory".into()),
+        None => Ok(()),
+    }
+}

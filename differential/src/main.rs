@@ -1,0 +1,215 @@
+//! This library, gvdb-rs and a third reading of document 01, asked the same questions in one process.
+//! Use: differential [--seeds A..B] [--minutes N]. A seed is a history of builder calls with its images and damaged copies of them, tables made by hand and
+//! at random, and a builder on garbage memory. With --minutes it goes on from the last seed for that long.
+
+mod building;
+mod corners;
+mod dice;
+mod document;
+#[path = "../../tests/outside/ffi.rs"]
+mod ffi;
+mod garbage;
+mod lent;
+mod make;
+mod ours;
+mod reading;
+mod tally;
+mod theirs;
+
+use building::History;
+use dice::Dice;
+use reading::Case;
+use std::io::{Seek, Write};
+use std::panic::{catch_unwind, AssertUnwindSafe};
+use std::process::ExitCode;
+use std::time::{Duration, Instant};
+use tally::{Difference, Tally, Who};
+
+/// As many seeds as take about two minutes.
+const SEEDS: std::ops::Range<u64> = 0..50_000;
+
+/// A difference is also what a guard or a rule of this program finds, by a panic.
+fn caught<T>(run: impl FnOnce() -> Result<T, Difference>) -> Result<T, Difference> {
+    catch_unwind(AssertUnwindSafe(run)).unwrap_or_else(|why| {
+        let text = why.downcast_ref::<String>().cloned().or(why.downcast_ref::<&str>().map(|text| text.to_string()));
+        Err(Difference { question: "a rule that holds for every call".into(), ours: text.unwrap_or_default(), who: Who::Document, theirs: "none".into() })
+    })
+}
+
+/// Drops calls as long as the histories still differ.
+fn smaller_history(history: &History) -> History {
+    let mut small = history.clone();
+    let mut at = small.calls.len();
+    while at > 0 {
+        at -= 1;
+        let mut less = small.clone();
+        less.calls.remove(at);
+        if caught(|| less.compare(&mut Tally::default())).is_err() {
+            small = less;
+        }
+    }
+    small
+}
+
+/// Clears and cuts bytes as long as the readings still differ.
+fn smaller_file(case: &Case) -> Case {
+    let mut small = case.clone();
+    for width in [256, 64, 16, 4, 1] {
+        let mut at = small.file.len();
+        while at > 0 {
+            let from = at.saturating_sub(width);
+            let mut cut = small.clone();
+            cut.file.drain(from..);
+            let mut clear = small.clone();
+            clear.file[from..at].fill(0);
+            for less in [cut, clear] {
+                if less.file != small.file && from < small.file.len() && caught(|| less.compare(&mut Tally::default())).is_err() {
+                    small = less;
+                    break;
+                }
+            }
+            at = from.min(small.file.len());
+        }
+    }
+    small
+}
+
+fn say(seed: u64, difference: &Difference, input: &str) {
+    let Difference { question, ours, who, theirs } = difference;
+    println!("seed {seed}: {question}\n  here {ours:.2000}\n  {} {theirs:.2000}\n  {input:.20000}", who.name());
+}
+
+/// How many differences are made small and printed; the others are only counted.
+const PRINTED: u64 = 20;
+
+struct Run {
+    tally: Tally,
+    differences: u64,
+}
+
+impl Run {
+    /// Counts a difference, and says whether it is to be printed.
+    fn counted(&mut self) -> bool {
+        self.differences += 1;
+        self.differences <= PRINTED
+    }
+
+    fn read(&mut self, seed: u64, case: &Case) {
+        let tally = &mut self.tally;
+        let Err(first) = caught(|| case.compare(tally)) else { return };
+        if self.counted() {
+            let small = smaller_file(case);
+            let difference = caught(|| small.compare(&mut Tally::default())).err().unwrap_or(first);
+            say(seed, &difference, &small.describe());
+        }
+    }
+
+    /// Answers the images that were written.
+    fn build(&mut self, seed: u64, history: &History) -> Vec<Case> {
+        let tally = &mut self.tally;
+        let first = match caught(|| history.compare(tally)) {
+            Ok(images) => return images,
+            Err(first) => first,
+        };
+        if self.counted() {
+            let small = smaller_history(history);
+            let difference = caught(|| small.compare(&mut Tally::default())).err().unwrap_or(first);
+            say(seed, &difference, &small.describe());
+        }
+        Vec::new()
+    }
+
+    fn garbage(&mut self, seed: u64, dice: &Dice) {
+        let (tally, mut calls) = (&mut self.tally, Vec::new());
+        let Err(difference) = caught(|| garbage::compare(dice, tally, &mut calls)) else { return };
+        if self.counted() {
+            say(seed, &difference, &format!("garbage memory: {}", building::described(&calls)));
+        }
+    }
+
+    fn seed(&mut self, seed: u64) {
+        let dice = &Dice::new(seed);
+        let history = if dice.one_in(15) { History::deep(dice) } else { History::random(dice) };
+        let images = self.build(seed, &history);
+        for image in images.iter().rev().take(2) {
+            let mut asked = image.clone();
+            asked.keys = image.keys.iter().take(8).map(|key| make::near(dice, b'/', key.clone())).collect();
+            self.read(seed, &asked);
+            for _ in 0..4 {
+                let damaged = make::damaged(dice, &asked);
+                self.read(seed, &damaged);
+            }
+        }
+        for _ in 0..3 {
+            let made = make::by_hand(dice);
+            self.read(seed, &made);
+            let damaged = make::damaged(dice, &made);
+            self.read(seed, &damaged);
+            let random = make::random(dice);
+            self.read(seed, &random);
+            self.garbage(seed, dice);
+        }
+    }
+}
+
+struct Arguments {
+    seeds: std::ops::Range<u64>,
+    time: Duration,
+}
+
+fn arguments() -> Option<Arguments> {
+    let mut found = Arguments { seeds: SEEDS, time: Duration::ZERO };
+    let mut rest = std::env::args().skip(1);
+    while let Some(flag) = rest.next() {
+        let value = rest.next()?;
+        match flag.as_str() {
+            "--seeds" => {
+                let (from, to) = value.split_once("..")?;
+                found.seeds = from.parse().ok()?..to.parse().ok()?;
+            }
+            "--minutes" => found.time = Duration::from_secs_f64(60.0 * value.parse::<f64>().ok()?),
+            _ => return None,
+        }
+    }
+    Some(found)
+}
+
+/// The seeds one after another; each is noted in a file first, in case the process does not come back.
+fn all(arguments: Arguments) -> Run {
+    let start = Instant::now();
+    let mut run = Run { tally: Tally::default(), differences: 0 };
+    let mut note = std::env::var("SEED_NOTE").ok().map(|path| std::fs::File::create(path).expect("a file for the seed"));
+    let tally = &mut run.tally;
+    if let Err(difference) = caught(|| Ok(corners::show(tally))) {
+        run.counted();
+        say(0, &difference, "a difference of docs/DIFFERENCES.md is not as it stands there");
+    }
+    let mut seed = arguments.seeds.start;
+    while seed < arguments.seeds.end || start.elapsed() < arguments.time {
+        if let Some(file) = &mut note {
+            file.rewind().and_then(|()| write!(file, "{seed:020}")).expect("a note");
+        }
+        run.seed(seed);
+        seed += 1;
+    }
+    println!("seeds {} to {}, {} s", arguments.seeds.start, seed, start.elapsed().as_secs());
+    run
+}
+
+fn main() -> ExitCode {
+    let Some(arguments) = arguments() else {
+        println!("use: differential [--seeds A..B] [--minutes N]");
+        return ExitCode::from(2);
+    };
+    std::panic::set_hook(Box::new(|_| {}));
+    // a long chain of parents makes gvdb-rs recurse as deep
+    let thread = std::thread::Builder::new().stack_size(1 << 30).spawn(move || all(arguments)).expect("a thread");
+    let run = thread.join().expect("the run");
+    run.tally.print();
+    println!("{} answers compared, {} differ", run.tally.total(), run.differences);
+    if run.differences == 0 && run.tally.total() > 0 {
+        ExitCode::SUCCESS
+    } else {
+        ExitCode::FAILURE
+    }
+}

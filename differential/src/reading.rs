@@ -1,0 +1,157 @@
+//! One table of one file, read by all three.
+
+use crate::document::read as document;
+use crate::lent::File;
+use crate::ours;
+use crate::tally::{Outcome, Tally, Who};
+use crate::theirs;
+use gvdb::read::HashTable;
+
+/// A file, the pointer to a table in it, and keys to ask for.
+#[derive(Clone)]
+pub struct Case {
+    pub file: Vec<u8>,
+    pub start: u32,
+    pub end: u32,
+    pub keys: Vec<Vec<u8>>,
+}
+
+pub fn hex(bytes: &[u8]) -> String {
+    bytes.iter().map(|byte| format!("{byte:02x}")).collect()
+}
+
+impl Case {
+    pub fn describe(&self) -> String {
+        let file = if self.file.len() > 4096 { format!("{} ...", hex(&self.file[..4096])) } else { hex(&self.file) };
+        format!("file of {} bytes, pointer {} to {}: {file}", self.file.len(), self.start, self.end)
+    }
+
+    /// The file starts with a header that gvdb-rs accepts, with the pointer as its root; no header fits into less than 24 bytes.
+    fn with_header(&self) -> Vec<u8> {
+        let mut file = self.file.clone();
+        if file.len() >= 24 {
+            file[..16].copy_from_slice(b"GVariant\0\0\0\0\0\0\0\0");
+            file[16..20].copy_from_slice(&self.start.to_le_bytes());
+            file[20..24].copy_from_slice(&self.end.to_le_bytes());
+        }
+        file
+    }
+
+    pub fn compare(&self, tally: &mut Tally) -> Outcome {
+        let file = File::new(&self.with_header());
+        let bytes = file.bytes();
+        let keys = self.asked(bytes);
+        self.with_document(tally, bytes, &keys)?;
+        if bytes.len() < 24 {
+            tally.alone("files too short for a header", 1);
+            return Ok(());
+        }
+        theirs::with_root(bytes, |opened| self.with_rust(tally, bytes, &keys, opened))?;
+        self.at_odd_address(tally, bytes, &keys)
+    }
+
+    /// The keys to ask for: those given, and some that the table lists.
+    fn asked(&self, bytes: &[u8]) -> Vec<Vec<u8>> {
+        let mut keys = self.keys.clone();
+        if let Ok(table) = document::open(bytes, self.start, self.end) {
+            let step = table.count.div_ceil(24).max(1);
+            keys.extend((0..table.count).step_by(step).filter_map(|index| table.key(index).ok()).filter(|key| key.len() < 5000));
+        }
+        keys
+    }
+
+    fn with_document(&self, tally: &mut Tally, bytes: &[u8], keys: &[Vec<u8>]) -> Outcome {
+        let (start, end) = (self.start, self.end);
+        let paper = document::open(bytes, start, end);
+        let parts = paper.as_ref().map(|table| (table.count as u32, table.buckets as u32, table.blooms as u32)).map_err(|number| *number);
+        let ours = ours::open(bytes, start, end);
+        tally.number(ours.err().unwrap_or(0));
+        tally.same(Who::Document, "open", &ours, &parts, String::new)?;
+        let check = ours::check(bytes, start, end);
+        match check {
+            Ok(Some((rule, _))) => tally.rule(rule),
+            Ok(None) => tally.number(0),
+            Err(number) => tally.number(number),
+        }
+        tally.same(Who::Document, "check", &check, &paper.as_ref().map(|table| table.check()).map_err(|number| *number), String::new)?;
+        for key in keys {
+            let place = ours::get(bytes, start, end, key);
+            tally.number(place.err().unwrap_or(0));
+            let other = paper.as_ref().map_err(|number| *number);
+            tally.same(Who::Document, "get", &place, &other.and_then(|table| table.get(key)), || hex(key))?;
+            let nested = ours::get_table(bytes, start, end, key);
+            tally.number(nested.err().unwrap_or(0));
+            tally.same(Who::Document, "get table", &nested, &other.and_then(|table| table.get_table(key)), || hex(key))?;
+        }
+        match paper {
+            Ok(table) => self.lists_with_document(tally, bytes, &table),
+            Err(number) => {
+                tally.same(Who::Document, "keys", &ours::key(bytes, start, end, 0, 8), &Err(number), String::new)?;
+                tally.same(Who::Document, "values", &crate::ffi::next_value(bytes, start, end, 0).number, &number, String::new)
+            }
+        }
+    }
+
+    /// Each key with room to spare, with room that just fits and with a byte too few; then the values.
+    fn lists_with_document(&self, tally: &mut Tally, bytes: &[u8], table: &document::Table) -> Outcome {
+        let ask = |index: usize, room: usize| ours::key(bytes, self.start, self.end, index, room);
+        for index in 0..table.count {
+            let key = table.key(index);
+            let size = key.as_ref().map_or(0, Vec::len);
+            let ours = ask(index, size + 16);
+            tally.number(*ours.as_ref().err().unwrap_or(&0));
+            tally.same(Who::Document, "keys", &ours, &key, || format!("item {index}"))?;
+            tally.same(Who::Document, "keys", &ask(index, size), &key, || format!("item {index}, exact room"))?;
+            if size > 0 {
+                tally.number(14);
+                tally.same(Who::Document, "keys", &ask(index, size - 1), &Err(14), || format!("item {index}, a byte too few"))?;
+            }
+        }
+        tally.number(15);
+        tally.same(Who::Document, "keys", &ask(table.count, 64), &Err(15), || "past the last".into())?;
+        tally.same(Who::Document, "keys", &ask(usize::MAX, 64), &Err(15), || "far past the last".into())?;
+        tally.same(Who::Document, "values", &crate::ffi::next_value(bytes, self.start, self.end, usize::MAX).number, &15, || "far past the last".into())?;
+        let values = ours::values(bytes, self.start, self.end);
+        values.iter().for_each(|(_, place)| tally.number(place.err().unwrap_or(0)));
+        tally.same(Who::Document, "values", &values, &table.values(), String::new)
+    }
+
+    fn with_rust(&self, tally: &mut Tally, bytes: &[u8], keys: &[Vec<u8>], opened: Result<&HashTable<'_, '_>, u32>) -> Outcome {
+        let ours = theirs::as_theirs(ours::open(bytes, self.start, self.end)).map(|(items, _, _)| items as usize);
+        tally.same(Who::Rust, "open", &ours, &opened.map(|table| table.keys().len()), String::new)?;
+        let Ok(table) = opened else { return Ok(()) };
+        for (index, key) in theirs::keys(table).into_iter().enumerate() {
+            let room = key.as_ref().map_or(0, Vec::len);
+            tally.same(Who::Rust, "keys", &ours::key(bytes, self.start, self.end, index, room), &key, || format!("item {index}"))?;
+        }
+        let values: Vec<_> = ours::values(bytes, self.start, self.end).into_iter().map(|(_, place)| place).collect();
+        tally.same(Who::Rust, "values", &values, &theirs::values(bytes, table), String::new)?;
+        let paper = document::open(bytes, self.start, self.end).ok();
+        for key in keys {
+            let Ok(text) = std::str::from_utf8(key) else {
+                tally.alone("lookups of a key that is not UTF-8, which gvdb-rs cannot be given", 1);
+                continue;
+            };
+            if paper.as_ref().is_some_and(|table| table.recurses(key)) {
+                tally.alone("lookups on which gvdb-rs recurses without end", 1);
+                continue;
+            }
+            let place = ours::get(bytes, self.start, self.end, key);
+            tally.same(Who::Rust, "get", &place, &theirs::get(bytes, table, text), || hex(key))?;
+            let nested = theirs::as_theirs(ours::get_table(bytes, self.start, self.end, key));
+            tally.same(Who::Rust, "get table", &nested, &theirs::get_table(table, text), || hex(key))?;
+        }
+        Ok(())
+    }
+
+    /// The address of the file plays no part here; gvdb-rs refuses an odd one.
+    fn at_odd_address(&self, tally: &mut Tally, bytes: &[u8], keys: &[Vec<u8>]) -> Outcome {
+        let (start, end) = (self.start, self.end);
+        let file = File::shifted(bytes, 1 + self.end as usize % 7);
+        tally.same(Who::Document, "check", &ours::check(file.bytes(), start, end), &ours::check(bytes, start, end), || "odd address".into())?;
+        if let Some(key) = keys.last() {
+            tally.same(Who::Document, "get", &ours::get(file.bytes(), start, end, key), &ours::get(bytes, start, end, key), || "odd address".into())?;
+        }
+        Ok(())
+    }
+}
