@@ -1,4 +1,4 @@
-//! Nanoseconds per operation of this library and of gvdb-rs, measured in turns in one run. Use: bench [--rounds N]
+//! Nanoseconds of processor time per operation of this library and of gvdb-rs, measured in turns in one run. Use: bench [--rounds N]
 //! Each call is measured whole, as a user makes it: gvdb-rs takes its own copies of keys and values, and has its table open; ours is lent
 //! its memory, and opens the table and tests the key at each call.
 
@@ -10,12 +10,12 @@ use gvdb::read::{oracle as raw, File, HashTable};
 use gvdb::write::{FileWriter, HashTableBuilder};
 use std::borrow::Cow;
 use std::hint::black_box;
-use std::time::{Duration, Instant};
+use std::time::Duration;
 
 const VALUE: [u8; 8] = *b"\x01\x02\x03\x04\x05\x06\x07\x08";
 const ROOM: usize = 1 << 20;
 /// How many operations a turn has at least.
-const TURN: usize = 20_000;
+const TURN: usize = 2000;
 
 /// Keys of eight segments: seven containers stand above each, 22 above them all, so that 1,000 keys are 1,022 items.
 fn keys(count: usize, leaf: &str) -> Vec<String> {
@@ -32,11 +32,29 @@ fn shuffled(mut keys: Vec<String>) -> Vec<String> {
     keys
 }
 
+#[repr(C)]
+struct Clock {
+    seconds: i64,
+    nanoseconds: i64,
+}
+
+extern "C" {
+    fn clock_gettime(clock: i32, time: *mut Clock) -> i32;
+}
+
+/// The time that this thread has had the processor: what other processes take does not count.
+fn processor_time() -> Duration {
+    const OF_THIS_THREAD: i32 = 3;
+    let mut time = Clock { seconds: 0, nanoseconds: 0 };
+    assert_eq!(unsafe { clock_gettime(OF_THIS_THREAD, &mut time) }, 0);
+    Duration::new(time.seconds as u64, time.nanoseconds as u32)
+}
+
 /// Times a call alone, whatever is made before it and dropped after it.
 fn timed<T>(call: impl FnOnce() -> T) -> (Duration, T) {
-    let start = Instant::now();
+    let start = processor_time();
     let made = call();
-    (start.elapsed(), made)
+    (processor_time() - start, made)
 }
 
 /// Ours: a builder with a table, memory used anew.
@@ -100,10 +118,11 @@ impl Ground {
 /// A turn of one side: the time and how many operations it was.
 type Turn<'a> = Box<dyn FnMut() -> (Duration, usize) + 'a>;
 
-/// Repeats a pass until a turn has enough operations.
+/// Repeats a pass until a turn has enough operations. What it takes to ask the clock is taken off.
 fn turn<'a>(operations: usize, mut pass: impl FnMut() -> Duration + 'a) -> Turn<'a> {
     let passes = TURN.div_ceil(operations);
-    Box::new(move || ((0..passes).map(|_| pass()).sum(), passes * operations))
+    let clock = (0..100).map(|_| timed(|| ()).0).min().unwrap_or_default();
+    Box::new(move || ((0..passes).map(|_| pass().saturating_sub(clock)).sum(), passes * operations))
 }
 
 fn lookups<'a>(ground: &'a Ground, table: &'a HashTable<'a, 'a>, keys: &'a [String], there: bool) -> (Turn<'a>, Turn<'a>) {
@@ -232,7 +251,7 @@ fn column(rounds: usize, count: usize) -> Vec<(f64, f64)> {
 fn main() {
     let arguments: Vec<String> = std::env::args().skip(1).collect();
     let rounds = match &arguments[..] {
-        [] => 21,
+        [] => 151,
         [flag, number] if flag == "--rounds" => number.parse().expect("a number of rounds"),
         _ => panic!("use: bench [--rounds N]"),
     };
