@@ -109,6 +109,26 @@ pub fn compare(dice: &Dice, tally: &mut Tally, calls: &mut Vec<Call>) -> Outcome
         calls.push(call.clone());
         step(&mut memory, &call, *dice.pick(&[0, 24, 100, 4096]), tally)?;
     }
+    fresh(dice, tally)
+}
+
+/// A fresh start on any words, too few or more than enough: 29, or an empty builder. Words past the least length and the arena stay.
+fn fresh(dice: &Dice, tally: &mut Tally) -> Outcome {
+    let least = ffi::memory_words();
+    let size = (least + *dice.pick(&[0, 0, 1, 50])).saturating_sub(*dice.pick(&[0, 0, 1, 14_000, 20_000]));
+    let words: Vec<usize> = (0..size).map(|_| any_word(dice)).collect();
+    let mut memory = Memory::new(&words, &dice.bytes(dice.below(40)));
+    let before = memory.clone();
+    let number = memory.fresh();
+    tally.number(number);
+    tally.same(Who::Document, "fresh", &number, &if size < least { 29 } else { 0 }, || format!("{size} words"))?;
+    assert!(number == 0 || memory == before, "a refused fresh start changed the words");
+    assert!(memory.same_arena(&before) && memory.words().get(least..) == words.get(least..), "a fresh start changed the arena or words past the least length");
+    if number == 0 {
+        tally.same(Who::Document, "fresh", &memory.item_count(0), &Err(24), || "no table".into())?;
+        tally.same(Who::Document, "fresh", &memory.new_table(b"/"), &Ok(0), || "the first table".into())?;
+        tally.same(Who::Document, "fresh", &memory.write(0, 32).map(|(image, end)| (image.len(), end)), &Ok((32, 32)), || "an empty image".into())?;
+    }
     Ok(())
 }
 

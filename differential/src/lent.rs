@@ -54,15 +54,16 @@ pub struct Memory {
 
 impl Memory {
     pub fn new(words: &[usize], arena: &[u8]) -> Memory {
-        Memory {
-            words: [&[GUARD_WORD; MARGIN][..], words, &[GUARD_WORD; MARGIN]].concat(),
-            arena: [&[GUARD; MARGIN][..], arena, &[GUARD; MARGIN]].concat(),
-        }
+        Memory { words: [&[GUARD_WORD; MARGIN][..], words, &[GUARD_WORD; MARGIN]].concat(), arena: [&[GUARD; MARGIN][..], arena, &[GUARD; MARGIN]].concat() }
     }
 
     pub fn words(&mut self) -> &mut [usize] {
         let end = self.words.len() - MARGIN;
         &mut self.words[MARGIN..end]
+    }
+
+    pub fn same_arena(&self, other: &Memory) -> bool {
+        self.arena == other.arena
     }
 
     /// Lends words and arena to a call.

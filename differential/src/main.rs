@@ -94,7 +94,13 @@ impl Run {
         self.differences <= PRINTED
     }
 
+    /// A table, and those that it holds.
     fn read(&mut self, seed: u64, case: &Case) {
+        self.read_one(seed, case);
+        case.nested().iter().for_each(|nested| self.read_one(seed, nested));
+    }
+
+    fn read_one(&mut self, seed: u64, case: &Case) {
         let tally = &mut self.tally;
         let Err(first) = caught(|| case.compare(tally)) else { return };
         if self.counted() {

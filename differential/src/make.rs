@@ -8,8 +8,7 @@ use crate::reading::Case;
 /// "ab" and "bA" have one hash, and so have "Ez" and "FY", alone or within a key.
 const SEGMENTS: [&str; 16] = ["a", "b", "ab", "bA", "Ez", "FY", "abab", "bAbA", "abbA", "\u{e9}", "", "x", "aa", "\u{20ac}", "\u{1F333}", "0"];
 
-const BROKEN: [&[u8]; 8] =
-    [b"\xff", b"\xc3", b"\xe9", b"\xed\xa0\x80", b"\xf4\x90\x80\x80", b"\xc0\x80", b"\xe2\x82", b"\x80"];
+const BROKEN: [&[u8]; 8] = [b"\xff", b"\xc3", b"\xe9", b"\xed\xa0\x80", b"\xf4\x90\x80\x80", b"\xc0\x80", b"\xe2\x82", b"\x80"];
 
 /// A key for a table with this separator: now and then one that was there, or one above or below such a one.
 pub fn key(dice: &Dice, separator: Option<u8>, known: &[Vec<u8>]) -> Vec<u8> {

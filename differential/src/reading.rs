@@ -26,6 +26,13 @@ impl Case {
         format!("file of {} bytes, pointer {} to {}: {file}", self.file.len(), self.start, self.end)
     }
 
+    /// The tables that items of this one hold, at most two.
+    pub fn nested(&self) -> Vec<Case> {
+        let Ok(table) = document::open(&self.file, self.start, self.end) else { return Vec::new() };
+        let held = (0..table.count).filter(|index| table.kind(*index) == b'H').take(2).map(|index| table.value(index));
+        held.map(|(start, end)| Case { start, end, ..self.clone() }).collect()
+    }
+
     /// The file starts with a header that gvdb-rs accepts, with the pointer as its root; no header fits into less than 24 bytes.
     fn with_header(&self) -> Vec<u8> {
         let mut file = self.file.clone();
@@ -47,7 +54,9 @@ impl Case {
             return Ok(());
         }
         theirs::with_root(bytes, |opened| self.with_rust(tally, bytes, &keys, opened))?;
-        self.at_odd_address(tally, bytes, &keys)
+        self.at_odd_address(tally, bytes, &keys)?;
+        assert!(bytes == self.with_header(), "a file that is only read has changed");
+        Ok(())
     }
 
     /// The keys to ask for: those given, and some that the table lists.

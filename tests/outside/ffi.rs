@@ -72,7 +72,17 @@ extern "C" {
     fn gvdb_memory_words() -> usize;
     fn gvdb_fresh(words: *mut usize, count: usize, arena: *const u8, room: usize) -> u32;
     fn gvdb_new_table(words: *mut usize, count: usize, arena: *const u8, room: usize, separator: *const u8, length: usize) -> Table;
-    fn gvdb_insert(words: *mut usize, count: usize, arena: *mut u8, room: usize, table: u32, key: *const u8, length: usize, value: *const u8, size: usize) -> Inserted;
+    fn gvdb_insert(
+        words: *mut usize,
+        count: usize,
+        arena: *mut u8,
+        room: usize,
+        table: u32,
+        key: *const u8,
+        length: usize,
+        value: *const u8,
+        size: usize,
+    ) -> Inserted;
     fn gvdb_insert_table(words: *mut usize, count: usize, arena: *mut u8, room: usize, table: u32, key: *const u8, length: usize, guest: u32) -> Inserted;
     fn gvdb_item_count(words: *const usize, count: usize, arena: *const u8, room: usize, table: u32) -> Count;
     fn gvdb_write(words: *mut usize, count: usize, arena: *const u8, room: usize, table: u32, image: *mut u8, size: usize) -> Image;
