@@ -6,6 +6,8 @@ use crate::tally::Tally;
 use crate::theirs;
 use crate::{document, ffi};
 use gvdb::write::{FileWriter, HashTableBuilder};
+use std::process::{Command, Stdio};
+use std::time::Duration;
 
 const MOST: usize = 16_777_216;
 
@@ -46,8 +48,29 @@ fn own_parent(fragment: &[u8], hash: u32) -> Vec<u8> {
     file(24, 60, &body)
 }
 
-/// gvdb-rs overflows its stack on the lookup of the first, so it is asked the rest only.
+/// gvdb-rs's lookup of "" in a table whose one item is its own parent, with an empty fragment.
+pub fn recurse() {
+    let empty = File::new(&own_parent(b"", 5381));
+    let answer = theirs::with_root(empty.bytes(), |opened| theirs::get(empty.bytes(), opened.expect("opens"), ""));
+    println!("{answer:?}");
+}
+
+/// Whether that lookup, in a process of its own, overflows the stack or has no answer after two seconds.
+fn never_answers() -> bool {
+    let program = std::env::current_exe().expect("this program");
+    let mut child = Command::new(program).arg("--recurse").stdout(Stdio::null()).stderr(Stdio::null()).spawn().expect("a process");
+    for _ in 0..20 {
+        std::thread::sleep(Duration::from_millis(100));
+        if let Some(status) = child.try_wait().expect("its state") {
+            return status.code().is_none();
+        }
+    }
+    child.kill().and_then(|()| child.wait()).expect("its end");
+    true
+}
+
 fn loops_of_parents() {
+    assert!(never_answers());
     let empty = File::new(&own_parent(b"", 5381));
     assert_eq!(empty.bytes().len(), 60);
     assert_eq!((ours::get(empty.bytes(), 24, 60, b""), ours::key(empty.bytes(), 24, 60, 0, 9)), (Err(12), Err(11)));

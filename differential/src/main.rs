@@ -203,6 +203,10 @@ fn all(arguments: Arguments) -> Run {
 }
 
 fn main() -> ExitCode {
+    if std::env::args().nth(1).as_deref() == Some("--recurse") {
+        corners::recurse();
+        return ExitCode::SUCCESS;
+    }
     let Some(arguments) = arguments() else {
         println!("use: differential [--seeds A..B] [--minutes N]");
         return ExitCode::from(2);
