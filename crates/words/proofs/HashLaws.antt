@@ -1,12 +1,12 @@
 -- Laws about the hash, for every rule for a byte. Assumes nothing.
-use mathlib.Core.Path.{_≡_, refl, ap, _∙_}
+use mathlib.Core.Path.{_≡_, refl, sym, ap, _∙_}
 use mathlib.Core.List.{List, [], _∷_, _++_}
-use Prim.Native.Nat.{ℕ, suc, _+_, _*_, _%_, _^_, _≤_, _<_}
+use Prim.Native.Nat.{ℕ, suc, _+_, _-_, _*_, _%_, _^_, _≤_, _<_}
 use native.Mathlib.Numerals.{add-one}
 use native.Mathlib.Omega.{arith}
 use native.Mathlib.Nat.{mul-le-mul, le-pred-of-lt}
-use lib.ListN.{length, getD, drop, drop-of-length-le}
-use lib.Seq.{drop-cons}
+use lib.ListN.{length, getD, take, drop, drop-of-length-le}
+use lib.Seq.{drop-cons, take-add, take-all}
 use Rattle.words.specs.Hash.{hashStep, hashFrom, hashBy, hashOf}
 
 module _ (rule : ℕ → ℕ) where
@@ -29,6 +29,21 @@ module _ (rule : ℕ → ℕ) where
   pub hash-append : (a b : List ℕ) → hashBy rule (a ++ b) ≡ hashFrom rule (hashBy rule a) b
   unfolding hashBy
   hash-append a b = hash-from-append a b 5381
+
+  -- no bytes hash to the start; the hash of a longer start of a key goes on from that of a shorter one, and so does the hash of the key
+  pub hash-none : (key : List ℕ) → hashBy rule (take 0 key) ≡ 5381
+  unfolding hashBy hashFrom
+  hash-none key = refl
+
+  module _ (key : List ℕ) (at h : ℕ) (is : h ≡ hashBy rule (take at key)) where
+    pub hash-further : (e : ℕ) → at ≤ e → hashFrom rule h (take (e - at) (drop at key)) ≡ hashBy rule (take e key)
+    hash-further e up =
+        let q : at + (e - at) ≡ e = omega arith in
+        ap (λ (n : ℕ). hashFrom rule n (take (e - at) (drop at key))) is ∙ sym (hash-append (take at key) (take (e - at) (drop at key)))
+        ∙ ap (hashBy rule) (sym (take-add at (e - at) key)) ∙ ap (λ (n : ℕ). hashBy rule (take n key)) q
+
+    pub hash-whole : at ≤ length key → hashFrom rule h (take (length key - at) (drop at key)) ≡ hashBy rule key
+    hash-whole up = hash-further (length key) up ∙ ap (hashBy rule) (take-all (length key) key (omega arith))
 
   -- a hash is a number of 32 bits
   pub hash-from-below : (a : List ℕ) (h : ℕ) → h < 2 ^ 32 → hashFrom rule h a < 2 ^ 32
