@@ -2,16 +2,20 @@
 use Prim.Native.Nat.{ℕ, suc, _+_, _≤_, _<_}
 use native.Mathlib.Omega.{arith}
 use mathlib.Core.Path.{_≡_, sym, ap, _∙_, subst}
-use mathlib.Core.Bool.{true, false}
+use mathlib.Core.Bool.{Bool, true, false}
 use mathlib.Core.List.{List, [], _∷_}
 use borrow.Author.Tests.{eq-eqb, ne-eqb, lt-ltb, le-ltb}
 use lib.ListN.{length, take}
 use Rattle.words.specs.Choice.{pick}
+use Rattle.words.specs.Hash.{hashOf}
 use Rattle.text.specs.Prefix.{endsPast, nextEnd}
 use Rattle.text.proofs.PrefixLaws.{past-more, past-last, next-within, next-rises}
+use Rattle.model.specs.Builder.{mostItems}
 use Rattle.memory.specs.Memory.{itemTotal, itemKind, containerKind, Memory}
 use Rattle.memory.specs.Find.{findKey}
 use Rattle.memory.specs.Item.{stored, makeItem}
+use Rattle.build.specs.declared.walk.Way.{Way}
+use Rattle.build.specs.declared.walk.Walked.{Walked}
 use Rattle.build.specs.Walk.{way, descend, sum}
 use Rattle.build.specs.Insert.{laid, containers}
 
@@ -62,6 +66,15 @@ module _ (ws ar : List ℕ) (t : ℕ) (key : List ℕ) (e : ℕ) (ends : List �
       descend-pass : itemKind ws i ≡ containerKind → descend ws ar t key (e ∷ ends) from parent ≡ descend ws ar t key ends e (i + 1)
       unfolding descend pick
       descend-pass h = simp (lt-ltb _ _ more, ← is, lt-ltb _ _ there, eq-eqb _ _ h)
+
+-- where the walk ends, with the hash of the key up to there
+pub walked-is : (key : List ℕ) (d : Way) (r : Walked) (clear : Bool) (from parent hash : ℕ) → (r .way ≡ way clear from parent) × (r .hash ≡ hash) → way clear from parent ≡ d
+    → from ≤ length key → parent ≤ mostItems → hash ≡ hashOf (take from key)
+    → (r .way ≡ d) × (((r .way .from ≤ length key) × (r .way .parent ≤ mostItems)) × (r .hash ≡ hashOf (take (r .way .from) key)))
+walked-is key d r clear from parent hash made is within few hashed =
+    let f : r .way .from ≡ from = ap (λ (w : Way). w .from) (made .0) in
+    let p : r .way .parent ≡ parent = ap (λ (w : Way). w .parent) (made .0) in
+    (made .0 ∙ is, ((omega arith, omega arith), made .1 ∙ hashed ∙ ap (λ (n : ℕ). hashOf (take n key)) (sym f)))
 
 -- ---- the containers
 

@@ -1,8 +1,9 @@
 // The insert of a value: each stage refuses, or hands on to the next. What is written was decided before.
+use crate::walk::Walked;
 use crate::walk::cost_of;
 use crate::walk::descend_to;
 use layout::refusal::Refusal;
-use memory::find::find_key;
+use memory::find::find_hashed;
 use memory::item::Place;
 use memory::item::kind_of;
 use memory::item::make_item;
@@ -22,10 +23,12 @@ use model::Inserted;
 use tables::add::takes_items;
 use text::prefix::next_end;
 use text::utf8::is_utf8;
+use words::hash::hash_on;
 use words::wide::word_size;
 ghost use mathlib.Core.Path.{_≡_};
 ghost use Prim.Native.Nat.{_+_, _≤_, _<_};
-ghost use lib.ListN.{length};
+ghost use lib.ListN.{length, take};
+ghost use Rattle.words.specs.Hash.{hashOf};
 ghost use Rattle.text.specs.Prefix.{endsPast};
 ghost use Rattle.model.specs.Builder.{mostItems};
 ghost use Rattle.memory.specs.Memory.{leastWords, itemTotal, roomUsed, tableSeparator, Sound, memory, outcome};
@@ -40,24 +43,26 @@ pub struct Job {
     pub guest: usize,
 }
 
-// Makes the containers of the key that are missing past `from`, and answers the last one's index and one.
+// Makes the containers of the key that are missing past the walk, and answers the last one's index and one.
 fn make_containers(
     words: &mut [usize],
     arena: &mut [u8],
     table: usize,
     key: &[u8],
     sep: usize,
-    from: usize,
-    parent: usize,
+    walked: Walked,
 ) -> usize
-    requires { ⌜ (leastWords ≤ length (now words)) × (from ≤ length (now key)) ⌝ }
-    requires { ⌜ itemTotal (now words) + length (endsPast sep (now key) from) ≤ mostItems ⌝ }
-    requires { ⌜ roomUsed (now words) + sum (endsPast sep (now key) from) ≤ length (now arena) ⌝ }
-    ensures { λ r. ⌜ laid (memory (now (words .exit)) (now (arena .exit))) r ≡ containers table (now (key .entry)) (endsPast sep (now (key .entry)) from) (memory (now (words .entry)) (now (arena .entry))) parent ⌝ }
-    ensures counts { λ r. ⌜ (itemTotal (now (words .exit)) + 1 ≡ itemTotal (now (words .entry)) + length (endsPast sep (now (key .entry)) from)) × (roomUsed (now (words .exit)) + length (now (key .entry)) ≡ roomUsed (now (words .entry)) + sum (endsPast sep (now (key .entry)) from)) ⌝ }
+    requires { ⌜ (leastWords ≤ length (now words)) × (walked .way .from ≤ length (now key)) ⌝ }
+    requires { ⌜ walked .hash ≡ hashOf (take (walked .way .from) (now key)) ⌝ }
+    requires { ⌜ itemTotal (now words) + length (endsPast sep (now key) (walked .way .from)) ≤ mostItems ⌝ }
+    requires { ⌜ roomUsed (now words) + sum (endsPast sep (now key) (walked .way .from)) ≤ length (now arena) ⌝ }
+    ensures { λ r. ⌜ laid (memory (now (words .exit)) (now (arena .exit))) r ≡ containers table (now (key .entry)) (endsPast sep (now (key .entry)) (walked .way .from)) (memory (now (words .entry)) (now (arena .entry))) (walked .way .parent) ⌝ }
+    ensures counts { λ r. ⌜ (itemTotal (now (words .exit)) + 1 ≡ itemTotal (now (words .entry)) + length (endsPast sep (now (key .entry)) (walked .way .from))) × (roomUsed (now (words .exit)) + length (now (key .entry)) ≡ roomUsed (now (words .entry)) + sum (endsPast sep (now (key .entry)) (walked .way .from))) ⌝ }
 {
-    let mut at = from;
-    let mut above = parent;
+    let way = walked.way;
+    let mut at = way.from;
+    let mut above = way.parent;
+    let mut hash = walked.hash;
     loop {
         let e = next_end(key, at, sep);
         if key.len() <= e {
@@ -71,40 +76,43 @@ fn make_containers(
             kind: CONTAINER_KIND,
             guest: 0,
         };
-        make_item(words, arena, place, &key[..e], &key[..0]);
+        let further = hash_on(hash, &key[at..e]);
+        let word = word_size(further);
+        make_item(words, arena, place, &key[..e], word, &key[..0]);
         at = e;
         above = count;
+        hash = further;
     }
 }
 
-// Makes what is missing past `from`, the key's own item last.
+// Makes what is missing past the walk, the key's own item last; the key's hash is given.
 fn build_new(
     words: &mut [usize],
     arena: &mut [u8],
     job: Job,
     key: &[u8],
     value: &[u8],
-    from: usize,
-    parent: usize,
+    walked: Walked,
+    hash: usize,
 )
     requires { ⌜ Ready (now words) (now arena) (job .table) (now key) ⌝ }
-    requires { ⌜ from ≤ length (now key) ⌝ }
-    requires { ⌜ itemTotal (now words) + length (endsPast (tableSeparator (now words) (job .table)) (now key) from) ≤ mostItems ⌝ }
-    requires { ⌜ roomUsed (now words) + sum (endsPast (tableSeparator (now words) (job .table)) (now key) from) + length (now value) ≤ length (now arena) ⌝ }
-    ensures { λ _. ⌜ memory (now (words .exit)) (now (arena .exit)) ≡ added (containers (job .table) (now (key .entry)) (endsPast (tableSeparator (now (words .entry)) (job .table)) (now (key .entry)) from) (memory (now (words .entry)) (now (arena .entry))) parent) (job .table) (now (key .entry)) (stored (job .kind) (now (value .entry)) (job .guest)) ⌝ }
+    requires { ⌜ (walked .way .from ≤ length (now key)) × (walked .hash ≡ hashOf (take (walked .way .from) (now key))) × (hash ≡ hashOf (now key)) ⌝ }
+    requires { ⌜ itemTotal (now words) + length (endsPast (tableSeparator (now words) (job .table)) (now key) (walked .way .from)) ≤ mostItems ⌝ }
+    requires { ⌜ roomUsed (now words) + sum (endsPast (tableSeparator (now words) (job .table)) (now key) (walked .way .from)) + length (now value) ≤ length (now arena) ⌝ }
+    ensures { λ _. ⌜ memory (now (words .exit)) (now (arena .exit)) ≡ added (containers (job .table) (now (key .entry)) (endsPast (tableSeparator (now (words .entry)) (job .table)) (now (key .entry)) (walked .way .from)) (memory (now (words .entry)) (now (arena .entry))) (walked .way .parent)) (job .table) (now (key .entry)) (stored (job .kind) (now (value .entry)) (job .guest)) ⌝ }
 {
     let table = job.table;
     let kind = job.kind;
     let guest = job.guest;
     let sep = table_word(words, table, SEPARATOR);
-    let above = make_containers(words, arena, table, key, sep, from, parent);
+    let above = make_containers(words, arena, table, key, sep, walked);
     let place = Place {
         table,
         parent: above,
         kind,
         guest,
     };
-    make_item(words, arena, place, key, value);
+    make_item(words, arena, place, key, hash, value);
 }
 
 // A new item: counts what is missing, refuses where there is no room (22, 23), and makes it.
@@ -114,16 +122,17 @@ fn insert_new(
     job: Job,
     key: &[u8],
     value: &[u8],
-    from: usize,
-    parent: usize,
+    walked: Walked,
+    hash: usize,
 ) -> Inserted
     requires { ⌜ Ready (now words) (now arena) (job .table) (now key) ⌝ }
-    requires { ⌜ from ≤ length (now key) ⌝ }
-    ensures { λ r. ⌜ outcome r (memory (now (words .exit)) (now (arena .exit))) ≡ insertNew (now (words .entry)) (now (arena .entry)) (job .table) (now (key .entry)) (stored (job .kind) (now (value .entry)) (job .guest)) from parent ⌝ }
+    requires { ⌜ (walked .way .from ≤ length (now key)) × (walked .hash ≡ hashOf (take (walked .way .from) (now key))) × (hash ≡ hashOf (now key)) ⌝ }
+    ensures { λ r. ⌜ outcome r (memory (now (words .exit)) (now (arena .exit))) ≡ insertNew (now (words .entry)) (now (arena .entry)) (job .table) (now (key .entry)) (stored (job .kind) (now (value .entry)) (job .guest)) (walked .way .from) (walked .way .parent) ⌝ }
 {
     let table = job.table;
     let sep = table_word(words, table, SEPARATOR);
-    let cost = cost_of(key, from, sep);
+    let way = walked.way;
+    let cost = cost_of(key, way.from, sep);
     if MOST_ITEMS - words[ITEMS] < cost.items {
         return Inserted::Refused(Refusal::TooManyItems);
     }
@@ -134,7 +143,7 @@ fn insert_new(
     if left - cost.room < value.len() {
         return Inserted::Refused(Refusal::ArenaFull);
     }
-    build_new(words, arena, job, key, value, from, parent);
+    build_new(words, arena, job, key, value, walked, hash);
     Inserted::New
 }
 
@@ -168,19 +177,21 @@ fn insert_along(
     job: Job,
     key: &[u8],
     value: &[u8],
-    from: usize,
-    parent: usize,
+    walked: Walked,
 ) -> Inserted
     requires { ⌜ Ready (now words) (now arena) (job .table) (now key) ⌝ }
-    requires { ⌜ from ≤ length (now key) ⌝ }
-    ensures { λ r. ⌜ outcome r (memory (now (words .exit)) (now (arena .exit))) ≡ insertAlong (now (words .entry)) (now (arena .entry)) (job .table) (now (key .entry)) (stored (job .kind) (now (value .entry)) (job .guest)) from parent ⌝ }
+    requires { ⌜ (walked .way .from ≤ length (now key)) × (walked .hash ≡ hashOf (take (walked .way .from) (now key))) ⌝ }
+    ensures { λ r. ⌜ outcome r (memory (now (words .exit)) (now (arena .exit))) ≡ insertAlong (now (words .entry)) (now (arena .entry)) (job .table) (now (key .entry)) (stored (job .kind) (now (value .entry)) (job .guest)) (walked .way .from) (walked .way .parent) ⌝ }
 {
     let table = job.table;
-    let i = find_key(words, arena, table, key);
+    let way = walked.way;
+    let from = way.from;
+    let hash = word_size(hash_on(walked.hash, &key[from..]));
+    let i = find_hashed(words, arena, table, key, hash);
     if i < words[ITEMS] {
         return overwrite_item(words, arena, i, job, value);
     }
-    insert_new(words, arena, job, key, value, from, parent)
+    insert_new(words, arena, job, key, value, walked, hash)
 }
 
 // Walks down the containers that are there (21), and refuses what is too deep (26).
@@ -197,7 +208,8 @@ pub fn insert_walked(
 {
     let table = job.table;
     let sep = table_word(words, table, SEPARATOR);
-    let way = descend_to(words, arena, table, key, sep);
+    let walked = descend_to(words, arena, table, key, sep);
+    let way = walked.way;
     let clear = way.clear;
     if !clear {
         return Inserted::Refused(Refusal::NotContainer);
@@ -205,9 +217,7 @@ pub fn insert_walked(
     if deep {
         return Inserted::Refused(Refusal::NestedTooDeep);
     }
-    let from = way.from;
-    let parent = way.parent;
-    insert_along(words, arena, job, key, value, from, parent)
+    insert_along(words, arena, job, key, value, walked)
 }
 
 // The table takes inserts (24), and the key is one (8, 20).

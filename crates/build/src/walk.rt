@@ -1,17 +1,21 @@
 // The dry walk of an insert: it reads and counts, and writes nothing.
-use memory::find::find_key;
+use memory::find::find_hashed;
 use memory::place::CONTAINER_KIND;
 use memory::place::ITEMS;
 use memory::place::KIND;
 use memory::place::item_word;
 use text::prefix::next_end;
+use words::hash::HASH_START;
+use words::hash::hash_on;
+use words::wide::word_size;
 ghost use mathlib.Core.Path.{_≡_};
 ghost use Prim.Native.Nat.{_≤_};
-ghost use lib.ListN.{length};
+ghost use lib.ListN.{length, take};
+ghost use Rattle.words.specs.Hash.{hashOf};
 ghost use Rattle.text.specs.Prefix.{endsPast};
 ghost use Rattle.model.specs.Builder.{longestKey, mostItems};
 ghost use Rattle.memory.specs.Memory.{Sound};
-ghost use Rattle.build.specs.Walk.{descend, sum};
+ghost use Rattle.build.specs.Walk.{way, descend, sum};
 
 // How far the containers of a key are there: clear where nothing else stands in the way, from where the last one ends, parent its index
 // and one, or 0.
@@ -21,47 +25,59 @@ pub struct Way {
     pub parent: usize,
 }
 
+// A way, and the hash of the key up to where it ends: hashes go on from there.
+pub struct Walked {
+    pub way: Way,
+    pub hash: u32,
+}
+
 // What the rest of a key costs: items, and bytes of their keys.
 pub struct Cost {
     pub items: usize,
     pub room: usize,
 }
 
+// A walk that ends here.
+fn ended(clear: bool, from: usize, parent: usize, hash: u32) -> Walked
+    ensures { λ r. ⌜ (r .way ≡ way clear from parent) × (r .hash ≡ hash) ⌝ }
+{
+    Walked {
+        way: Way {
+            clear,
+            from,
+            parent,
+        },
+        hash,
+    }
+}
+
 // Goes down the containers of the key that are there.
-pub fn descend_to(words: &[usize], arena: &[u8], table: usize, key: &[u8], sep: usize) -> Way
+pub fn descend_to(words: &[usize], arena: &[u8], table: usize, key: &[u8], sep: usize) -> Walked
     requires { ⌜ Sound (now words) (length (now arena)) ⌝ }
-    ensures { λ r. ⌜ r ≡ descend (now (words .entry)) (now (arena .entry)) table (now (key .entry)) (endsPast sep (now (key .entry)) 0) 0 0 ⌝ }
-    ensures within { λ r. ⌜ (r .from ≤ length (now (key .entry))) × (r .parent ≤ mostItems) ⌝ }
+    ensures { λ r. ⌜ r .way ≡ descend (now (words .entry)) (now (arena .entry)) table (now (key .entry)) (endsPast sep (now (key .entry)) 0) 0 0 ⌝ }
+    ensures within { λ r. ⌜ (r .way .from ≤ length (now (key .entry))) × (r .way .parent ≤ mostItems) ⌝ }
+    ensures hashed { λ r. ⌜ r .hash ≡ hashOf (take (r .way .from) (now (key .entry))) ⌝ }
 {
     let n = words[ITEMS];
     let mut from = 0;
     let mut parent = 0;
+    let mut hash = HASH_START;
     loop {
         let e = next_end(key, from, sep);
         if key.len() <= e {
-            return Way {
-                clear: true,
-                from,
-                parent,
-            };
+            return ended(true, from, parent, hash);
         }
-        let i = find_key(words, arena, table, &key[..e]);
+        let further = hash_on(hash, &key[from..e]);
+        let i = find_hashed(words, arena, table, &key[..e], word_size(further));
         if n <= i {
-            return Way {
-                clear: true,
-                from,
-                parent,
-            };
+            return ended(true, from, parent, hash);
         }
         if item_word(words, i, KIND) != CONTAINER_KIND {
-            return Way {
-                clear: false,
-                from,
-                parent,
-            };
+            return ended(false, from, parent, hash);
         }
         from = e;
         parent = i + 1;
+        hash = further;
     }
 }
 

@@ -45,8 +45,8 @@ module _ (ws ar : List ℕ) where
   pub judge-unique : (r s : Bool) → r ≡ sound ws (length ar) → s ≡ sound ws (length ar) → r ≡ s
   judge-unique r s p q = p ∙ sym q
 
-  pub find-key-unique : (t : ℕ) (key : List ℕ) (r s : ℕ) → r ≡ findKey ws ar t key → s ≡ findKey ws ar t key → r ≡ s
-  find-key-unique t key r s p q = p ∙ sym q
+  pub find-hashed-unique : (t : ℕ) (key : List ℕ) (r s : ℕ) → r ≡ findKey ws ar t key → s ≡ findKey ws ar t key → r ≡ s
+  find-hashed-unique t key r s p q = p ∙ sym q
 
   pub fresh-unique : (r s : Started) (m n : Memory) → outcome r m ≡ freshStart ws ar → outcome s n ≡ freshStart ws ar → (r ≡ s) × (m ≡ n)
   fresh-unique = outcome-unique (freshStart ws ar)

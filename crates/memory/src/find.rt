@@ -43,14 +43,14 @@ fn is_item(words: &[usize], arena: &[u8], table: usize, hash: usize, key: &[u8],
     same_bytes(key_of(words, arena, i), key)
 }
 
-// The index of the table's item with the key, or the count of all items where there is none.
-pub fn find_key(words: &[usize], arena: &[u8], table: usize, key: &[u8]) -> usize
+// The index of the table's item with the key, whose hash is given, or the count of all items where there is none.
+pub fn find_hashed(words: &[usize], arena: &[u8], table: usize, key: &[u8], hash: usize) -> usize
     requires { ⌜ (leastWords ≤ length (now words)) × (itemTotal (now words) ≤ mostItems) ⌝ }
+    requires { ⌜ hash ≡ hashOf (now key) ⌝ }
     ensures { λ r. ⌜ r ≡ findKey (now (words .entry)) (now (arena .entry)) table (now (key .entry)) ⌝ }
     ensures within { λ r. ⌜ r ≤ itemTotal (now (words .entry)) ⌝ }
 {
     let n = words[ITEMS];
-    let hash = hash_word(key);
     let bucket = hash % BUCKETS;
     let mut limit = n;
     let mut i = words[HEADS_FROM + bucket];

@@ -1,5 +1,4 @@
 // Items made and written again.
-use crate::find::hash_word;
 use crate::place::BUCKETS;
 use crate::place::HEADS_FROM;
 use crate::place::ITEM_SIZE;
@@ -15,6 +14,7 @@ ghost use mathlib.Core.Path.{_≡_};
 ghost use mathlib.Core.List.{[], _∷_};
 ghost use Prim.Native.Nat.{_+_, _<_, _≤_};
 ghost use lib.ListN.{length};
+ghost use Rattle.words.specs.Hash.{hashOf};
 ghost use Rattle.words.specs.Store.{putAt};
 ghost use Rattle.model.specs.Builder.{mostItems};
 ghost use Rattle.memory.specs.Memory.{leastWords, buckets, headAt, itemAt, itemTotal, roomUsed, memory};
@@ -94,15 +94,22 @@ pub struct Place {
     pub guest: usize,
 }
 
-// Makes the next item, and lays its key and its value where the room used ends.
-pub fn make_item(words: &mut [usize], arena: &mut [u8], place: Place, key: &[u8], value: &[u8])
+// Makes the next item, and lays its key, whose hash is given, and its value where the room used ends.
+pub fn make_item(
+    words: &mut [usize],
+    arena: &mut [u8],
+    place: Place,
+    key: &[u8],
+    hash: usize,
+    value: &[u8],
+)
     requires { ⌜ (leastWords ≤ length (now words)) × (itemTotal (now words) < mostItems) ⌝ }
     requires { ⌜ roomUsed (now words) + length (now key) + length (now value) ≤ length (now arena) ⌝ }
+    requires { ⌜ hash ≡ hashOf (now key) ⌝ }
     ensures { λ _. ⌜ memory (now (words .exit)) (now (arena .exit)) ≡ makeItem (memory (now (words .entry)) (now (arena .entry))) (place .table) (place .parent) (now (key .entry)) (stored (place .kind) (now (value .entry)) (place .guest)) ⌝ }
 {
     let n = words[ITEMS];
     let room = words[USED];
-    let hash = hash_word(key);
     let bucket = hash % BUCKETS;
     let older = words[HEADS_FROM + bucket];
     let from = room + key.len();

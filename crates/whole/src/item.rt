@@ -1,5 +1,5 @@
 // The place, the key and the parent of an item: specs/Whole.antt names each rule.
-use memory::find::find_key;
+use memory::find::find_hashed;
 use memory::find::hash_word;
 use memory::place::CONTAINER_KIND;
 use memory::place::HASH;
@@ -72,8 +72,10 @@ pub fn key_right(words: &[usize], arena: &[u8], i: usize) -> bool
 {
     let key = key_of(words, arena, i);
     let text = is_utf8(key);
-    let hashed = item_word(words, i, HASH) == hash_word(key);
-    let found = find_key(words, arena, item_word(words, i, TABLE), key) == i;
+    let hash = hash_word(key);
+    let hashed = item_word(words, i, HASH) == hash;
+    let table = item_word(words, i, TABLE);
+    let found = find_hashed(words, arena, table, key, hash) == i;
     text & (hashed & found)
 }
 

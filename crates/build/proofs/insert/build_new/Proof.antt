@@ -9,10 +9,15 @@ table-word-requires : tie.Need-table-word-requires
 table-word-requires c κs = search needs
 
 make-containers-requires : tie.Need-make-containers-requires
-make-containers-requires c κs = rw (c .before .before .table-word .ensures) (omega arith)
+make-containers-requires c κs = let p = c .before .before .before .before .before .before .before .before .pre in
+    let t = c .before .before .table-word .ensures in (
+      (p .0 .sound-memory .long, p .1 .0 .0),
+      (p .1 .0 .1, (rw t (omega arith), rw t (omega arith))),
+    )
 
 make-item-requires : tie.Need-make-item-requires
-make-item-requires c κs = let counts = rw (c .before .before .before .before .before .before .before .before .before .table-word .ensures) at (c .before .before .before .before .before .before .make-containers .ensures .1) in omega arith
+make-item-requires c κs = let counts = rw (c .before .before .before .before .before .before .before .before .before .table-word .ensures) at (c .before .before .before .before .before .before .make-containers .ensures .1) in
+    ((omega arith, omega arith), (omega arith, c .before .before .before .before .before .before .before .before .before .before .before .before .before .before .before .pre .1 .0 .2))
 
 same-length : tie.Need-same-length
 same-length c = search needs
@@ -22,7 +27,7 @@ same-length-2 c = search needs
 
 returns : tie.Need-returns
 returns c = let a = c .before .before .before .before .before .before .before .before .before .before .before .before .before .before .before .before .before .before .before .before .args in
-    new-added (a .words .now) (a .arena .now) (a .job .table) (a .key .now) (a .from) _ _ _ _ _ _ (c .before .before .before .before .before .before .before .before .before .before .before .before .before .before .table-word .ensures) (c .before .before .before .before .before .before .before .before .before .before .before .make-containers .ensures .0) _
+    new-added (a .words .now) (a .arena .now) (a .job .table) (a .key .now) (a .walked .way .from) _ _ _ _ _ _ (c .before .before .before .before .before .before .before .before .before .before .before .before .before .before .table-word .ensures) (c .before .before .before .before .before .before .before .before .before .before .before .make-containers .ensures .0) _
     (c .before .before .before .before .make-item .ensures)
 
 pub build-new-spec : {M : Type 1} → statement M

@@ -19,8 +19,8 @@ same-length-2 : tie.Need-same-length-2
 same-length-2 c = search needs
 
 returns : tie.Need-returns
-returns c = let a = c .before .before .before .before .before .before .before .before .before .before .args in
-    way-blocked _ _ _ _ _ _ _ (way-is (a .words .now) (a .arena .now) (a .job .table) (a .key .now) _ _ (c .before .before .before .before .table-word .ensures) (c .before .descend-to .ensures .0))
+returns c = let a = c .before .before .before .before .before .before .before .before .before .before .before .args in
+    way-blocked _ _ _ _ _ _ _ (way-is (a .words .now) (a .arena .now) (a .job .table) (a .key .now) _ _ (c .before .before .before .before .before .table-word .ensures) (c .before .before .descend-to .ensures .0))
     (not-true _ (c .if1 .taken))
 
 same-length-3 : tie.Need-same-length-3
@@ -30,8 +30,8 @@ same-length-4 : tie.Need-same-length-4
 same-length-4 c = search needs
 
 returns-2 : tie.Need-returns-2
-returns-2 c = let a = c .before .before .before .before .before .before .before .before .before .before .before .args in
-    way-deep _ _ _ _ _ _ _ (way-is (a .words .now) (a .arena .now) (a .job .table) (a .key .now) _ _ (c .before .before .before .before .before .table-word .ensures) (c .before .before .descend-to .ensures .0))
+returns-2 c = let a = c .before .before .before .before .before .before .before .before .before .before .before .before .args in
+    way-deep _ _ _ _ _ _ _ (way-is (a .words .now) (a .arena .now) (a .job .table) (a .key .now) _ _ (c .before .before .before .before .before .before .table-word .ensures) (c .before .before .before .descend-to .ensures .0))
     (not-false _ (c .before .if1 .left)) (c .if2 .taken)
 
 insert-along-requires : tie.Need-insert-along-requires
@@ -44,9 +44,9 @@ same-length-6 : tie.Need-same-length-6
 same-length-6 c = search needs
 
 returns-3 : tie.Need-returns-3
-returns-3 c = let a = c .before .before .before .before .before .before .before .before .before .before .before .before .before .before .before .before .before .before .args in
+returns-3 c = let a = c .before .before .before .before .before .before .before .before .before .before .before .before .before .before .before .before .before .before .before .args in
     c .before .before .before .before .insert-along .ensures
-    ∙ way-along _ _ _ _ _ _ _ (way-is (a .words .now) (a .arena .now) (a .job .table) (a .key .now) _ _ (c .before .before .before .before .before .before .before .before .before .before .before .before .table-word .ensures) (c .before .before .before .before .before .before .before .before .before .descend-to .ensures .0))
+    ∙ way-along _ _ _ _ _ _ _ (way-is (a .words .now) (a .arena .now) (a .job .table) (a .key .now) _ _ (c .before .before .before .before .before .before .before .before .before .before .before .before .before .table-word .ensures) (c .before .before .before .before .before .before .before .before .before .before .descend-to .ensures .0))
     (not-false _ (c .before .before .before .before .before .before .before .before .if1 .left)) (c .before .before .before .before .before .before .before .if2 .left)
 
 pub insert-walked-spec : {M : Type 1} → statement M

@@ -11,9 +11,6 @@ slice-read-n c = search needs
 slice-read-room : tie.Need-slice-read-room
 slice-read-room c = search needs
 
-hash-word-requires : tie.Need-hash-word-requires
-hash-word-requires c κs = search needs
-
 add-older : tie.Need-add-older
 add-older c = search needs
 
@@ -57,7 +54,7 @@ same-length-2 : tie.Need-same-length-2
 same-length-2 c = search needs
 
 returns : tie.Need-returns
-returns c = item-made _ _ _ _ _ _ _ _ _ _ _ _ _ _ _ _ (c .before .before .before .before .before .before .before .before .before .before .before .before .before .before .before .before .before .before .before .before .before .before .before .before .before .hash-word .ensures) refl (c .before .before .before .before .before .before .before .before .before .before .before .before .before .before .put-spot .ensures) (c .before .before .before .before .before .before .before .before .before .before .put-held .ensures) (c .before .before .before .before .before .before .put-head .ensures)
+returns c = item-made _ _ _ _ _ _ _ _ _ _ _ _ _ _ _ _ (c .before .before .before .before .before .before .before .before .before .before .before .before .before .before .before .before .before .before .before .before .before .before .before .before .before .before .before .before .before .before .before .pre .1 .1) refl (c .before .before .before .before .before .before .before .before .before .before .before .before .before .before .put-spot .ensures) (c .before .before .before .before .before .before .before .before .before .before .put-held .ensures) (c .before .before .before .before .before .before .put-head .ensures)
     (c .before .before .put-counts .ensures) (c .before .before .before .before .before .before .before .before .before .before .before .before .before .before .before .before .before .before .before .before .before .before .put-bytes .ensures) (c .before .before .before .before .before .before .before .before .before .before .before .before .before .before .before .before .before .before .put-bytes2 .ensures)
 
 pub make-item-spec : {M : Type 1} → statement M
@@ -66,7 +63,6 @@ make-item-spec =
     (tie.spec
     slice-read-n
     slice-read-room
-    hash-word-requires
     add-older
     mul-older
     slice-read-older
