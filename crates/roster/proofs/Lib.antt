@@ -1,5 +1,6 @@
 pub mod OwnLaws
 pub mod StateLaws
+pub mod BareLaws
 pub mod TableLaws
 pub mod FillLaws
 pub mod RosterLaws

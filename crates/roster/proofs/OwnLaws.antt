@@ -23,7 +23,7 @@ module _ (ws : List ℕ) where
   unfolding own pick
   own-more t n e = simp (eq-eqb _ _ e)
 
-  own-pass : (t n : ℕ) → (itemTable ws n ≡ t → ⊥) → own ws t (suc n) ≡ own ws t n
+  pub own-pass : (t n : ℕ) → (itemTable ws n ≡ t → ⊥) → own ws t (suc n) ≡ own ws t n
   unfolding own pick
   own-pass t n e = simp (ne-eqb _ _ e)
 

@@ -2,14 +2,16 @@
 -- Assumes nothing: these are definitions.
 use Prim.Native.Nat.{ℕ, zero, suc, _+_, _*_, _≤_, _<_}
 use mathlib.Core.Path.{_≡_}
+use mathlib.Core.Bool.{Bool}
 use mathlib.Core.List.{List, [], _∷_, _++_}
 use lib.Dec.{eqb}
 use lib.ListN.{length, getD, take}
 use Rattle.words.specs.Choice.{pick}
+use Rattle.words.specs.Below.{someBelow}
 use Rattle.words.specs.Hash.{plain}
 use Rattle.words.specs.Store.{putAt}
 use Rattle.model.specs.Builder.{mostItems}
-use Rattle.memory.specs.Memory.{word, leastWords, links, linkAt, emptyMark, itemTotal, itemTable}
+use Rattle.memory.specs.Memory.{word, leastWords, links, linkAt, emptyMark, tableTotal, itemTotal, itemTable}
 use Rattle.image.specs.Number.{keyOrder, hashesOf, bucketStart, byNumber, itemOf, numberOf}
 use Rattle.order.specs.Chain.{starts}
 use Rattle.order.specs.Items.{numbersPut}
@@ -24,6 +26,13 @@ own ws t (suc n) = pick (eqb (itemTable ws n) t) (own ws t n ++ (n ∷ [])) (own
 unfoldable pub owned : List ℕ → ℕ → List ℕ
 owned ws t = own ws t (itemTotal ws)
 
+-- whether table t has one
+abbrev pub inTable : List ℕ → ℕ → ℕ → Bool
+inTable ws t i = eqb (itemTable ws i) t
+
+unfoldable pub hasItems : List ℕ → ℕ → Bool
+hasItems ws t = someBelow (inTable ws t) (itemTotal ws)
+
 -- how many of the first n items are in the tables before t
 unfoldable pub earlier : List ℕ → ℕ → ℕ → ℕ
 earlier ws n zero = 0
@@ -33,10 +42,11 @@ earlier ws n (suc t) = earlier ws n t + length (own ws t n)
 unfoldable pub slotOf : List ℕ → ℕ → ℕ
 slotOf ws t = earlier ws (itemTotal ws) t
 
--- the words have room for all items that they count, and their links hold the empty mark
+-- the words have room for all items that they count, each is in a table that there is, and the links hold the empty mark
 pub record Fit (ws : List ℕ) : Type 0 where
   pub long : leastWords ≤ length ws
   pub few : itemTotal ws ≤ mostItems
+  pub known : (i : ℕ) → i < itemTotal ws → itemTable ws i < tableTotal ws
   pub empty : (j : ℕ) → j < links → word ws (linkAt j) ≡ emptyMark
 
 -- the items of table t are collected

@@ -1,6 +1,7 @@
 // The items of one table, in the order of their keys.
 use memory::place::ITEMS;
 use memory::place::TABLE;
+use memory::place::TABLES;
 use memory::place::item_word;
 use order::sort::sort;
 ghost use mathlib.Core.Path.{_≡_};
@@ -9,7 +10,27 @@ ghost use lib.ListN.{length, take};
 ghost use Rattle.model.specs.Builder.{mostItems};
 ghost use Rattle.image.specs.Number.{keyOrder};
 ghost use Rattle.order.specs.Key.{keyed, Known};
-ghost use Rattle.roster.specs.Fill.{Fit, Collected, Ordered};
+ghost use Rattle.roster.specs.Fill.{Fit, hasItems, Collected, Ordered};
+
+// Whether table t has an item. A table past the last has none.
+pub fn has_items(words: &[usize], t: usize) -> bool
+    requires { ⌜ Fit (now words) ⌝ }
+    ensures { λ r. ⌜ r ≡ hasItems (now (words .entry)) t ⌝ }
+{
+    if words[TABLES] <= t {
+        return false;
+    }
+    let most = words[ITEMS];
+    let mut i = 0;
+    while i < most {
+        let table = item_word(words, i, TABLE);
+        if table == t {
+            return true;
+        }
+        i += 1;
+    }
+    false
+}
 
 // Puts the items of table t to the front of `out`, in the order in which they were made. Answers how many there are.
 fn collect(words: &[usize], t: usize, out: &mut [usize]) -> usize

@@ -1,4 +1,5 @@
 // All tables, one behind the other.
+use crate::collect::has_items;
 use crate::table::number_table;
 use order::items::number_items;
 ghost use mathlib.Core.Path.{_≡_};
@@ -23,8 +24,8 @@ fn copy_first(src: &[usize], n: usize, out: &mut [usize], at: usize)
     }
 }
 
-// Puts what is known of table t into its slots, which start at `first`. Answers how many items it has.
-fn put_table(
+// Puts what is known of a table t that has items into its slots, which start at `first`. Answers how many items it has.
+fn put_items(
     words: &mut [usize],
     arena: &[u8],
     t: usize,
@@ -45,6 +46,27 @@ fn put_table(
     copy_first(&firsts, n, buckets, first);
     number_items(&items[..n], numbers);
     n
+}
+
+// Puts what is known of table t into its slots, which start at `first`. Answers how many items it has.
+fn put_table(
+    words: &mut [usize],
+    arena: &[u8],
+    t: usize,
+    first: usize,
+    slots: &mut [usize],
+    numbers: &mut [usize],
+    buckets: &mut [usize],
+) -> usize
+    requires { ⌜ Fit (now words) × Fits (now words) t first ⌝ }
+    requires { ⌜ Sized (now slots) (now numbers) (now buckets) ⌝ }
+    ensures { λ _. ⌜ now (words .exit) ≡ now (words .entry) ⌝ }
+    ensures { λ r. ⌜ Put (now (words .entry)) (now (arena .entry)) t first r (now (slots .entry)) (now (slots .exit)) (now (numbers .entry)) (now (numbers .exit)) (now (buckets .entry)) (now (buckets .exit)) ⌝ }
+{
+    if !has_items(words, t) {
+        return 0;
+    }
+    put_items(words, arena, t, first, slots, numbers, buckets)
 }
 
 // Fills the slots of all tables, one behind the other; `heads` gets the first slot and the count of each.

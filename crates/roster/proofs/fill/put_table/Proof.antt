@@ -1,64 +1,24 @@
--- `roster::fill::put_table` meets its contract: the table numbered, then copied into its slots. Assumes nothing.
-use mathlib.Core.Path.{sym}
-use native.Mathlib.Omega.{arith}
-use lib.ListN.{length}
-use Rattle.roster.proofs.FillLaws.{laid-count, laid-few, laid-long, laid-below, put-all}
+-- `roster::fill::put_table` meets its contract: nothing is put for a table that has no item. Assumes nothing.
+use mathlib.Core.Path.{refl, sym, _∙_}
+use borrow.Author.Tests.{not-true}
+use Rattle.roster.proofs.BareLaws.{put-bare}
 use borrow.Author.Needs.{needs}
 use Rattle.roster.proofs.fill.put_table.Statement.{statement}
 use Rattle.roster.proofs.fill.put_table.Tie as tie
 
-slice-aggregate-number-table : tie.Need-slice-aggregate-number-table
-slice-aggregate-number-table c = search needs
-
-slice-aggregate-number-table-2 : tie.Need-slice-aggregate-number-table-2
-slice-aggregate-number-table-2 c = search needs
-
-number-table-requires : tie.Need-number-table-requires
-number-table-requires c κs = search needs
-
-slice-aggregate-copy-first : tie.Need-slice-aggregate-copy-first
-slice-aggregate-copy-first c = search needs
-
-copy-first-requires : tie.Need-copy-first-requires
-copy-first-requires c κs =
-    let s = c .before .before .before .before .before .before .before .before .before .before .before .before .before .before .before in
-    let a = s .args in
-    let l = c .before .before .before .before .before .before .number-table in
-    (omega (arith, laid-few (a .words .now) (a .arena .now) (a .t) (l .result) (l .last .1 .1 .1 .0) (l .last .1 .1 .1 .1 .0) (s .pre .0 .0) (l .ensures .1), l .kept .1 .1 .1 .0), omega (arith, laid-count (a .words .now) (a .arena .now) (a .t) (l .result) (l .last .1 .1 .1 .0) (l .last .1 .1 .1 .1 .0) (s .pre .0 .0) (l .ensures .1), s .pre .0 .1, s .pre .1 .of-slots))
-
-slice-aggregate-copy-first-2 : tie.Need-slice-aggregate-copy-first-2
-slice-aggregate-copy-first-2 c = search needs
-
-copy-first-requires-2 : tie.Need-copy-first-requires-2
-copy-first-requires-2 c κs =
-    let s = c .before .before .before .before .before .before .before .before .before .before .before .before .before .before .before .before .before .before .before .before in
-    let a = s .args in
-    let l = c .before .before .before .before .before .before .before .before .before .before .before .number-table in
-    (omega (arith, laid-few (a .words .now) (a .arena .now) (a .t) (l .result) (l .last .1 .1 .1 .0) (l .last .1 .1 .1 .1 .0) (s .pre .0 .0) (l .ensures .1), l .kept .1 .1 .1 .1 .0), omega (arith, laid-count (a .words .now) (a .arena .now) (a .t) (l .result) (l .last .1 .1 .1 .0) (l .last .1 .1 .1 .1 .0) (s .pre .0 .0) (l .ensures .1), s .pre .0 .1, s .pre .1 .of-buckets))
-
-array-share-prefix-items : tie.Need-array-share-prefix-items
-array-share-prefix-items c =
-    let s = c .before .before .before .before .before .before .before .before .before .before .before .before .before .before .before .before .before .before .before .before .before .before .before in
-    let a = s .args in
-    let l = c .before .before .before .before .before .before .before .before .before .before .before .before .before .before .number-table in
-    omega (arith, laid-few (a .words .now) (a .arena .now) (a .t) (l .result) (l .last .1 .1 .1 .0) (l .last .1 .1 .1 .1 .0) (s .pre .0 .0) (l .ensures .1), l .kept .1 .1 .1 .0)
-
-slice-aggregate-number-items : tie.Need-slice-aggregate-number-items
-slice-aggregate-number-items c =
-    let s = c .before .before .before .before .before .before .before .before .before .before .before .before .before .before .before .before .before .before .before .before .before .before .before .before in
-    let a = s .args in
-    let l = c .before .before .before .before .before .before .before .before .before .before .before .before .before .before .before .number-table in
-    sym (laid-long (a .words .now) (a .arena .now) (a .t) (l .result) (l .last .1 .1 .1 .0) (l .last .1 .1 .1 .1 .0) (s .pre .0 .0) (l .ensures .1))
-
-number-items-requires : tie.Need-number-items-requires
-number-items-requires c κs =
-    let s = c .before .before .before .before .before .before .before .before .before .before .before .before .before .before .before .before .before .before .before .before .before .before .before .before .before in
-    let a = s .args in
-    let l = c .before .before .before .before .before .before .before .before .before .before .before .before .before .before .before .before .number-table in
-    laid-below (a .words .now) (a .arena .now) (a .t) (l .result) (l .last .1 .1 .1 .0) (l .last .1 .1 .1 .1 .0) (s .pre .0 .0) (l .ensures .1) (length (a .numbers .now)) (omega (arith, s .pre .1 .of-numbers))
+has-items-requires : tie.Need-has-items-requires
+has-items-requires c κs = search needs
 
 same-length : tie.Need-same-length
 same-length c = search needs
+
+returns : tie.Need-returns
+returns c =
+    let a = c .before .before .before .before .before .before .before .before .args in
+    (refl, put-bare (a .words .now) (a .arena .now) (a .t) (sym (c .before .has-items .ensures) ∙ not-true _ (c .if1 .taken)) (a .first) (a .slots .now) (a .numbers .now) (a .buckets .now))
+
+put-items-requires : tie.Need-put-items-requires
+put-items-requires c κs = search needs
 
 same-length-2 : tie.Need-same-length-2
 same-length-2 c = search needs
@@ -69,32 +29,22 @@ same-length-3 c = search needs
 same-length-4 : tie.Need-same-length-4
 same-length-4 c = search needs
 
-returns : tie.Need-returns
-returns c =
-    let s = c .before .before .before .before .before .before .before .before .before .before .before .before .before .before .before .before .before .before .before .before .before .before .before .before .before .before .before .before in
-    let a = s .args in
-    let l = c .before .before .before .before .before .before .before .before .before .before .before .before .before .before .before .before .before .before .before .number-table in (
-      l .ensures .0,
-      put-all (a .words .now) (a .arena .now) (a .t) (l .result) (l .last .1 .1 .1 .0) (l .last .1 .1 .1 .1 .0) (s .pre .0 .0) (l .ensures .1) (a .first) (a .slots .now) (c .before .before .before .before .before .before .before .before .before .before .before .before .copy-first .last .1 .1 .0) (a .numbers .now) (c .before .before .number-items .last .1 .0) (a .buckets .now) (c .before .before .before .before .before .before .before .copy-first2 .last .1 .1 .0)
-          (c .before .before .before .before .before .before .before .before .before .before .before .before .copy-first .ensures) (c .before .before .before .before .before .before .before .copy-first2 .ensures) (c .before .before .number-items .ensures),
-    )
+same-length-5 : tie.Need-same-length-5
+same-length-5 c = search needs
+
+returns-2 : tie.Need-returns-2
+returns-2 c = search needs
 
 pub put-table-spec : {M : Type 1} → statement M
 put-table-spec =
     tie.close
     (tie.spec
-    slice-aggregate-number-table
-    slice-aggregate-number-table-2
-    number-table-requires
-    slice-aggregate-copy-first
-    copy-first-requires
-    slice-aggregate-copy-first-2
-    copy-first-requires-2
-    array-share-prefix-items
-    slice-aggregate-number-items
-    number-items-requires
+    has-items-requires
     same-length
+    returns
+    put-items-requires
     same-length-2
     same-length-3
     same-length-4
-    returns)
+    same-length-5
+    returns-2)
