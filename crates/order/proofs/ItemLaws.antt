@@ -17,7 +17,7 @@ use Rattle.image.specs.Number.{keyOrder, hashesOf, numbered, byNumber, indexIn,
 use Rattle.image.proofs.TimesLaws.{times-here, times-cons, index-stands}
 use Rattle.image.proofs.OrderLaws.{length-order, times-order}
 use Rattle.image.proofs.NumberLaws.{places-each, numbering}
-use Rattle.order.specs.Key.{keyAt}
+use Rattle.order.specs.Key.{hashAt}
 use Rattle.order.specs.Items.{AllBelow, hashesIn, itemsAt, numbersPut}
 
 -- ---- lists made one by one
@@ -50,12 +50,11 @@ module _ (f : ℕ → ℕ) (l out : List ℕ) where
 
 -- ---- hashes and items of the table's definition
 
-pub hashes-order : (words arena : List ℕ) (table : Rows) → ((i : ℕ) → Has (table .members) i → table .key i ≡ keyAt words arena i)
-    → hashesIn words arena (keyOrder table) ≡ hashesOf plain table
+pub hashes-order : (words : List ℕ) (table : Rows) → ((i : ℕ) → Has (table .members) i → hashAt words i ≡ hashOf (table .key i))
+    → hashesIn words (keyOrder table) ≡ hashesOf plain table
 unfolding hashesIn hashesOf
-hashes-order words arena table same =
-    map-same (λ (i : ℕ). hashOf (keyAt words arena i)) (λ (i : ℕ). hashBy plain (table .key i)) (keyOrder table)
-    (λ x h. ap hashOf (sym (same x (rw (times-order table x) at h))))
+hashes-order words table same =
+    map-same (hashAt words) (λ (i : ℕ). hashBy plain (table .key i)) (keyOrder table) (λ x h. same x (rw (times-order table x) at h))
 
 pub items-number : (rule : ℕ → ℕ) (table : Rows) → itemsAt (keyOrder table) (numbered (hashesOf rule table)) ≡ byNumber rule table
 unfolding itemsAt byNumber

@@ -2,16 +2,15 @@
 use Prim.Native.Nat.{ℕ, zero, suc, _<_}
 use mathlib.Core.List.{List, map}
 use lib.ListN.{length, getD, set}
-use Rattle.words.specs.Hash.{hashOf}
-use Rattle.order.specs.Key.{keyAt}
+use Rattle.order.specs.Key.{hashAt}
 
 -- every element is below n
 unfoldable pub AllBelow : ℕ → List ℕ → Type 0
 AllBelow n l = (k : ℕ) → k < length l → getD l k 0 < n
 
--- the hashes of the keys of some items
-unfoldable pub hashesIn : List ℕ → List ℕ → List ℕ → List ℕ
-hashesIn words arena run = map (λ (i : ℕ). hashOf (keyAt words arena i)) run
+-- the hashes of some items
+unfoldable pub hashesIn : List ℕ → List ℕ → List ℕ
+hashesIn words run = map (hashAt words) run
 
 -- the items that stand at some places
 unfoldable pub itemsAt : List ℕ → List ℕ → List ℕ

@@ -13,6 +13,10 @@ recordAt i = 1288 + 12 * i
 unfoldable pub keyAt : List ℕ → List ℕ → ℕ → List ℕ
 keyAt words arena i = part arena (getD words (recordAt i + 3) 0) (getD words (recordAt i + 4) 0)
 
+-- its hash, which is the first word
+unfoldable pub hashAt : List ℕ → ℕ → ℕ
+hashAt words i = getD words (recordAt i + 1) 0
+
 -- a table of the given items, by their keys alone
 unfoldable pub keyed : List ℕ → List ℕ → List ℕ → Rows
 keyed words arena members = record { members = members; key = keyAt words arena; content = λ i. Content.container; above = λ i. noItem }

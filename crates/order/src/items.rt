@@ -1,7 +1,5 @@
 // From places to items and numbers: the hash of each place, the item of each number, the number of each item.
-use crate::key::key_of;
-use words::hash::djb_hash;
-use words::wide::word_size;
+use crate::key::hash_of;
 ghost use mathlib.Core.Path.{_≡_};
 ghost use Prim.Native.Nat.{_≤_};
 ghost use lib.ListN.{length};
@@ -9,15 +7,14 @@ ghost use Rattle.words.specs.Store.{putAt};
 ghost use Rattle.order.specs.Key.{Known};
 ghost use Rattle.order.specs.Items.{AllBelow, hashesIn, itemsAt, numbersPut};
 
-// The hashes of the keys of `run`, in its order.
-pub fn hash_all(words: &[usize], arena: &[u8], run: &[usize], hashes: &mut [usize])
+// The hashes of the items of `run`, in its order.
+pub fn hash_all(words: &[usize], run: &[usize], hashes: &mut [usize])
     requires { ⌜ Known (now words) (now run) × (length (now run) ≤ length (now hashes)) ⌝ }
-    ensures { λ _. ⌜ now (hashes .exit) ≡ putAt (now (hashes .entry)) 0 (hashesIn (now (words .entry)) (now (arena .entry)) (now (run .entry))) ⌝ }
+    ensures { λ _. ⌜ now (hashes .exit) ≡ putAt (now (hashes .entry)) 0 (hashesIn (now (words .entry)) (now (run .entry))) ⌝ }
 {
     let mut k = 0;
     while k < run.len() {
-        let hash = djb_hash(key_of(words, arena, run[k]));
-        hashes[k] = word_size(hash);
+        hashes[k] = hash_of(words, run[k]);
         k += 1;
     }
 }

@@ -5,7 +5,7 @@ ghost use Prim.Native.Nat.{_+_, _≤_};
 ghost use lib.ListN.{length};
 ghost use Rattle.words.specs.Store.{part};
 ghost use Rattle.text.specs.Order.{precedes};
-ghost use Rattle.order.specs.Key.{recordAt, keyAt};
+ghost use Rattle.order.specs.Key.{recordAt, keyAt, hashAt};
 
 // The `size` bytes from `at` on, as many of them as there are.
 fn span_of(arena: &[u8], at: usize, size: usize) -> &[u8]
@@ -29,6 +29,15 @@ pub fn key_of<'a>(words: &[usize], arena: &'a [u8], i: usize) -> &'a [u8]
     let start = words[at + 3];
     let size = words[at + 4];
     span_of(arena, start, size)
+}
+
+// The hash of item i.
+pub fn hash_of(words: &[usize], i: usize) -> usize
+    requires { ⌜ recordAt i + 12 ≤ length (now words) ⌝ }
+    ensures { λ r. ⌜ r ≡ hashAt (now (words .entry)) i ⌝ }
+{
+    let at = 1288 + 12 * i;
+    words[at + 1]
 }
 
 // Whether the key of item a comes before that of item b.

@@ -1,12 +1,10 @@
 -- `order::items::hash_all` meets its contract. The invariant: the hashes of the first k items are stored. Assumes nothing.
-use mathlib.Core.Path.{_≡_, refl, ap, _∙_}
-use Prim.Native.Nat.{ℕ, _-_, _≤_}
+use mathlib.Core.Path.{_≡_, refl, _∙_}
+use Prim.Native.Nat.{_-_, _≤_}
 use native.Mathlib.Omega.{arith}
-use borrow.Author.Needs.{needs}
-use lib.ListN.{length, take, getD, length-set}
+use lib.ListN.{length, take, length-set}
 use Rattle.words.specs.Store.{putAt}
-use Rattle.words.specs.Hash.{hashOf}
-use Rattle.order.specs.Key.{keyAt}
+use Rattle.order.specs.Key.{hashAt}
 use Rattle.order.specs.Items.{hashesIn}
 use Rattle.order.proofs.KeyLaws.{known-at}
 use Rattle.order.proofs.ItemLaws.{made-start, made-turn, made-end}
@@ -14,53 +12,45 @@ use Rattle.order.proofs.items.hash_all.Statement.{statement}
 use Rattle.order.proofs.items.hash_all.Tie as tie
 
 abbrev Inv-loop : tie.InvT-loop
-Inv-loop words arena run hashes₀ k₀ hashes k =
-    (k ≤ length run) × (length hashes ≡ length hashes₀) × (hashes ≡ putAt hashes₀ 0 (hashesIn words arena (take k run)))
+Inv-loop words run hashes₀ k₀ hashes k =
+    (k ≤ length run) × (length hashes ≡ length hashes₀) × (hashes ≡ putAt hashes₀ 0 (hashesIn words (take k run)))
 
 abbrev μ-loop : tie.MeasureT-loop
-μ-loop words arena run hashes₀ k₀ hashes k = length run - k
+μ-loop words run hashes₀ k₀ hashes k = length run - k
 
 loop-holds : tie.Need-loop-holds Inv-loop μ-loop
 unfolding hashesIn
-loop-holds c = let a = c .before .before .before .before .args in (omega arith, refl, made-start (λ (i : ℕ). hashOf (keyAt (a .words .now) (a .arena .now) i)) (a .run .now) (a .hashes .now))
+loop-holds c = let a = c .before .before .before .args in (omega arith, refl, made-start (hashAt (a .words .now)) (a .run .now) (a .hashes .now))
 
-mul-key-of : tie.Need-mul-key-of Inv-loop μ-loop
-mul-key-of c = omega arith
+mul-hash-of : tie.Need-mul-hash-of Inv-loop μ-loop
+mul-hash-of c = omega arith
 
-shared-slice-read-key-of : tie.Need-shared-slice-read-key-of Inv-loop μ-loop
-shared-slice-read-key-of c = omega arith
+shared-slice-read-hash-of : tie.Need-shared-slice-read-hash-of Inv-loop μ-loop
+shared-slice-read-hash-of c = omega arith
 
-key-of-requires : tie.Need-key-of-requires Inv-loop μ-loop
-key-of-requires c κs = let s = c .before .before .before .before .before .before .before in known-at (s .args .words .now) (s .args .run .now) (s .pre .0) (c .before .before .loop .k) (omega (arith, c .before .loop-test .taken))
-
-djb-hash-requires : tie.Need-djb-hash-requires Inv-loop μ-loop
-djb-hash-requires c κs = search needs
-
-word-size-requires : tie.Need-word-size-requires Inv-loop μ-loop
-word-size-requires c κs = search needs
+hash-of-requires : tie.Need-hash-of-requires Inv-loop μ-loop
+hash-of-requires c κs = let s = c .before .before .before .before .before .before in known-at (s .args .words .now) (s .args .run .now) (s .pre .0) (c .before .before .loop .k) (omega (arith, c .before .loop-test .taken))
 
 mul-hashes : tie.Need-mul-hashes Inv-loop μ-loop
-mul-hashes c = omega (arith, c .before .before .before .before .before .before .before .before .before .before .pre, c .before .before .before .before .before .before .before .before .before .before .good, c .before .before .before .before .before .loop .inv, c .before .before .before .before .loop-test .taken)
+mul-hashes c = omega (arith, c .before .before .before .before .before .before .before .pre, c .before .before .before .before .before .before .before .good, c .before .before .before .loop .inv, c .before .before .loop-test .taken)
 
 slice-write-hashes : tie.Need-slice-write-hashes Inv-loop μ-loop
-slice-write-hashes c = omega (arith, c .before .before .before .before .before .before .before .before .before .before .pre, c .before .before .before .before .before .loop .inv, c .before .before .before .before .loop-test .taken)
+slice-write-hashes c = omega (arith, c .before .before .before .before .before .before .before .pre, c .before .before .before .loop .inv, c .before .before .loop-test .taken)
 
 add-k : tie.Need-add-k Inv-loop μ-loop
-add-k c = omega (arith, c .before .before .before .before .before .before .before .before .before .before .good, c .before .before .before .before .loop-test .taken)
+add-k c = omega (arith, c .before .before .before .before .before .before .before .good, c .before .before .loop-test .taken)
 
 loop-less : tie.Need-loop-less Inv-loop μ-loop
-loop-less c = omega (arith, c .before .before .before .before .loop-test .taken)
+loop-less c = omega (arith, c .before .before .loop-test .taken)
 
 loop-again : tie.Need-loop-again Inv-loop μ-loop
 unfolding hashesIn
 loop-again c =
-    let a = c .before .before .before .before .before .before .before .before .before .before .args in
-    let l = c .before .before .before .before .before .loop in
-    let v : c .word-size .result ≡ hashOf (keyAt (a .words .now) (a .arena .now) (getD (a .run .now) (l .k) 0)) =
-    c .word-size .ensures .0 ∙ c .before .djb-hash .ensures ∙ ap hashOf (c .before .before .key-of .ensures) in (
-      omega (arith, c .before .before .before .before .loop-test .taken),
+    let a = c .before .before .before .before .before .before .before .args in
+    let l = c .before .before .before .loop in (
+      omega (arith, c .before .before .loop-test .taken),
       simp length-set (l .inv .1),
-      rw (l .inv .2) (made-turn (λ (i : ℕ). hashOf (keyAt (a .words .now) (a .arena .now) i)) (a .run .now) (a .hashes .now) (l .k) (c .before .before .before .before .loop-test .taken) v),
+      rw (l .inv .2) (made-turn (hashAt (a .words .now)) (a .run .now) (a .hashes .now) (l .k) (c .before .before .loop-test .taken) (c .hash-of .ensures)),
     )
 
 same-length : tie.Need-same-length Inv-loop μ-loop
@@ -69,8 +59,8 @@ same-length c = omega arith
 returns : tie.Need-returns Inv-loop μ-loop
 unfolding hashesIn
 returns c =
-    let a = c .before .before .before .before .before .before .args in
-    c .before .loop .inv .2 ∙ made-end (λ (i : ℕ). hashOf (keyAt (a .words .now) (a .arena .now) i)) (a .run .now) (a .hashes .now) (c .before .loop .k) (omega (arith, c .loop-test .left))
+    let a = c .before .before .before .before .before .args in
+    c .before .loop .inv .2 ∙ made-end (hashAt (a .words .now)) (a .run .now) (a .hashes .now) (c .before .loop .k) (omega (arith, c .loop-test .left))
 
 pub hash-all-spec : {M : Type 1} → statement M
 hash-all-spec =
@@ -79,11 +69,9 @@ hash-all-spec =
     Inv-loop
     μ-loop
     loop-holds
-    mul-key-of
-    shared-slice-read-key-of
-    key-of-requires
-    djb-hash-requires
-    word-size-requires
+    mul-hash-of
+    shared-slice-read-hash-of
+    hash-of-requires
     mul-hashes
     slice-write-hashes
     add-k
