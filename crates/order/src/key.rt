@@ -1,34 +1,26 @@
 // The key of an item: a part of the arena, where the item's record in the words says.
+use memory::place::HASH;
+use memory::place::ITEM_SIZE;
+use memory::place::ITEMS_FROM;
+use memory::place::KEY;
+use memory::place::KEY_SIZE;
+use memory::place::part_of;
 use text::keyorder::less;
 ghost use mathlib.Core.Path.{_≡_};
 ghost use Prim.Native.Nat.{_+_, _≤_};
 ghost use lib.ListN.{length};
-ghost use Rattle.words.specs.Store.{part};
 ghost use Rattle.text.specs.Order.{precedes};
 ghost use Rattle.order.specs.Key.{recordAt, keyAt, hashAt};
-
-// The `size` bytes from `at` on, as many of them as there are.
-fn span_of(arena: &[u8], at: usize, size: usize) -> &[u8]
-    ensures { λ r. ⌜ now r ≡ part (now (arena .entry)) at size ⌝ }
-{
-    if arena.len() <= at {
-        return &arena[..0];
-    }
-    if arena.len() - at <= size {
-        return &arena[at..];
-    }
-    &arena[at..at + size]
-}
 
 // The key of item i.
 pub fn key_of<'a>(words: &[usize], arena: &'a [u8], i: usize) -> &'a [u8]
     requires { ⌜ recordAt i + 12 ≤ length (now words) ⌝ }
     ensures { λ r. ⌜ now r ≡ keyAt (now (words .entry)) (now (arena .entry)) i ⌝ }
 {
-    let at = 1288 + 12 * i;
-    let start = words[at + 3];
-    let size = words[at + 4];
-    span_of(arena, start, size)
+    let at = ITEMS_FROM + ITEM_SIZE * i;
+    let start = words[at + KEY];
+    let size = words[at + KEY_SIZE];
+    part_of(arena, start, size)
 }
 
 // The hash of item i.
@@ -36,8 +28,8 @@ pub fn hash_of(words: &[usize], i: usize) -> usize
     requires { ⌜ recordAt i + 12 ≤ length (now words) ⌝ }
     ensures { λ r. ⌜ r ≡ hashAt (now (words .entry)) i ⌝ }
 {
-    let at = 1288 + 12 * i;
-    words[at + 1]
+    let at = ITEMS_FROM + ITEM_SIZE * i;
+    words[at + HASH]
 }
 
 // Whether the key of item a comes before that of item b.

@@ -28,12 +28,12 @@ mul-size c = search needs
 shared-slice-read-size : tie.Need-shared-slice-read-size
 shared-slice-read-size c = search needs
 
-span-of-requires : tie.Need-span-of-requires
-span-of-requires c κs = search needs
+part-of-requires : tie.Need-part-of-requires
+part-of-requires c κs = search needs
 
 returns : tie.Need-returns
 unfolding keyAt
-returns c = c .span-of .ensures
+returns c = c .part-of .ensures
 
 pub key-of-spec : {M : Type 1} → statement M
 key-of-spec =
@@ -47,5 +47,5 @@ key-of-spec =
     add-size
     mul-size
     shared-slice-read-size
-    span-of-requires
+    part-of-requires
     returns)
