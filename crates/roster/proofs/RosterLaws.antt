@@ -15,12 +15,15 @@ use Rattle.image.specs.Number.{hashesOf, bucketStart, itemOf, numberOf}
 use Rattle.whole.specs.Whole.{wholeSound}
 use Rattle.whole.proofs.WholeFacts.{whole-facts}
 use Rattle.roster.specs.Roster.{stateOf, firstSlot, slotCount, slotItem, itemNumber, bucketWord, Rostered}
-use Rattle.roster.specs.Fill.{slotOf, Fit, Sized, Filled}
+use Rattle.roster.specs.Fill.{slotOf, Fit, Judged, Sized, Filled}
 use Rattle.roster.proofs.OwnLaws.{slot-few}
 use Rattle.roster.proofs.StateLaws.{state-members}
 
 pub whole-fit : (ws ar : List ℕ) → wholeSound ws ar ≡ true → Fit ws
 whole-fit ws ar e = let w = whole-facts ws ar e in record { long = w .facts .long; few = w .facts .items; known = w .table; empty = w .link }
+
+pub whole-judged : (ws ar : List ℕ) → wholeSound ws ar ≡ true → Judged ws ar
+whole-judged ws ar e = record { fit = whole-fit ws ar e; hash = whole-facts ws ar e .hash }
 
 module _ (heads slots numbers buckets r r1 r2 r3 r4 : List ℕ) (long : length r ≡ 3200) (head : length heads ≡ 128) (size : Sized slots numbers buckets)
     (e1 : r1 ≡ putAt r 0 (take 128 heads)) (e2 : r2 ≡ putAt r1 128 (take 1024 slots)) (e3 : r3 ≡ putAt r2 1152 (take 1024 numbers))

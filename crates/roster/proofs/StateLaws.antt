@@ -2,7 +2,7 @@
 use Prim.Native.Nat.{ℕ, zero, suc, _+_, _≤_, _<_}
 use native.Mathlib.Nat.{eq-or-lt-of-le, le-of-suc-le-suc}
 use native.Mathlib.Omega.{arith}
-use mathlib.Core.Path.{_≡_, refl, ap, _∙_}
+use mathlib.Core.Path.{_≡_, refl, sym, ap, _∙_}
 use mathlib.Core.Bool.{Bool}
 use mathlib.Core.Logic.{⊎-elim}
 use mathlib.Core.List.{List, [], _∷_, _++_}
@@ -10,12 +10,13 @@ use lib.Dec.{eqb}
 use lib.ListN.{length, getD, length-append, List·getD-append}
 use lib.Seq.{getD-at}
 use Rattle.words.specs.Choice.{pick}
+use Rattle.words.specs.Hash.{hashOf}
 use Rattle.model.specs.Table.{Entry, Has, times, entryAt, membersBelow, rowsOf}
 use Rattle.memory.specs.Memory.{itemTotal, itemTable, keyOf}
 use Rattle.memory.specs.Meaning.{entryOf, listed, meaning}
-use Rattle.order.specs.Key.{keyAt, Known}
+use Rattle.order.specs.Key.{keyAt, hashAt, Known}
 use Rattle.roster.specs.Roster.{stateOf}
-use Rattle.roster.specs.Fill.{own, owned, Fit}
+use Rattle.roster.specs.Fill.{own, owned, Fit, Judged}
 use Rattle.roster.proofs.OwnLaws.{length-own, own-below, own-once}
 
 length-listed : (f : ℕ → Entry) (n : ℕ) → length (listed f n) ≡ n
@@ -69,6 +70,10 @@ module _ (ws ar : List ℕ) where
 
   pub state-same : (t i : ℕ) → Has (stateOf ws ar t .members) i → stateOf ws ar t .key i ≡ keyAt ws ar i
   state-same t i h = state-key t i (state-below t i h)
+
+  pub state-hash : (t i : ℕ) → Judged ws ar → Has (stateOf ws ar t .members) i → hashAt ws i ≡ hashOf (stateOf ws ar t .key i)
+  unfolding hashAt keyOf keyAt
+  state-hash t i judged h = judged .hash i (state-below t i h) ∙ ap hashOf (sym (state-same t i h))
 
   pub state-once : (t x : ℕ) → times x (stateOf ws ar t .members) ≤ 1
   unfolding owned

@@ -5,32 +5,32 @@ use mathlib.Core.Path.{_≡_, sym, ap, _∙_}
 use mathlib.Core.List.{List}
 use lib.ListN.{length, take, drop, length-drop, length-map}
 use lib.Seq.{length-take-le, getD-take, getD-drop}
-use Rattle.words.specs.Hash.{hashOf, plain}
+use Rattle.words.specs.Hash.{plain}
 use Rattle.words.specs.Store.{putAt}
 use Rattle.words.proofs.StoreLaws.{part-put, length-put}
 use Rattle.image.specs.Number.{keyOrder, hashesOf, numbered, byNumber}
 use Rattle.image.proofs.OrderLaws.{length-order, times-order}
 use Rattle.image.proofs.NumberLaws.{length-hashes, places-each, length-by-number}
-use Rattle.order.specs.Key.{keyAt, keyed, Known}
+use Rattle.order.specs.Key.{keyed, hashAt, Known}
 use Rattle.order.specs.Chain.{Empty, starts}
 use Rattle.order.specs.Items.{AllBelow, hashesIn, itemsAt}
 use Rattle.order.proofs.KeyLaws.{order-keyed}
 use Rattle.order.proofs.ChainLaws.{length-starts}
 use Rattle.order.proofs.ItemLaws.{hashes-order, items-number, numbered-below}
 use Rattle.roster.specs.Roster.{stateOf}
-use Rattle.roster.specs.Fill.{owned, Fit, Collected, Ordered, Laid}
-use Rattle.roster.proofs.StateLaws.{state-members, state-same, state-below, owned-known, owned-few}
+use Rattle.roster.specs.Fill.{owned, Fit, Judged, Collected, Ordered, Laid}
+use Rattle.roster.proofs.StateLaws.{state-members, state-same, state-hash, state-below, owned-known, owned-few}
 
 -- what was stored at the front is there
 pub take-front : (l xs : List ℕ) (n : ℕ) → length xs ≡ n → n ≤ length l → take n (putAt l 0 xs) ≡ xs
 take-front l xs n e h = ap (λ (k : ℕ). take k (putAt l 0 xs)) (sym e) ∙ part-put l 0 xs (omega arith)
 
-pub length-hashes-in : (ws ar run : List ℕ) → length (hashesIn ws ar run) ≡ length run
+pub length-hashes-in : (ws run : List ℕ) → length (hashesIn ws run) ≡ length run
 unfolding hashesIn
-length-hashes-in ws ar run = length-map run (λ (i : ℕ). hashOf (keyAt ws ar i))
+length-hashes-in ws run = length-map run (hashAt ws)
 
-pub hashes-front : (ws ar run h h′ : List ℕ) → length run ≤ length h → h′ ≡ putAt h 0 (hashesIn ws ar run) → take (length run) h′ ≡ hashesIn ws ar run
-hashes-front ws ar run h h′ room e = ap (take (length run)) e ∙ take-front h (hashesIn ws ar run) (length run) (length-hashes-in ws ar run) room
+pub hashes-front : (ws run h h′ : List ℕ) → length run ≤ length h → h′ ≡ putAt h 0 (hashesIn ws run) → take (length run) h′ ≡ hashesIn ws run
+hashes-front ws run h h′ room e = ap (take (length run)) e ∙ take-front h (hashesIn ws run) (length run) (length-hashes-in ws run) room
 
 -- ---- the links
 
@@ -65,24 +65,24 @@ module _ (ws : List ℕ) (t n : ℕ) (out out′ : List ℕ) (fit : Fit ws) (roo
 
 -- ---- sorted, then numbered
 
-module _ (ws ar : List ℕ) (t n : ℕ) (run : List ℕ) (fit : Fit ws) (o : Ordered ws ar t n run) where
+module _ (ws ar : List ℕ) (t n : ℕ) (run : List ℕ) (judged : Judged ws ar) (o : Ordered ws ar t n run) where
   pub ordered-few : n ≤ 1024
-  ordered-few = omega (arith, owned-few ws t fit, o .count, ap length (state-members ws ar t))
+  ordered-few = omega (arith, owned-few ws t (judged .fit), o .count, ap length (state-members ws ar t))
 
   pub ordered-long : length (take n run) ≡ n
   ordered-long = ap length (o .order) ∙ length-order (stateOf ws ar t) ∙ sym (o .count)
 
   order-known : Known ws (keyOrder (stateOf ws ar t))
   unfolding Known
-  order-known i h = omega (arith, state-below ws ar t i (rw (times-order (stateOf ws ar t) i) at h), fit .long, fit .few)
+  order-known i h = omega (arith, state-below ws ar t i (rw (times-order (stateOf ws ar t) i) at h), judged .fit .long, judged .fit .few)
 
   pub ordered-known : Known ws (take n run)
   ordered-known = rw (o .order) order-known
 
-  ordered-hashes : hashesIn ws ar (take n run) ≡ hashesOf plain (stateOf ws ar t)
-  ordered-hashes = ap (hashesIn ws ar) (o .order) ∙ hashes-order ws ar (stateOf ws ar t) (state-same ws ar t)
+  ordered-hashes : hashesIn ws (take n run) ≡ hashesOf plain (stateOf ws ar t)
+  ordered-hashes = ap (hashesIn ws) (o .order) ∙ hashes-order ws (stateOf ws ar t) (λ i h. state-hash ws ar t i judged h)
 
-  module _ (order order′ : List ℕ) (room : 1024 ≤ length order) (e : order′ ≡ putAt order 0 (numbered (hashesIn ws ar (take n run)))) where
+  module _ (order order′ : List ℕ) (room : 1024 ≤ length order) (e : order′ ≡ putAt order 0 (numbered (hashesIn ws (take n run)))) where
     pub places-are : take n order′ ≡ numbered (hashesOf plain (stateOf ws ar t))
     places-are =
         ap (take n) (e ∙ ap (λ (l : List ℕ). putAt order 0 (numbered l)) ordered-hashes)
@@ -99,7 +99,7 @@ module _ (ws ar : List ℕ) (t n : ℕ) (run : List ℕ) (fit : Fit ws) (o : Ord
         ap (λ (l : List ℕ). itemsAt l (take n order′)) (o .order) ∙ ap (itemsAt (keyOrder (stateOf ws ar t))) places-are ∙ items-number plain (stateOf ws ar t)
 
     pub laid : (items items′ firsts firsts′ : List ℕ) → 1024 ≤ length items → 1024 ≤ length firsts
-        → items′ ≡ putAt items 0 (itemsAt (take n run) (take n order′)) → firsts′ ≡ putAt firsts 0 (starts (hashesIn ws ar (take n run)))
+        → items′ ≡ putAt items 0 (itemsAt (take n run) (take n order′)) → firsts′ ≡ putAt firsts 0 (starts (hashesIn ws (take n run)))
         → Laid ws ar t n items′ firsts′
     laid items items′ firsts firsts′ in-items in-firsts ei ef = record {
       count = o .count;

@@ -8,10 +8,10 @@ use lib.Dec.{eqb}
 use lib.ListN.{length, getD, take}
 use Rattle.words.specs.Choice.{pick}
 use Rattle.words.specs.Below.{someBelow}
-use Rattle.words.specs.Hash.{plain}
+use Rattle.words.specs.Hash.{hashOf, plain}
 use Rattle.words.specs.Store.{putAt}
 use Rattle.model.specs.Builder.{mostItems}
-use Rattle.memory.specs.Memory.{word, leastWords, links, linkAt, emptyMark, tableTotal, itemTotal, itemTable}
+use Rattle.memory.specs.Memory.{word, leastWords, links, linkAt, emptyMark, tableTotal, itemTotal, itemTable, itemHash, keyOf}
 use Rattle.image.specs.Number.{keyOrder, hashesOf, bucketStart, byNumber, itemOf, numberOf}
 use Rattle.order.specs.Chain.{starts}
 use Rattle.order.specs.Items.{numbersPut}
@@ -48,6 +48,11 @@ pub record Fit (ws : List ℕ) : Type 0 where
   pub few : itemTotal ws ≤ mostItems
   pub known : (i : ℕ) → i < itemTotal ws → itemTable ws i < tableTotal ws
   pub empty : (j : ℕ) → j < links → word ws (linkAt j) ≡ emptyMark
+
+-- they fit, and the hash word of every item is the hash of its key
+pub record Judged (ws ar : List ℕ) : Type 0 where
+  pub fit : Fit ws
+  pub hash : (i : ℕ) → i < itemTotal ws → itemHash ws i ≡ hashOf (keyOf ws ar i)
 
 -- the items of table t are collected
 pub record Collected (ws : List ℕ) (t n : ℕ) (out out′ : List ℕ) : Type 0 where

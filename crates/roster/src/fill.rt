@@ -10,7 +10,7 @@ ghost use Rattle.words.specs.Store.{putAt};
 ghost use Rattle.model.specs.Builder.{mostTables};
 ghost use Rattle.whole.specs.Whole.{wholeSound};
 ghost use Rattle.roster.specs.Roster.{rosterSize, Rostered};
-ghost use Rattle.roster.specs.Fill.{Fit, Fits, Sized, Put, Filled};
+ghost use Rattle.roster.specs.Fill.{Judged, Fits, Sized, Put, Filled};
 
 // Copies the first n words of `src` to `out` from `at` on.
 fn copy_first(src: &[usize], n: usize, out: &mut [usize], at: usize)
@@ -34,7 +34,7 @@ fn put_items(
     numbers: &mut [usize],
     buckets: &mut [usize],
 ) -> usize
-    requires { ⌜ Fit (now words) × Fits (now words) t first ⌝ }
+    requires { ⌜ Judged (now words) (now arena) × Fits (now words) t first ⌝ }
     requires { ⌜ Sized (now slots) (now numbers) (now buckets) ⌝ }
     ensures { λ _. ⌜ now (words .exit) ≡ now (words .entry) ⌝ }
     ensures { λ r. ⌜ Put (now (words .entry)) (now (arena .entry)) t first r (now (slots .entry)) (now (slots .exit)) (now (numbers .entry)) (now (numbers .exit)) (now (buckets .entry)) (now (buckets .exit)) ⌝ }
@@ -58,7 +58,7 @@ fn put_table(
     numbers: &mut [usize],
     buckets: &mut [usize],
 ) -> usize
-    requires { ⌜ Fit (now words) × Fits (now words) t first ⌝ }
+    requires { ⌜ Judged (now words) (now arena) × Fits (now words) t first ⌝ }
     requires { ⌜ Sized (now slots) (now numbers) (now buckets) ⌝ }
     ensures { λ _. ⌜ now (words .exit) ≡ now (words .entry) ⌝ }
     ensures { λ r. ⌜ Put (now (words .entry)) (now (arena .entry)) t first r (now (slots .entry)) (now (slots .exit)) (now (numbers .entry)) (now (numbers .exit)) (now (buckets .entry)) (now (buckets .exit)) ⌝ }
@@ -78,7 +78,7 @@ fn fill(
     numbers: &mut [usize],
     buckets: &mut [usize],
 )
-    requires { ⌜ Fit (now words) × (length (now heads) ≡ mostTables + mostTables) ⌝ }
+    requires { ⌜ Judged (now words) (now arena) × (length (now heads) ≡ mostTables + mostTables) ⌝ }
     requires { ⌜ Sized (now slots) (now numbers) (now buckets) ⌝ }
     ensures { λ _. ⌜ now (words .exit) ≡ now (words .entry) ⌝ }
     ensures { λ _. ⌜ Filled (now (words .entry)) (now (arena .entry)) mostTables (now (heads .exit)) (now (slots .exit)) (now (numbers .exit)) (now (buckets .exit)) ⌝ }

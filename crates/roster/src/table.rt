@@ -14,7 +14,7 @@ ghost use Rattle.image.specs.Number.{numbered};
 ghost use Rattle.order.specs.Key.{Known};
 ghost use Rattle.order.specs.Chain.{starts};
 ghost use Rattle.order.specs.Items.{hashesIn};
-ghost use Rattle.roster.specs.Fill.{Fit, Laid};
+ghost use Rattle.roster.specs.Fill.{Fit, Judged, Laid};
 
 // Numbers places by their hashes. The chains run through the links of the words, which hold the empty mark before and after.
 fn number_links(words: &mut [usize], hashes: &[usize], order: &mut [usize], firsts: &mut [usize])
@@ -28,22 +28,16 @@ fn number_links(words: &mut [usize], hashes: &[usize], order: &mut [usize], firs
 }
 
 // Numbers the items of `run`: `order` gets the place of each number, `firsts` the first number of each bucket.
-fn number_run(
-    words: &mut [usize],
-    arena: &[u8],
-    run: &[usize],
-    order: &mut [usize],
-    firsts: &mut [usize],
-)
+fn number_run(words: &mut [usize], run: &[usize], order: &mut [usize], firsts: &mut [usize])
     requires { ⌜ Fit (now words) × Known (now words) (now run) × (length (now run) ≤ mostItems) ⌝ }
     requires { ⌜ (mostItems ≤ length (now order)) × (mostItems ≤ length (now firsts)) ⌝ }
     ensures { λ _. ⌜ now (words .exit) ≡ now (words .entry) ⌝ }
-    ensures { λ _. ⌜ now (order .exit) ≡ putAt (now (order .entry)) 0 (numbered (hashesIn (now (words .entry)) (now (arena .entry)) (now (run .entry)))) ⌝ }
-    ensures { λ _. ⌜ now (firsts .exit) ≡ putAt (now (firsts .entry)) 0 (starts (hashesIn (now (words .entry)) (now (arena .entry)) (now (run .entry)))) ⌝ }
+    ensures { λ _. ⌜ now (order .exit) ≡ putAt (now (order .entry)) 0 (numbered (hashesIn (now (words .entry)) (now (run .entry)))) ⌝ }
+    ensures { λ _. ⌜ now (firsts .exit) ≡ putAt (now (firsts .entry)) 0 (starts (hashesIn (now (words .entry)) (now (run .entry)))) ⌝ }
 {
     let n = run.len();
     let mut hashes = [0usize; 1024];
-    hash_all(words, arena, run, &mut hashes);
+    hash_all(words, run, &mut hashes);
     number_links(words, &hashes[..n], order, firsts);
 }
 
@@ -55,14 +49,14 @@ pub fn number_table(
     items: &mut [usize],
     firsts: &mut [usize],
 ) -> usize
-    requires { ⌜ Fit (now words) × (mostItems ≤ length (now items)) × (mostItems ≤ length (now firsts)) ⌝ }
+    requires { ⌜ Judged (now words) (now arena) × (mostItems ≤ length (now items)) × (mostItems ≤ length (now firsts)) ⌝ }
     ensures { λ _. ⌜ now (words .exit) ≡ now (words .entry) ⌝ }
     ensures { λ r. ⌜ Laid (now (words .entry)) (now (arena .entry)) t r (now (items .exit)) (now (firsts .exit)) ⌝ }
 {
     let mut run = [0usize; 1024];
     let mut order = [0usize; 1024];
     let n = in_order(words, arena, t, &mut run);
-    number_run(words, arena, &run[..n], &mut order, firsts);
+    number_run(words, &run[..n], &mut order, firsts);
     items_at(&run[..n], &order[..n], items);
     n
 }

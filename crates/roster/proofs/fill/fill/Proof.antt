@@ -27,7 +27,7 @@ put-table-requires c κs =
     let s = c .before .before .before .before .before .before .before .before .before .before .before .before in
     let a = s .args in
     let l = c .before .before .before .before .before .loop in
-    let fits : Fits (a .words .now) (l .t) (l .first) = omega (arith, slot-few (a .words .now) (l .t), l .inv .1, s .pre .0 .0 .few) in
+    let fits : Fits (a .words .now) (l .t) (l .first) = omega (arith, slot-few (a .words .now) (l .t), l .inv .1, s .pre .0 .0 .fit .few) in
     ((rw (l .inv .5) (s .pre .0 .0), rw (l .inv .5) fits), l .inv .3)
 
 mul-heads : tie.Need-mul-heads Inv-loop μ-loop
@@ -73,7 +73,7 @@ add-first c =
     omega (
       arith,
       put-few (a .words .now) (a .arena .now) (l .t) (l .first) (p .result) (l .heads) (l .slots) (p .last .1 .1 .1 .1 .0) (l .numbers) (p .last .1 .1 .1 .1 .1 .0)
-          (l .buckets) (p .last .1 .1 .1 .1 .1 .1 .0) (s .pre .0 .0) (c .before .before .before .before .before .before .before .before .before .before .before .before .before .loop-test .taken) (omega (arith, l .inv .2, s .pre .0 .1)) (l .inv .3) (l .inv .1) put (l .inv .4),
+          (l .buckets) (p .last .1 .1 .1 .1 .1 .1 .0) (s .pre .0 .0 .fit) (c .before .before .before .before .before .before .before .before .before .before .before .before .before .loop-test .taken) (omega (arith, l .inv .2, s .pre .0 .1)) (l .inv .3) (l .inv .1) put (l .inv .4),
     )
 
 add-t : tie.Need-add-t Inv-loop μ-loop
@@ -91,7 +91,7 @@ loop-again c =
     let put = rw (l .inv .5) at (p .ensures .1) in (
       omega (arith, c .before .before .before .before .before .before .before .before .before .before .before .before .before .loop-test .taken),
       put-next (a .words .now) (a .arena .now) (l .t) (l .first) (p .result) (l .heads) (l .slots) (p .last .1 .1 .1 .1 .0) (l .numbers) (p .last .1 .1 .1 .1 .1 .0)
-          (l .buckets) (p .last .1 .1 .1 .1 .1 .1 .0) (s .pre .0 .0) (c .before .before .before .before .before .before .before .before .before .before .before .before .before .loop-test .taken) (omega (arith, l .inv .2, s .pre .0 .1)) (l .inv .3) (l .inv .1) put (l .inv .4),
+          (l .buckets) (p .last .1 .1 .1 .1 .1 .1 .0) (s .pre .0 .0 .fit) (c .before .before .before .before .before .before .before .before .before .before .before .before .before .loop-test .taken) (omega (arith, l .inv .2, s .pre .0 .1)) (l .inv .3) (l .inv .1) put (l .inv .4),
       simp length-set (l .inv .2),
       record {
         of-slots = p .kept .1 .1 .1 .1 .0 ∙ l .inv .3 .of-slots;
@@ -99,7 +99,7 @@ loop-again c =
         of-buckets = p .kept .1 .1 .1 .1 .1 .1 .0 ∙ l .inv .3 .of-buckets;
       },
       filled-more (a .words .now) (a .arena .now) (l .t) (l .first) (p .result) (l .heads) (l .slots) (p .last .1 .1 .1 .1 .0) (l .numbers) (p .last .1 .1 .1 .1 .1 .0)
-          (l .buckets) (p .last .1 .1 .1 .1 .1 .1 .0) (s .pre .0 .0) (c .before .before .before .before .before .before .before .before .before .before .before .before .before .loop-test .taken) (omega (arith, l .inv .2, s .pre .0 .1)) (l .inv .3) (l .inv .1) put (l .inv .4),
+          (l .buckets) (p .last .1 .1 .1 .1 .1 .1 .0) (s .pre .0 .0 .fit) (c .before .before .before .before .before .before .before .before .before .before .before .before .before .loop-test .taken) (omega (arith, l .inv .2, s .pre .0 .1)) (l .inv .3) (l .inv .1) put (l .inv .4),
       p .ensures .0 ∙ l .inv .5,
     )
 

@@ -24,7 +24,7 @@ copy-first-requires c κs =
     let s = c .before .before .before .before .before .before .before .before .before .before .before .before .before .before .before in
     let a = s .args in
     let l = c .before .before .before .before .before .before .number-table in
-    (omega (arith, laid-few (a .words .now) (a .arena .now) (a .t) (l .result) (l .last .1 .1 .1 .0) (l .last .1 .1 .1 .1 .0) (s .pre .0 .0) (l .ensures .1), l .kept .1 .1 .1 .0), omega (arith, laid-count (a .words .now) (a .arena .now) (a .t) (l .result) (l .last .1 .1 .1 .0) (l .last .1 .1 .1 .1 .0) (s .pre .0 .0) (l .ensures .1), s .pre .0 .1, s .pre .1 .of-slots))
+    (omega (arith, laid-few (a .words .now) (a .arena .now) (a .t) (l .result) (l .last .1 .1 .1 .0) (l .last .1 .1 .1 .1 .0) (s .pre .0 .0 .fit) (l .ensures .1), l .kept .1 .1 .1 .0), omega (arith, laid-count (a .words .now) (a .arena .now) (a .t) (l .result) (l .last .1 .1 .1 .0) (l .last .1 .1 .1 .1 .0) (s .pre .0 .0 .fit) (l .ensures .1), s .pre .0 .1, s .pre .1 .of-slots))
 
 slice-aggregate-copy-first-2 : tie.Need-slice-aggregate-copy-first-2
 slice-aggregate-copy-first-2 c = search needs
@@ -34,28 +34,28 @@ copy-first-requires-2 c κs =
     let s = c .before .before .before .before .before .before .before .before .before .before .before .before .before .before .before .before .before .before .before .before in
     let a = s .args in
     let l = c .before .before .before .before .before .before .before .before .before .before .before .number-table in
-    (omega (arith, laid-few (a .words .now) (a .arena .now) (a .t) (l .result) (l .last .1 .1 .1 .0) (l .last .1 .1 .1 .1 .0) (s .pre .0 .0) (l .ensures .1), l .kept .1 .1 .1 .1 .0), omega (arith, laid-count (a .words .now) (a .arena .now) (a .t) (l .result) (l .last .1 .1 .1 .0) (l .last .1 .1 .1 .1 .0) (s .pre .0 .0) (l .ensures .1), s .pre .0 .1, s .pre .1 .of-buckets))
+    (omega (arith, laid-few (a .words .now) (a .arena .now) (a .t) (l .result) (l .last .1 .1 .1 .0) (l .last .1 .1 .1 .1 .0) (s .pre .0 .0 .fit) (l .ensures .1), l .kept .1 .1 .1 .1 .0), omega (arith, laid-count (a .words .now) (a .arena .now) (a .t) (l .result) (l .last .1 .1 .1 .0) (l .last .1 .1 .1 .1 .0) (s .pre .0 .0 .fit) (l .ensures .1), s .pre .0 .1, s .pre .1 .of-buckets))
 
 array-share-prefix-items : tie.Need-array-share-prefix-items
 array-share-prefix-items c =
     let s = c .before .before .before .before .before .before .before .before .before .before .before .before .before .before .before .before .before .before .before .before .before .before .before in
     let a = s .args in
     let l = c .before .before .before .before .before .before .before .before .before .before .before .before .before .before .number-table in
-    omega (arith, laid-few (a .words .now) (a .arena .now) (a .t) (l .result) (l .last .1 .1 .1 .0) (l .last .1 .1 .1 .1 .0) (s .pre .0 .0) (l .ensures .1), l .kept .1 .1 .1 .0)
+    omega (arith, laid-few (a .words .now) (a .arena .now) (a .t) (l .result) (l .last .1 .1 .1 .0) (l .last .1 .1 .1 .1 .0) (s .pre .0 .0 .fit) (l .ensures .1), l .kept .1 .1 .1 .0)
 
 slice-aggregate-number-items : tie.Need-slice-aggregate-number-items
 slice-aggregate-number-items c =
     let s = c .before .before .before .before .before .before .before .before .before .before .before .before .before .before .before .before .before .before .before .before .before .before .before .before in
     let a = s .args in
     let l = c .before .before .before .before .before .before .before .before .before .before .before .before .before .before .before .number-table in
-    sym (laid-long (a .words .now) (a .arena .now) (a .t) (l .result) (l .last .1 .1 .1 .0) (l .last .1 .1 .1 .1 .0) (s .pre .0 .0) (l .ensures .1))
+    sym (laid-long (a .words .now) (a .arena .now) (a .t) (l .result) (l .last .1 .1 .1 .0) (l .last .1 .1 .1 .1 .0) (s .pre .0 .0 .fit) (l .ensures .1))
 
 number-items-requires : tie.Need-number-items-requires
 number-items-requires c κs =
     let s = c .before .before .before .before .before .before .before .before .before .before .before .before .before .before .before .before .before .before .before .before .before .before .before .before .before in
     let a = s .args in
     let l = c .before .before .before .before .before .before .before .before .before .before .before .before .before .before .before .before .number-table in
-    laid-below (a .words .now) (a .arena .now) (a .t) (l .result) (l .last .1 .1 .1 .0) (l .last .1 .1 .1 .1 .0) (s .pre .0 .0) (l .ensures .1) (length (a .numbers .now)) (omega (arith, s .pre .1 .of-numbers))
+    laid-below (a .words .now) (a .arena .now) (a .t) (l .result) (l .last .1 .1 .1 .0) (l .last .1 .1 .1 .1 .0) (s .pre .0 .0 .fit) (l .ensures .1) (length (a .numbers .now)) (omega (arith, s .pre .1 .of-numbers))
 
 same-length : tie.Need-same-length
 same-length c = search needs
@@ -75,7 +75,7 @@ returns c =
     let a = s .args in
     let l = c .before .before .before .before .before .before .before .before .before .before .before .before .before .before .before .before .before .before .before .number-table in (
       l .ensures .0,
-      put-all (a .words .now) (a .arena .now) (a .t) (l .result) (l .last .1 .1 .1 .0) (l .last .1 .1 .1 .1 .0) (s .pre .0 .0) (l .ensures .1) (a .first) (a .slots .now) (c .before .before .before .before .before .before .before .before .before .before .before .before .copy-first .last .1 .1 .0) (a .numbers .now) (c .before .before .number-items .last .1 .0) (a .buckets .now) (c .before .before .before .before .before .before .before .copy-first2 .last .1 .1 .0)
+      put-all (a .words .now) (a .arena .now) (a .t) (l .result) (l .last .1 .1 .1 .0) (l .last .1 .1 .1 .1 .0) (s .pre .0 .0 .fit) (l .ensures .1) (a .first) (a .slots .now) (c .before .before .before .before .before .before .before .before .before .before .before .before .copy-first .last .1 .1 .0) (a .numbers .now) (c .before .before .number-items .last .1 .0) (a .buckets .now) (c .before .before .before .before .before .before .before .copy-first2 .last .1 .1 .0)
           (c .before .before .before .before .before .before .before .before .before .before .before .before .copy-first .ensures) (c .before .before .before .before .before .before .before .copy-first2 .ensures) (c .before .before .number-items .ensures),
     )
 

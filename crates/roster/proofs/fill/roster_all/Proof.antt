@@ -1,6 +1,6 @@
 -- `roster::fill::roster_all` meets its contract: the parts filled, then copied one behind the other. Assumes nothing.
 use mathlib.Core.Path.{refl}
-use Rattle.roster.proofs.RosterLaws.{whole-fit, rostered}
+use Rattle.roster.proofs.RosterLaws.{whole-judged, rostered}
 use borrow.Author.Needs.{needs}
 use Rattle.roster.proofs.fill.roster_all.Statement.{statement}
 use Rattle.roster.proofs.fill.roster_all.Tie as tie
@@ -18,7 +18,7 @@ slice-aggregate-fill-4 : tie.Need-slice-aggregate-fill-4
 slice-aggregate-fill-4 c = search needs
 
 fill-requires : tie.Need-fill-requires
-fill-requires c κs = let s = c .before .before .before .before .before .before .before .before in ((whole-fit (s .args .words .now) (s .args .arena .now) (s .pre .0), refl), record { of-slots = refl; of-numbers = refl; of-buckets = refl })
+fill-requires c κs = let s = c .before .before .before .before .before .before .before .before in ((whole-judged (s .args .words .now) (s .args .arena .now) (s .pre .0), refl), record { of-slots = refl; of-numbers = refl; of-buckets = refl })
 
 slice-aggregate-copy-first : tie.Need-slice-aggregate-copy-first
 slice-aggregate-copy-first c = search needs

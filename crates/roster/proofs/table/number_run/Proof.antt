@@ -24,15 +24,15 @@ array-share-prefix-hashes c = search needs
 
 slice-aggregate-number-links : tie.Need-slice-aggregate-number-links
 slice-aggregate-number-links c =
-    let s = c .before .before .before .before .before .before .before .before .before .before .before in
+    let s = c .before .before .before .before .before .before .before .before .before .before in
     let call = c .before .before .before .hash-all in
-    sym (length-take-le (length (s .args .run .now)) (call .last .1 .1 .1 .0) (omega (arith, s .pre .0 .2, call .kept .1 .1 .1 .0)))
+    sym (length-take-le (length (s .args .run .now)) (call .last .1 .1 .0) (omega (arith, s .pre .0 .2, call .kept .1 .1 .0)))
 
 number-links-requires : tie.Need-number-links-requires
 number-links-requires c κs =
-    let s = c .before .before .before .before .before .before .before .before .before .before .before .before .before in
+    let s = c .before .before .before .before .before .before .before .before .before .before .before .before in
     let call = c .before .before .before .before .before .hash-all in
-    let long = length-take-le (length (s .args .run .now)) (call .last .1 .1 .1 .0) (omega (arith, s .pre .0 .2, call .kept .1 .1 .1 .0)) in
+    let long = length-take-le (length (s .args .run .now)) (call .last .1 .1 .0) (omega (arith, s .pre .0 .2, call .kept .1 .1 .0)) in
     ((s .pre .0 .0, omega (arith, long, s .pre .0 .2)), s .pre .1)
 
 same-length : tie.Need-same-length
@@ -46,10 +46,10 @@ same-length-3 c = search needs
 
 returns : tie.Need-returns
 returns c =
-    let s = c .before .before .before .before .before .before .before .before .before .before .before .before .before .before .before .before .before .before .before .before in
+    let s = c .before .before .before .before .before .before .before .before .before .before .before .before .before .before .before .before .before .before .before in
     let call = c .before .before .before .before .before .before .number-links in
     let hashed = c .before .before .before .before .before .before .before .before .before .before .before .before .hash-all in
-    let front = hashes-front (s .args .words .now) (s .args .arena .now) (s .args .run .now) (replicate 1024 0) (hashed .last .1 .1 .1 .0) (omega (arith, s .pre .0 .2)) (hashed .ensures) in (
+    let front = hashes-front (s .args .words .now) (s .args .run .now) (replicate 1024 0) (hashed .last .1 .1 .0) (omega (arith, s .pre .0 .2)) (hashed .ensures) in (
       call .ensures .0,
       (
         call .ensures .1 .0 ∙ ap (λ (l : List ℕ). putAt (s .args .order .now) 0 (numbered l)) front,

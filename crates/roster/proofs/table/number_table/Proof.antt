@@ -36,7 +36,7 @@ number-run-requires c κs =
     let a = s .args in
     let o = c .before .before .before .before .before .in-order in
     let few = ordered-few (a .words .now) (a .arena .now) (a .t) (o .result) (o .last .1 .1 .1 .0) (s .pre .0) (o .ensures) in
-    ((s .pre .0, ordered-known (a .words .now) (a .arena .now) (a .t) (o .result) (o .last .1 .1 .1 .0) (s .pre .0) (o .ensures), omega (arith, ordered-long (a .words .now) (a .arena .now) (a .t) (o .result) (o .last .1 .1 .1 .0) (s .pre .0) (o .ensures))), (omega arith, s .pre .2))
+    ((s .pre .0 .fit, ordered-known (a .words .now) (a .arena .now) (a .t) (o .result) (o .last .1 .1 .1 .0) (s .pre .0) (o .ensures), omega (arith, ordered-long (a .words .now) (a .arena .now) (a .t) (o .result) (o .last .1 .1 .1 .0) (s .pre .0) (o .ensures))), (omega arith, s .pre .2))
 
 array-share-prefix-run-2 : tie.Need-array-share-prefix-run-2
 array-share-prefix-run-2 c =
@@ -58,7 +58,7 @@ array-share-prefix-order c =
     let a = s .args in
     let o = c .before .before .before .before .before .before .before .before .before .before .before .before .in-order in
     let r = c .before .before .before .before .before .before .number-run in
-    omega (arith, ordered-few (a .words .now) (a .arena .now) (a .t) (o .result) (o .last .1 .1 .1 .0) (s .pre .0) (o .ensures), r .kept .1 .1 .1 .0)
+    omega (arith, ordered-few (a .words .now) (a .arena .now) (a .t) (o .result) (o .last .1 .1 .1 .0) (s .pre .0) (o .ensures), r .kept .1 .1 .0)
 
 slice-aggregate-items-at-2 : tie.Need-slice-aggregate-items-at-2
 slice-aggregate-items-at-2 c =
@@ -66,7 +66,7 @@ slice-aggregate-items-at-2 c =
     let a = s .args in
     let o = c .before .before .before .before .before .before .before .before .before .before .before .before .before .in-order in
     let r = c .before .before .before .before .before .before .before .number-run in
-    sym (places-long (a .words .now) (a .arena .now) (a .t) (o .result) (o .last .1 .1 .1 .0) (s .pre .0) (o .ensures) (replicate 1024 0) (r .last .1 .1 .1 .0) (omega arith) (r .ensures .1 .0))
+    sym (places-long (a .words .now) (a .arena .now) (a .t) (o .result) (o .last .1 .1 .1 .0) (s .pre .0) (o .ensures) (replicate 1024 0) (r .last .1 .1 .0) (omega arith) (r .ensures .1 .0))
 
 items-at-requires : tie.Need-items-at-requires
 items-at-requires c κs =
@@ -74,7 +74,7 @@ items-at-requires c κs =
     let a = s .args in
     let o = c .before .before .before .before .before .before .before .before .before .before .before .before .before .before .in-order in
     let r = c .before .before .before .before .before .before .before .before .number-run in
-    (places-below (a .words .now) (a .arena .now) (a .t) (o .result) (o .last .1 .1 .1 .0) (s .pre .0) (o .ensures) (replicate 1024 0) (r .last .1 .1 .1 .0) (omega arith) (r .ensures .1 .0), omega (arith, places-long (a .words .now) (a .arena .now) (a .t) (o .result) (o .last .1 .1 .1 .0) (s .pre .0) (o .ensures) (replicate 1024 0) (r .last .1 .1 .1 .0) (omega arith) (r .ensures .1 .0), ordered-few (a .words .now) (a .arena .now) (a .t) (o .result) (o .last .1 .1 .1 .0) (s .pre .0) (o .ensures), s .pre .1))
+    (places-below (a .words .now) (a .arena .now) (a .t) (o .result) (o .last .1 .1 .1 .0) (s .pre .0) (o .ensures) (replicate 1024 0) (r .last .1 .1 .0) (omega arith) (r .ensures .1 .0), omega (arith, places-long (a .words .now) (a .arena .now) (a .t) (o .result) (o .last .1 .1 .1 .0) (s .pre .0) (o .ensures) (replicate 1024 0) (r .last .1 .1 .0) (omega arith) (r .ensures .1 .0), ordered-few (a .words .now) (a .arena .now) (a .t) (o .result) (o .last .1 .1 .1 .0) (s .pre .0) (o .ensures), s .pre .1))
 
 same-length : tie.Need-same-length
 same-length c = search needs
@@ -92,7 +92,7 @@ returns c =
     let o = c .before .before .before .before .before .before .before .before .before .before .before .before .before .before .before .before .before .in-order in
     let r = c .before .before .before .before .before .before .before .before .before .before .before .number-run in
     let i = c .before .before .items-at in
-    (r .ensures .0, laid (a .words .now) (a .arena .now) (a .t) (o .result) (o .last .1 .1 .1 .0) (s .pre .0) (o .ensures) (replicate 1024 0) (r .last .1 .1 .1 .0) (omega arith) (r .ensures .1 .0) (a .items .now) (i .last .1 .1 .0) (a .firsts .now) (r .last .1 .1 .1 .1 .0) (s .pre .1) (s .pre .2) (i .ensures) (r .ensures .1 .1))
+    (r .ensures .0, laid (a .words .now) (a .arena .now) (a .t) (o .result) (o .last .1 .1 .1 .0) (s .pre .0) (o .ensures) (replicate 1024 0) (r .last .1 .1 .0) (omega arith) (r .ensures .1 .0) (a .items .now) (i .last .1 .1 .0) (a .firsts .now) (r .last .1 .1 .1 .0) (s .pre .1) (s .pre .2) (i .ensures) (r .ensures .1 .1))
 
 pub number-table-spec : {M : Type 1} → statement M
 number-table-spec =
