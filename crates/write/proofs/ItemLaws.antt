@@ -25,10 +25,10 @@ use Rattle.image.proofs.TimesLaws.{eq-or-ne, lt-or-ge}
 use Rattle.lay.specs.Sheet.{byKind}
 use Rattle.lay.proofs.KindLaws.{kind-value, kind-table, kind-container}
 use Rattle.roster.specs.Roster.{stateOf, itemNumber, Rostered}
-use Rattle.write.specs.Sheeted.{parentAt, kids, childTest, skipped, parentWord}
+use Rattle.write.specs.Sheeted.{kids, childTest, skipped, parentWord}
 use Rattle.write.proofs.StateLaws.{Right, key-is, content-is, above-is, content-past, key-length}
 use Rattle.write.proofs.SlotLaws.{child-none, child-own, child-some, skip-none, skip-own}
-use Rattle.write.proofs.KinLaws.{parent-own, parent-past, kids-more, kids-miss}
+use Rattle.write.proofs.KinLaws.{kids-more, kids-miss}
 use Rattle.write.proofs.RosterLaws.{by-child}
 
 -- ---- what an item holds, by its kind
@@ -70,31 +70,32 @@ children-words table l = first (length l) (omega arith) ∙ ap (childWords plain
 
 -- ---- a child has the parent word that it is listed by
 
-no-kids : (ws : List ℕ) (b j : ℕ) → j < length (kids ws b 0) → parentAt ws (getD (kids ws b 0) j 0) ≡ b
-unfolding kids
-no-kids ws b j h = absurd (omega arith)
-
-kids-hit : (ws : List ℕ) (b n : ℕ) → parentAt ws n ≡ b → kids ws b (suc n) ≡ kids ws b n ++ (n ∷ [])
+kids-hit : (ws : List ℕ) (b n : ℕ) → itemParent ws n ≡ b → kids ws b (suc n) ≡ kids ws b n ++ (n ∷ [])
 kids-hit ws b n e = kids-more ws b n ∙ ap (λ (x : List ℕ). kids ws b n ++ x) (pick-true (n ∷ []) [] (eq-eqb _ _ e))
 
-more-kids : (ws : List ℕ) (b n : ℕ) → parentAt ws n ≡ b → (j : ℕ) → j < length (kids ws b (suc n)) → ((k : ℕ) → k < length (kids ws b n) → parentAt ws (getD (kids ws b n) k 0) ≡ b)
-    → parentAt ws (getD (kids ws b (suc n)) j 0) ≡ b
-more-kids ws b n e j h rest =
-    let g : j < length (kids ws b n ++ (n ∷ [])) = rw (kids-hit ws b n e) at h in
-    rw (kids-hit ws b n e)
-    (⊎-elim
-    (λ less. ap (parentAt ws) (List·getD-append (kids ws b n) (n ∷ []) 0 j less) ∙ rest j less)
-    (λ more. let q : j ≡ length (kids ws b n) = omega (arith, length-append (kids ws b n) (n ∷ [])) in
-    ap (parentAt ws) (getD-at (kids ws b n) n [] 0 j (sym q)) ∙ e)
-    (lt-or-ge j (length (kids ws b n))))
+module _ (P : ℕ → Type 0) (ws : List ℕ) (b : ℕ) where
+  no-kids : (j : ℕ) → j < length (kids ws b 0) → P (getD (kids ws b 0) j 0)
+  unfolding kids
+  no-kids j h = absurd (omega arith)
 
-pub kid-of : (ws : List ℕ) (b n j : ℕ) → j < length (kids ws b n) → parentAt ws (getD (kids ws b n) j 0) ≡ b
-kid-of ws b zero j h = no-kids ws b j h
-kid-of ws b (suc n) j h =
-    ⊎-elim
-    (λ e. more-kids ws b n e j h (λ k l. kid-of ws b n k l))
-    (λ ne. rw (kids-miss ws b n ne) (kid-of ws b n j (rw (kids-miss ws b n ne) at h)))
-    (eq-or-ne (parentAt ws n) b)
+  more-kids : (n : ℕ) → itemParent ws n ≡ b → P n → ((k : ℕ) → k < length (kids ws b n) → P (getD (kids ws b n) k 0)) → (j : ℕ) → j < length (kids ws b (suc n))
+      → P (getD (kids ws b (suc n)) j 0)
+  more-kids n e own rest j h =
+      let g : j < length (kids ws b n ++ (n ∷ [])) = rw (kids-hit ws b n e) at h in
+      rw (kids-hit ws b n e)
+      (⊎-elim
+      (λ less. rw (List·getD-append (kids ws b n) (n ∷ []) 0 j less) (rest j less))
+      (λ more. let q : j ≡ length (kids ws b n) = omega (arith, length-append (kids ws b n) (n ∷ [])) in rw (getD-at (kids ws b n) n [] 0 j (sym q)) own)
+      (lt-or-ge j (length (kids ws b n))))
+
+  -- what holds of every item that has the parent word holds of every one listed
+  kids-all : (n : ℕ) → ((c : ℕ) → c < n → itemParent ws c ≡ b → P c) → (j : ℕ) → j < length (kids ws b n) → P (getD (kids ws b n) j 0)
+  kids-all zero all j h = no-kids j h
+  kids-all (suc n) all j h =
+      ⊎-elim
+      (λ e. more-kids n e (all n (omega arith) e) (kids-all n (λ c l. all c (omega arith))) j h)
+      (λ ne. rw (kids-miss ws b n ne) (kids-all n (λ c l. all c (omega arith)) j (rw (kids-miss ws b n ne) at h)))
+      (eq-or-ne (itemParent ws n) b)
 
 drop-part : (l : List ℕ) (at size n : ℕ) → drop n (part l at size) ≡ part l (at + n) (size - n)
 drop-part l at size n = drop-take n size (drop at l) ∙ ap (take (size - n)) (drop-drop n at l)
@@ -214,18 +215,15 @@ module _ (ws ar roster : List ℕ) (r : Right ws ar) (ro : Rostered ws ar roster
 
     -- ---- its children are items of the table
 
-    module _ (j : ℕ) (less : j < length (kids ws (i + 1) 1024)) where
-      kid-parent : parentAt ws (getD (kids ws (i + 1) 1024) j 0) ≡ i + 1
-      kid-parent = kid-of ws (i + 1) 1024 j less
+    module _ (j : ℕ) (less : j < length (kids ws (i + 1) (itemTotal ws))) where
+      kid-parent : itemParent ws (getD (kids ws (i + 1) (itemTotal ws)) j 0) ≡ i + 1
+      kid-parent = kids-all (λ c. itemParent ws c ≡ i + 1) ws (i + 1) (itemTotal ws) (λ c l e. e) j less
 
-      pub kid-in : getD (kids ws (i + 1) 1024) j 0 < itemTotal ws
-      kid-in =
-          ⊎-elim (λ h. h) (λ g. absurd (omega (arith, kid-parent, parent-past ws (getD (kids ws (i + 1) 1024) j 0) g)))
-          (lt-or-ge (getD (kids ws (i + 1) 1024) j 0) (itemTotal ws))
+      pub kid-in : getD (kids ws (i + 1) (itemTotal ws)) j 0 < itemTotal ws
+      kid-in = kids-all (λ c. c < itemTotal ws) ws (i + 1) (itemTotal ws) (λ c l e. l) j less
 
-      pub kid-table : itemTable ws (getD (kids ws (i + 1) 1024) j 0) ≡ t
+      pub kid-table : itemTable ws (getD (kids ws (i + 1) (itemTotal ws)) j 0) ≡ t
       kid-table =
-          let c = getD (kids ws (i + 1) 1024) j 0 in
-          let p : itemParent ws c ≡ i + 1 = sym (parent-own ws c kid-in) ∙ kid-parent in
-          let q : itemParent ws c - 1 ≡ i = omega arith in
-          sym (r .parent c kid-in (λ z. omega arith) .same) ∙ ap (itemTable ws) q ∙ own
+          let c = getD (kids ws (i + 1) (itemTotal ws)) j 0 in
+          let q : itemParent ws c - 1 ≡ i = omega (arith, kid-parent) in
+          sym (r .parent c kid-in (λ z. omega (arith, kid-parent)) .same) ∙ ap (itemTable ws) q ∙ own

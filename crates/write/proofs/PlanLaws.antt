@@ -2,7 +2,7 @@
 use mathlib.Core.Path.{_≡_, refl, sym, ap, _∙_}
 use mathlib.Core.Logic.{_⊎_, ⊎-elim}
 use mathlib.Core.List.{List}
-use Prim.Native.Nat.{ℕ, _+_, _-_, _*_, _<_, _^_}
+use Prim.Native.Nat.{ℕ, _+_, _-_, _*_, _≤_, _<_, _^_}
 use native.Mathlib.Omega.{arith}
 use lib.ListN.{length, getD}
 use Rattle.words.specs.Store.{part}
@@ -19,20 +19,16 @@ use Rattle.image.proofs.TimesLaws.{lt-or-ge}
 use Rattle.lay.specs.Sheet.{firstSlot, slotCount, slotWord, childWord, slotValue, slotCovers, sheetPlan, SheetFits}
 use Rattle.roster.specs.Roster as lists
 use Rattle.roster.specs.Roster.{stateOf, itemNumber, bucketWord, Rostered}
-use Rattle.write.specs.Sheeted.{kids, numberAt, skipped, parentWord, slotOf, startOf, sizeOf, frontWords, backWords, slotWords, Kin, StartSheet, ChildSheet, SlotSheet, Firsts, Sheeted}
+use Rattle.write.specs.Sheeted.{kids, fromLast, skipped, parentWord, slotOf, startOf, sizeOf, frontWords, backWords, slotWords, Kin, StartSheet, ChildSheet, SlotSheet, Firsts, Sheeted}
 use Rattle.write.proofs.StateLaws.{Right}
-use Rattle.write.proofs.SlotLaws.{start-value, start-guest, start-child, size-value, size-child, number-in, number-out}
+use Rattle.write.proofs.SlotLaws.{start-value, start-guest, start-child, size-value, size-child}
 use Rattle.write.proofs.KinLaws.{children-kids}
 use Rattle.write.proofs.RosterLaws.{number-few, item-in, item-of, slot-of}
-use Rattle.write.proofs.TurnLaws.{start-in}
+use Rattle.write.proofs.TurnLaws.{start-in, start-out}
 use Rattle.write.proofs.ItemLaws.{children-words, hash-is, parent-is, fragment-is, kind-is, by-content, kid-in, kid-table}
 
-pub kin-firsts : (ws order firsts : List ℕ) → Kin ws order firsts → Firsts firsts
-kin-firsts ws order firsts k = record { wide = k .wide; up = λ i h. omega (arith, k .next i h); few = λ i h. k .few i h }
-
-number-known : (ws roster : List ℕ) (c : ℕ) → c < itemTotal ws → numberAt ws roster c ≡ itemNumber roster c
-unfolding itemNumber
-number-known ws roster c l = sym (number-in ws c roster l)
+pub kin-firsts : (ws order firsts : List ℕ) → itemTotal ws ≤ 1024 → Kin ws order firsts → Firsts firsts
+kin-firsts ws order firsts few k = record { wide = k .wide; up = λ i h. omega (arith, k .next i h); few = λ i h. omega (arith, k .few i h) }
 
 module _ (ws ar roster order firsts a b sheet : List ℕ) (r : Right ws ar) (ro : Rostered ws ar roster) (kin : Kin ws order firsts)
     (st : StartSheet roster a) (ch : ChildSheet ws roster order a b) (sl : SlotSheet ws ar roster firsts b sheet (itemTotal ws)) where
@@ -50,20 +46,24 @@ module _ (ws ar roster order firsts a b sheet : List ℕ) (r : Right ws ar) (ro 
   members-is : (t : ℕ) → t < 64 → slotCount sheet t ≡ length (stateOf ws ar t .members)
   members-is t h = count-is t h ∙ ro .counts t h
 
-  child-is : (j : ℕ) → j < 1024 → childWord sheet j ≡ numberAt ws roster (1023 - getD order j 0)
+  child-is : (j : ℕ) → j < itemTotal ws → childWord sheet j ≡ itemNumber roster (fromLast ws (getD order j 0))
   unfolding childWord
-  child-is j h = sl .tail (8320 + j) (omega arith) ∙ child-before j h
+  child-is j h = sl .tail (8320 + j) (omega arith) ∙ child-before
     where
-      child-before : (j : ℕ) → j < 1024 → getD b (8320 + j) 0 ≡ numberAt ws roster (1023 - getD order j 0)
-      child-before j h = ch .is j h
+      child-before : getD b (8320 + j) 0 ≡ itemNumber roster (fromLast ws (getD order j 0))
+      child-before = ch .is j h
+
+  child-none : (j : ℕ) → itemTotal ws ≤ j → j < 1024 → childWord sheet j ≡ 0
+  unfolding childWord
+  child-none j g h =
+      sl .tail (8320 + j) (omega arith) ∙ ch .rest (8320 + j) (omega arith) ∙ st .is (8320 + j) (omega arith) ∙ sym (start-out roster (8320 + j) (omega arith))
 
   child-few : (j : ℕ) → j < 1024 → childWord sheet j < 2 ^ 32
   child-few j h =
-      let c = 1023 - getD order j 0 in
       ⊎-elim
-      (λ l. omega (arith, child-is j h, number-known ws roster c l, number-few ws ar roster r ro c l))
-      (λ g. omega (arith, child-is j h, number-out ws c roster g))
-      (lt-or-ge c (itemTotal ws))
+      (λ l. omega (arith, child-is j l, number-few ws ar roster r ro (fromLast ws (getD order j 0)) (omega arith)))
+      (λ g. omega (arith, child-none j g h))
+      (lt-or-ge j (itemTotal ws))
 
   sheet-fits : SheetFits sheet ar
   sheet-fits = record {
@@ -117,21 +117,21 @@ module _ (ws ar roster order firsts a b sheet : List ℕ) (r : Right ws ar) (ro 
       kin-start : itemKind ws i ≡ containerKind → startOf ws firsts i ≡ getD firsts (i + 1) 0
       kin-start e = sym (start-child ws firsts i (itemKind ws i) refl (λ q. omega arith) (λ q. omega arith))
 
-      kin-size : itemKind ws i ≡ containerKind → sizeOf ws firsts i ≡ length (kids ws (i + 1) 1024)
+      kin-size : itemKind ws i ≡ containerKind → sizeOf ws firsts i ≡ length (kids ws (i + 1) (itemTotal ws))
       kin-size e = sym (size-child ws firsts i (itemKind ws i) refl (λ q. omega arith) (λ q. omega arith)) ∙ omega (arith, kin .next i inside)
 
-      kid-word : (j : ℕ) → j < length (kids ws (i + 1) 1024) → childWord sheet (getD firsts (i + 1) 0 + j) ≡ numberOf plain (stateOf ws ar t) (getD (kids ws (i + 1) 1024) j 0)
+      kid-word : (j : ℕ) → j < length (kids ws (i + 1) (itemTotal ws)) → childWord sheet (getD firsts (i + 1) 0 + j) ≡ numberOf plain (stateOf ws ar t) (getD (kids ws (i + 1) (itemTotal ws)) j 0)
       kid-word j h =
-          let c = getD (kids ws (i + 1) 1024) j 0 in
+          let c = getD (kids ws (i + 1) (itemTotal ws)) j 0 in
           let below : c < itemTotal ws = kid-in ws ar roster r ro t i l own j h in
           child-is (getD firsts (i + 1) 0 + j) (omega (arith, kin .next i inside, kin .few i inside))
-          ∙ ap (numberAt ws roster) (kin .child i j inside h) ∙ number-known ws roster c below ∙ ro .numbers c below
+          ∙ ap (itemNumber roster) (kin .child i j inside h) ∙ ro .numbers c below
           ∙ ap (λ (u : ℕ). numberOf plain (stateOf ws ar u) c) (kid-table ws ar roster r ro t i l own j h)
 
-      kids-words : wordsOf (λ j. childWord sheet (getD firsts (i + 1) 0 + j)) (length (kids ws (i + 1) 1024)) ≡ childWords plain (stateOf ws ar t) (childrenOf (stateOf ws ar t) i)
+      kids-words : wordsOf (λ j. childWord sheet (getD firsts (i + 1) 0 + j)) (length (kids ws (i + 1) (itemTotal ws))) ≡ childWords plain (stateOf ws ar t) (childrenOf (stateOf ws ar t) i)
       kids-words =
-          words-same (λ j. childWord sheet (getD firsts (i + 1) 0 + j)) (λ j. numberOf plain (stateOf ws ar t) (getD (kids ws (i + 1) 1024) j 0)) (length (kids ws (i + 1) 1024)) kid-word
-          ∙ children-words (stateOf ws ar t) (kids ws (i + 1) 1024) ∙ ap (childWords plain (stateOf ws ar t)) (sym (children-kids ws ar r t i l own))
+          words-same (λ j. childWord sheet (getD firsts (i + 1) 0 + j)) (λ j. numberOf plain (stateOf ws ar t) (getD (kids ws (i + 1) (itemTotal ws)) j 0)) (length (kids ws (i + 1) (itemTotal ws))) kid-word
+          ∙ children-words (stateOf ws ar t) (kids ws (i + 1) (itemTotal ws)) ∙ ap (childWords plain (stateOf ws ar t)) (sym (children-kids ws ar r t i l own))
 
       value-is : (inner : ℕ → ℕ → List ℕ) (at : ℕ) → slotValue inner sheet ar s at ≡ valueOf plain inner (stateOf ws ar) (stateOf ws ar t) i (stateOf ws ar t .content i) at
       unfolding slotValue valueOf

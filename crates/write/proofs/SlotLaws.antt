@@ -1,21 +1,21 @@
 -- The words of a slot and of a sheet, as the code makes them. Assumes nothing.
-use mathlib.Core.Path.{_≡_, sym, ap, _∙_}
+use mathlib.Core.Path.{_≡_, refl, sym, ap, _∙_}
 use mathlib.Core.Bool.{Bool, true, false, not}
 use mathlib.Core.Logic.{_⊎_, ⊎-elim}
 use mathlib.Core.List.{List, [], _∷_}
 use Prim.Native.Nat.{ℕ, suc, _+_, _-_, _*_, _≤_, _<_}
 use native.Mathlib.Omega.{arith}
-use borrow.Author.Tests.{eq-eqb, ne-eqb, lt-ltb, le-ltb}
+use borrow.Author.Tests.{eq-eqb, ne-eqb}
 use lib.Dec.{eqb}
 use lib.ListN.{length, getD, set}
 use lib.Seq.{getD-set-same, getD-set-other}
 use Rattle.words.specs.Store.{putAt}
 use Rattle.words.proofs.ChoiceLaws.{pick-true, pick-false, both}
-use Rattle.memory.specs.Memory.{emptyMark, itemTotal, itemTable, keySize, itemParent, itemKind, valueStart, valueSize, itemGuest, containerKind}
+use Rattle.memory.specs.Memory.{emptyMark, itemTable, keySize, itemParent, itemKind, valueStart, valueSize, itemGuest, containerKind}
 use Rattle.image.proofs.TimesLaws.{eq-or-ne}
 use Rattle.lay.proofs.KindLaws.{kind-value, kind-table, kind-container}
 use Rattle.roster.specs.Roster.{firstSlot, itemNumber}
-use Rattle.write.specs.Sheeted.{parentAt, numberAt, childTest, skipped, parentWord, slotOf, startOf, sizeOf}
+use Rattle.write.specs.Sheeted.{childTest, skipped, parentWord, slotOf, startOf, sizeOf}
 
 -- ---- one word more
 
@@ -34,6 +34,9 @@ module _ (f : ℕ → ℕ) (l : List ℕ) (p v : ℕ) (is : v ≡ f p) where
       (λ (n : q ≡ p → ⊥). getD-set-other l (at + p) (at + q) v 0 (λ (e : at + q ≡ at + p). n (omega arith)) ∙ inv q (omega arith))
       (eq-or-ne q p)
 
+pub set-past : (l m : List ℕ) (at p v : ℕ) → ((k : ℕ) → at + p ≤ k → getD l k 0 ≡ getD m k 0) → (k : ℕ) → at + (p + 1) ≤ k → getD (set l (at + p) v) k 0 ≡ getD m k 0
+set-past l m at p v inv k h = getD-set-other l (at + p) k v 0 (λ (e : k ≡ at + p). omega arith) ∙ inv k (omega arith)
+
 pub set-apart : (l m : List ℕ) (at p v : ℕ) → ((k : ℕ) → k < at → getD l k 0 ≡ getD m k 0) → (k : ℕ) → k < at → getD (set l (at + p) v) k 0 ≡ getD m k 0
 set-apart l m at p v inv k h = getD-set-other l (at + p) k v 0 (λ (e : k ≡ at + p). omega arith) ∙ inv k h
 
@@ -45,26 +48,11 @@ four-put l at a b c d =
     let i3 : at + 3 ≡ suc (suc (suc at)) = omega arith in
     cc
 
--- ---- items, and what is past them
-
-module _ (ws : List ℕ) (c : ℕ) where
-  pub parent-in : (w : ℕ) → w ≡ itemParent ws c → c < itemTotal ws → w ≡ parentAt ws c
-  unfolding parentAt
-  parent-in w e l = e ∙ sym (pick-true (itemParent ws c) 0 (lt-ltb _ _ l))
-
-  pub parent-out : itemTotal ws ≤ c → 0 ≡ parentAt ws c
-  unfolding parentAt
-  parent-out l = sym (pick-false (itemParent ws c) 0 (le-ltb _ _ l))
-
-  pub number-in : (roster : List ℕ) → c < itemTotal ws → getD roster (1152 + c) 0 ≡ numberAt ws roster c
-  unfolding numberAt itemNumber
-  number-in roster l = sym (pick-true (getD roster (1152 + c) 0) 0 (lt-ltb _ _ l))
-
-  pub number-out : (roster : List ℕ) → itemTotal ws ≤ c → 0 ≡ numberAt ws roster c
-  unfolding numberAt
-  number-out roster l = sym (pick-false (itemNumber roster c) 0 (le-ltb _ _ l))
-
 -- ---- children
+
+pub number-read : (roster : List ℕ) (c : ℕ) → getD roster (1152 + c) 0 ≡ itemNumber roster c
+unfolding itemNumber
+number-read roster c = refl
 
 module _ (ws : List ℕ) (i : ℕ) where
   pub child-none : (parent : ℕ) → parent ≡ itemParent ws i → parent ≡ 0 → false ≡ childTest ws i

@@ -5,7 +5,8 @@ use mathlib.Core.List.{List, [], _∷_}
 use Prim.Native.Nat.{ℕ, _+_, _-_, _*_, _≤_, _<_}
 use native.Mathlib.Omega.{arith}
 use borrow.Author.Tests.{lt-ltb, le-ltb}
-use lib.ListN.{length, getD}
+use lib.ListN.{length, getD, set}
+use lib.Seq.{getD-set-other}
 use Rattle.words.specs.Store.{putAt}
 use Rattle.words.specs.Hash.{plain}
 use Rattle.words.proofs.ChoiceLaws.{pick-true, pick-false}
@@ -146,6 +147,16 @@ start-in roster k l = sym (pick-true (getD roster k 0) 0 (lt-ltb _ _ l))
 pub start-out : (roster : List ℕ) (k : ℕ) → 128 ≤ k → 0 ≡ startWord roster k
 unfolding startWord
 start-out roster k l = sym (pick-false (getD roster k 0) 0 (le-ltb _ _ l))
+
+pub set-clear : (l : List ℕ) (k v : ℕ) → ((q : ℕ) → k ≤ q → q < 9344 → getD l q 0 ≡ 0) → (q : ℕ) → k + 1 ≤ q → q < 9344 → getD (set l k v) q 0 ≡ 0
+set-clear l k v clear q g h = getD-set-other l k q v 0 (λ (e : q ≡ k). omega arith) ∙ clear q (omega arith) h
+
+pub start-made : (roster sheet : List ℕ) → length sheet ≡ 9344 → ((k : ℕ) → k < 128 → getD sheet k 0 ≡ getD roster k 0) → ((k : ℕ) → 128 ≤ k → k < 9344 → getD sheet k 0 ≡ 0)
+    → StartSheet roster sheet
+start-made roster sheet long head clear = record {
+  long = long;
+  is = λ k h. ⊎-elim (λ l. head k l ∙ start-in roster k l) (λ g. clear k g h ∙ start-out roster k g) (lt-or-ge k 128);
+}
 
 zero-word : (ws roster order a b : List ℕ) → StartSheet roster a → ChildSheet ws roster order a b → (s which : ℕ) → s < 1024 → which < 8 → slotWord b s which ≡ 0
 unfolding slotWord

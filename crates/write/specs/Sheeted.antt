@@ -22,35 +22,34 @@ pub record Sheeted (ws ar sheet : List ℕ) : Type 0 where
 
 -- ---- children
 
--- the parent word of item c; past the last item none
-unfoldable pub parentAt : List ℕ → ℕ → ℕ
-parentAt ws c = pick (ltb c (itemTotal ws)) (itemParent ws c) 0
-
 -- of the first n items those with a parent word, in order of creation
 unfoldable pub kids : List ℕ → ℕ → ℕ → List ℕ
 kids ws parent zero = []
-kids ws parent (suc n) = kids ws parent n ++ pick (eqb (parentAt ws n) parent) (n ∷ []) []
+kids ws parent (suc n) = kids ws parent n ++ pick (eqb (itemParent ws n) parent) (n ∷ []) []
 
--- the parent words from the last place to the first
-pub record Parents (ws hashes : List ℕ) : Type 0 where
-  pub long : length hashes ≡ sheetSlots
-  pub is : (p : ℕ) → p < sheetSlots → getD hashes p 0 ≡ parentAt ws (1023 - p)
+-- the item of a place: the last item has the first place
+abbrev pub fromLast : List ℕ → ℕ → ℕ
+fromLast ws p = itemTotal ws - 1 - p
+
+-- the parent words by place
+abbrev pub Parents : List ℕ → List ℕ → Type 0
+Parents ws hashes = (p : ℕ) → p < itemTotal ws → getD hashes p 0 ≡ itemParent ws (fromLast ws p)
 
 -- places in the order of their parents, and the first of each parent: those of one parent in order of creation
 pub record Kin (ws order firsts : List ℕ) : Type 0 where
   pub long : length order ≡ sheetSlots
   pub wide : length firsts ≡ 1026
-  pub inside : (j : ℕ) → j < sheetSlots → getD order j 0 < sheetSlots
-  pub next : (i : ℕ) → i < sheetSlots → getD firsts (i + 2) 0 ≡ getD firsts (i + 1) 0 + length (kids ws (i + 1) sheetSlots)
-  pub few : (i : ℕ) → i < sheetSlots → getD firsts (i + 2) 0 ≤ sheetSlots
-  pub child : (i j : ℕ) → i < sheetSlots → j < length (kids ws (i + 1) sheetSlots)
-      → 1023 - getD order (getD firsts (i + 1) 0 + j) 0 ≡ getD (kids ws (i + 1) sheetSlots) j 0
-
--- the number of an item; past the last item 0
-unfoldable pub numberAt : List ℕ → List ℕ → ℕ → ℕ
-numberAt ws roster c = pick (ltb c (itemTotal ws)) (itemNumber roster c) 0
+  pub inside : (j : ℕ) → j < itemTotal ws → getD order j 0 < itemTotal ws
+  pub next : (i : ℕ) → i < sheetSlots → getD firsts (i + 2) 0 ≡ getD firsts (i + 1) 0 + length (kids ws (i + 1) (itemTotal ws))
+  pub few : (i : ℕ) → i < sheetSlots → getD firsts (i + 2) 0 ≤ itemTotal ws
+  pub child : (i j : ℕ) → i < sheetSlots → j < length (kids ws (i + 1) (itemTotal ws))
+      → fromLast ws (getD order (getD firsts (i + 1) 0 + j) 0) ≡ getD (kids ws (i + 1) (itemTotal ws)) j 0
 
 -- ---- the words of a sheet
+
+-- every word is 0
+abbrev pub Clear : List ℕ → Type 0
+Clear sheet = (k : ℕ) → k < sheetSize → getD sheet k 0 ≡ 0
 
 -- the head's words are the roster's; all else is 0
 unfoldable pub startWord : List ℕ → ℕ → ℕ
@@ -60,11 +59,12 @@ pub record StartSheet (roster sheet : List ℕ) : Type 0 where
   pub long : length sheet ≡ sheetSize
   pub is : (k : ℕ) → k < sheetSize → getD sheet k 0 ≡ startWord roster k
 
--- the child words are the numbers of the places; all else is as it was
+-- the child words are the numbers of the places, as many as there are items; all else is as it was
 pub record ChildSheet (ws roster order before after : List ℕ) : Type 0 where
   pub long : length after ≡ length before
-  pub is : (j : ℕ) → j < sheetSlots → childWord after j ≡ numberAt ws roster (1023 - getD order j 0)
+  pub is : (j : ℕ) → j < itemTotal ws → childWord after j ≡ itemNumber roster (fromLast ws (getD order j 0))
   pub kept : (k : ℕ) → k < childrenAt → getD after k 0 ≡ getD before k 0
+  pub rest : (k : ℕ) → childrenAt + itemTotal ws ≤ k → getD after k 0 ≡ getD before k 0
 
 -- item i is laid as a child: it has a parent, which is a container
 unfoldable pub childTest : List ℕ → ℕ → Bool

@@ -11,27 +11,16 @@ ghost use Rattle.memory.specs.Memory.{itemTotal};
 ghost use Rattle.whole.specs.Whole.{wholeSound};
 ghost use Rattle.lay.specs.Sheet.{SlotFits};
 ghost use Rattle.roster.specs.Roster.{Rostered};
-ghost use Rattle.write.specs.Sheeted.{startWord, StartSheet, SlotSheet, Firsts, Sheeted};
+ghost use Rattle.write.specs.Sheeted.{Clear, StartSheet, SlotSheet, Firsts, Sheeted};
 
-// A word of a sheet that has only its head, which is the roster's.
-fn start_word(roster: &[usize], k: usize) -> usize
-    requires { ⌜ length (now roster) ≡ 3200 ⌝ }
-    ensures { λ r. ⌜ r ≡ startWord (now (roster .entry)) k ⌝ }
-{
-    if k < 128 {
-        return roster[k];
-    }
-    0
-}
-
-// Puts the head, and clears all else.
+// Puts the head, which is the roster's, into a clear sheet.
 fn start_sheet(roster: &[usize], sheet: &mut [usize])
-    requires { ⌜ (length (now roster) ≡ 3200) × (length (now sheet) ≡ 9344) ⌝ }
+    requires { ⌜ (length (now roster) ≡ 3200) × (length (now sheet) ≡ 9344) × Clear (now sheet) ⌝ }
     ensures { λ _. ⌜ StartSheet (now (roster .entry)) (now (sheet .exit)) ⌝ }
 {
     let mut k = 0;
-    while k < 9344 {
-        sheet[k] = start_word(roster, k);
+    while k < 128 {
+        sheet[k] = roster[k];
         k += 1;
     }
 }
@@ -52,15 +41,16 @@ fn put_slots(words: &[usize], arena: &[u8], roster: &[usize], firsts: &[usize], 
     }
 }
 
-// Fills the sheet: head, child words, slots.
+// Fills a clear sheet: head, child words, slots.
 pub fn fill_sheet(words: &[usize], arena: &[u8], roster: &[usize], sheet: &mut [usize])
     requires { ⌜ wholeSound (now words) (now arena) ≡ true ⌝ }
     requires { ⌜ Rostered (now words) (now arena) (now roster) ⌝ }
-    requires { ⌜ length (now sheet) ≡ 9344 ⌝ }
+    requires { ⌜ (length (now sheet) ≡ 9344) × Clear (now sheet) ⌝ }
     ensures { λ _. ⌜ Sheeted (now (words .entry)) (now (arena .entry)) (now (sheet .exit)) ⌝ }
 {
+    let n = words[ITEMS];
     let mut order = [0usize; 1024];
-    let mut firsts = [1024usize; 1026];
+    let mut firsts = [n; 1026];
     order_kin(words, arena, &mut order, &mut firsts);
     start_sheet(roster, sheet);
     put_children(words, roster, &order, sheet);

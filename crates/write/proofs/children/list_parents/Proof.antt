@@ -1,53 +1,64 @@
 -- `write::children::list_parents` meets its contract. The invariant: the places passed have the parent words of their items. Assumes nothing.
 use borrow.Author.Needs.{needs}
-use Rattle.write.proofs.SlotLaws.{set-next}
-use Rattle.write.specs.Sheeted.{parentAt}
 use Prim.Native.Nat.{ℕ, _≤_, _<_, _-_}
-use mathlib.Core.Path.{_≡_}
+use mathlib.Core.Path.{_≡_, refl}
 use native.Mathlib.Omega.{arith}
 use lib.ListN.{length, getD, length-set}
+use Rattle.memory.specs.Memory.{itemTotal, itemParent}
+use Rattle.write.specs.Sheeted.{fromLast}
+use Rattle.write.proofs.SlotLaws.{set-next}
 use Rattle.write.proofs.children.list_parents.Statement.{statement}
 use Rattle.write.proofs.children.list_parents.Tie as tie
 
 abbrev Inv-loop : tie.InvT-loop
-Inv-loop words hashes₀ p₀ hashes p =
-    (p ≤ 1024) × (length hashes ≡ 1024) × ((q : ℕ) → q < p → getD hashes q 0 ≡ parentAt words (1023 - q))
+Inv-loop words hashes₀ n p₀ hashes p =
+    (p ≤ itemTotal words) × (n ≡ itemTotal words) × (length hashes ≡ 1024) × ((q : ℕ) → q < p → getD hashes q 0 ≡ itemParent words (fromLast words q))
 
 abbrev μ-loop : tie.MeasureT-loop
-μ-loop words hashes₀ p₀ hashes p = 1024 - p
+μ-loop words hashes₀ n p₀ hashes p = itemTotal words - p
+
+shared-slice-read-n : tie.Need-shared-slice-read-n Inv-loop μ-loop
+shared-slice-read-n c = omega (arith, c .before .before .before .pre .0)
 
 loop-holds : tie.Need-loop-holds Inv-loop μ-loop
-loop-holds c = (omega arith, c .before .before .pre .1, λ q h. absurd (omega arith))
+loop-holds c = (omega arith, refl, c .before .before .before .pre .2, λ q h. absurd (omega arith))
 
-sub-parent-at : tie.Need-sub-parent-at Inv-loop μ-loop
-sub-parent-at c = search needs
+sub-item-word : tie.Need-sub-item-word Inv-loop μ-loop
+sub-item-word c = search needs
 
-parent-at-requires : tie.Need-parent-at-requires Inv-loop μ-loop
-parent-at-requires c κs = search needs
+sub-item-word-2 : tie.Need-sub-item-word-2 Inv-loop μ-loop
+sub-item-word-2 c = search needs
+
+item-word-requires : tie.Need-item-word-requires Inv-loop μ-loop
+item-word-requires c κs = (c .before .before .before .before .before .pre .0, omega (arith, c .before .before .before .before .before .pre .1), omega arith)
 
 mul-hashes : tie.Need-mul-hashes Inv-loop μ-loop
-mul-hashes c = search needs
+mul-hashes c = omega (arith, c .before .before .before .before .before .before .pre .1, c .before .before .loop .inv)
 
 slice-write-hashes : tie.Need-slice-write-hashes Inv-loop μ-loop
-slice-write-hashes c = search needs
+slice-write-hashes c = omega (arith, c .before .before .before .before .before .before .pre .1, c .before .before .loop .inv)
 
 add-p : tie.Need-add-p Inv-loop μ-loop
-add-p c = search needs
+add-p c = omega (arith, c .before .before .before .before .before .before .pre .1)
 
 loop-less : tie.Need-loop-less Inv-loop μ-loop
-loop-less c = search needs
+loop-less c = omega arith
 
 loop-again : tie.Need-loop-again Inv-loop μ-loop
 loop-again c =
-    let a = c .before .before .before .before .before .args in
-    let l = c .before .before .loop in
-    (omega arith, simp length-set (l .inv .1), set-next (λ q. parentAt (a .words .now) (1023 - q)) (l .hashes) (l .p) _ (c .parent-at .ensures) (omega arith) (l .inv .2))
+    let a = c .before .before .before .before .before .before .args in
+    let l = c .before .before .loop in (
+      omega arith,
+      l .inv .1,
+      simp length-set (l .inv .2),
+      set-next (λ q. itemParent (a .words .now) (fromLast (a .words .now) q)) (l .hashes) (l .p) _ (c .item-word .ensures) (omega (arith, c .before .before .before .before .before .before .pre .1)) (l .inv .3),
+    )
 
 same-length : tie.Need-same-length Inv-loop μ-loop
-same-length c = search needs
+same-length c = omega (arith, c .before .before .before .before .before .pre .2)
 
 returns : tie.Need-returns Inv-loop μ-loop
-returns c = record { long = c .before .loop .inv .1; is = λ p h. c .before .loop .inv .2 p (omega arith) }
+returns c = λ p h. c .before .loop .inv .3 p (omega (arith, c .loop-test .left))
 
 pub list-parents-spec : {M : Type 1} → statement M
 list-parents-spec =
@@ -55,9 +66,11 @@ list-parents-spec =
     (tie.spec
     Inv-loop
     μ-loop
+    shared-slice-read-n
     loop-holds
-    sub-parent-at
-    parent-at-requires
+    sub-item-word
+    sub-item-word-2
+    item-word-requires
     mul-hashes
     slice-write-hashes
     add-p

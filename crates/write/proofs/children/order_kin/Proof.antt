@@ -1,7 +1,10 @@
 -- `write::children::order_kin` meets its contract: places numbered in buckets by their parent words are the children in order of creation. Assumes nothing.
 use Prim.Native.Nat.{ℕ}
+use mathlib.Core.Path.{sym, _∙_}
 use native.Mathlib.Omega.{arith}
-use lib.ListN.{length-replicate}
+use lib.ListN.{take, length-replicate}
+use lib.Seq.{length-take-le, getD-take}
+use Rattle.memory.specs.Memory.{itemTotal}
 use Rattle.order.proofs.ChainLaws.{empty-fresh}
 use Rattle.write.proofs.StateLaws.{whole-right}
 use Rattle.write.proofs.KinLaws.{kin-made}
@@ -9,23 +12,35 @@ use borrow.Author.Needs.{needs}
 use Rattle.write.proofs.children.order_kin.Statement.{statement}
 use Rattle.write.proofs.children.order_kin.Tie as tie
 
+shared-slice-read-n : tie.Need-shared-slice-read-n
+shared-slice-read-n c = omega (arith, whole-right _ _ (c .before .before .before .before .before .pre .0) .sound .long)
+
 slice-aggregate-list-parents : tie.Need-slice-aggregate-list-parents
 slice-aggregate-list-parents c = search needs
 
 list-parents-requires : tie.Need-list-parents-requires
-list-parents-requires c κs = let p = c .before .before .before .before .before .pre in (whole-right _ _ (p .0) .sound .long, length-replicate {A = ℕ} 1024 0)
+list-parents-requires c κs = let s = whole-right _ _ (c .before .before .before .before .before .before .pre .0) .sound in (s .long, s .items, length-replicate {A = ℕ} 1024 0)
+
+array-share-prefix-hashes : tie.Need-array-share-prefix-hashes
+array-share-prefix-hashes c = omega (arith, whole-right _ _ (c .before .before .before .before .before .before .before .before .pre .0) .sound .items, c .before .list-parents .kept .1 .0)
 
 slice-aggregate-number : tie.Need-slice-aggregate-number
-slice-aggregate-number c = search needs
+slice-aggregate-number c =
+    let s = c .before .before .before .before .before .before .before .before .before in
+    let l = c .before .before .list-parents in
+    sym (length-take-le (itemTotal (s .args .words .now)) (l .last .1 .0) (omega (arith, whole-right _ _ (s .pre .0) .sound .items, l .kept .1 .0)))
 
 slice-aggregate-number-2 : tie.Need-slice-aggregate-number-2
 slice-aggregate-number-2 c = search needs
 
 number-requires : tie.Need-number-requires
 number-requires c κs =
-    let p = c .before .before .before .before .before .before .before .before .before .before .before .pre in
-    let h = c .before .before .before .before .before .list-parents .ensures .long in
-    (record { few = omega (arith, h); in-links = omega (arith, h, length-replicate {A = ℕ} 1024 4294967295); in-order = omega (arith, h, p .1 .0 .0); in-firsts = omega (arith, h, p .1 .0 .1) }, empty-fresh 1024)
+    let s = c .before .before .before .before .before .before .before .before .before .before .before .before in
+    let p = s .pre in
+    let l = c .before .before .before .before .before .list-parents in
+    let few = whole-right _ _ (p .0) .sound .items in
+    let h = length-take-le (itemTotal (s .args .words .now)) (l .last .1 .0) (omega (arith, few, l .kept .1 .0)) in
+    (record { few = omega (arith, h, few); in-links = omega (arith, h, few, length-replicate {A = ℕ} 1024 4294967295); in-order = omega (arith, h, few, p .1 .0 .0); in-firsts = omega (arith, h, few, p .1 .0 .1) }, empty-fresh 1024)
 
 same-length : tie.Need-same-length
 same-length c = search needs
@@ -35,17 +50,23 @@ same-length-2 c = search needs
 
 returns : tie.Need-returns
 returns c =
-    let a = c .before .before .before .before .before .before .before .before .before .before .before .before .before .before .before .before .before .args in
-    let p = c .before .before .before .before .before .before .before .before .before .before .before .before .before .before .before .before .before .pre in
+    let a = c .before .before .before .before .before .before .before .before .before .before .before .before .before .before .before .before .before .before .args in
+    let p = c .before .before .before .before .before .before .before .before .before .before .before .before .before .before .before .before .before .before .pre in
+    let l = c .before .before .before .before .before .before .before .before .before .before .before .list-parents in
     let n = c .before .before .before .before .before .number .ensures in
-    rw (n .0, n .1 .0) (kin-made (a .words .now) (a .arena .now) (whole-right (a .words .now) (a .arena .now) (p .0)) _ (c .before .before .before .before .before .before .before .before .before .before .before .list-parents .ensures) (a .order .now) (a .firsts .now) (p .1 .0 .0) (p .1 .0 .1) (p .1 .1))
+    let total = itemTotal (a .words .now) in
+    let right = whole-right (a .words .now) (a .arena .now) (p .0) in
+    let h = length-take-le total (l .last .1 .0) (omega (arith, right .sound .items, l .kept .1 .0)) in
+    rw (n .0, n .1 .0) (kin-made (a .words .now) (a .arena .now) right (take total (l .last .1 .0)) h (λ q less. getD-take total (l .last .1 .0) q 0 less ∙ l .ensures q less) (a .order .now) (a .firsts .now) (p .1 .0 .0) (p .1 .0 .1) (p .1 .1))
 
 pub order-kin-spec : {M : Type 1} → statement M
 order-kin-spec =
     tie.close
     (tie.spec
+    shared-slice-read-n
     slice-aggregate-list-parents
     list-parents-requires
+    array-share-prefix-hashes
     slice-aggregate-number
     slice-aggregate-number-2
     number-requires

@@ -1,28 +1,32 @@
--- `write::sheet::start_sheet` meets its contract. The invariant: the words passed are those of a sheet at its start. Assumes nothing.
+-- `write::sheet::start_sheet` meets its contract. The invariant: the words passed are the roster's, all behind them are 0. Assumes nothing.
 use borrow.Author.Needs.{needs}
 use Prim.Native.Nat.{ℕ, _≤_, _<_, _-_}
-use mathlib.Core.Path.{_≡_}
+use mathlib.Core.Path.{_≡_, refl}
 use native.Mathlib.Omega.{arith}
 use lib.ListN.{length, getD, length-set}
-use Rattle.write.specs.Sheeted.{startWord}
 use Rattle.write.proofs.SlotLaws.{set-next}
+use Rattle.write.proofs.TurnLaws.{set-clear, start-made}
 use Rattle.write.proofs.sheet.start_sheet.Statement.{statement}
 use Rattle.write.proofs.sheet.start_sheet.Tie as tie
 
 abbrev Inv-loop : tie.InvT-loop
-Inv-loop roster sheet₀ k₀ sheet k = (k ≤ 9344) × (length sheet ≡ 9344) × ((q : ℕ) → q < k → getD sheet q 0 ≡ startWord roster q)
+Inv-loop roster sheet₀ k₀ sheet k =
+    (k ≤ 128) × (length sheet ≡ 9344) × ((q : ℕ) → q < k → getD sheet q 0 ≡ getD roster q 0) × ((q : ℕ) → k ≤ q → q < 9344 → getD sheet q 0 ≡ 0)
 
 abbrev μ-loop : tie.MeasureT-loop
-μ-loop roster sheet₀ k₀ sheet k = 9344 - k
+μ-loop roster sheet₀ k₀ sheet k = 128 - k
 
 loop-holds : tie.Need-loop-holds Inv-loop μ-loop
-loop-holds c = (omega arith, c .before .before .pre .1, λ q h. absurd (omega arith))
-
-start-word-requires : tie.Need-start-word-requires Inv-loop μ-loop
-start-word-requires c κs = search needs
+loop-holds c = (omega arith, c .pre .1, (λ q h. absurd (omega arith)), λ q l h. c .pre .2 q h)
 
 mul-sheet : tie.Need-mul-sheet Inv-loop μ-loop
 mul-sheet c = search needs
+
+shared-slice-read-sheet : tie.Need-shared-slice-read-sheet Inv-loop μ-loop
+shared-slice-read-sheet c = search needs
+
+mul-sheet-2 : tie.Need-mul-sheet-2 Inv-loop μ-loop
+mul-sheet-2 c = search needs
 
 slice-write-sheet : tie.Need-slice-write-sheet Inv-loop μ-loop
 slice-write-sheet c = search needs
@@ -35,15 +39,22 @@ loop-less c = search needs
 
 loop-again : tie.Need-loop-again Inv-loop μ-loop
 loop-again c =
-    let a = c .before .before .before .before .before .args in
-    let l = c .before .before .loop in
-    (omega arith, simp length-set (l .inv .1), set-next (startWord (a .roster .now)) (l .sheet) (l .k) _ (c .start-word .ensures) (omega arith) (l .inv .2))
+    let a = c .before .before .before .args in
+    let l = c .before .before .loop in (
+      omega arith,
+      simp length-set (l .inv .1),
+      set-next (λ q. getD (a .roster .now) q 0) (l .sheet) (l .k) _ refl (omega arith) (l .inv .2),
+      set-clear (l .sheet) (l .k) _ (l .inv .3),
+    )
 
 same-length : tie.Need-same-length Inv-loop μ-loop
 same-length c = search needs
 
 returns : tie.Need-returns Inv-loop μ-loop
-returns c = record { long = c .before .loop .inv .1; is = λ p h. c .before .loop .inv .2 p (omega arith) }
+returns c =
+    let l = c .before .loop in
+    let all : l .k ≡ 128 = omega (arith, c .loop-test .left) in
+    start-made (c .before .before .args .roster .now) (l .sheet) (l .inv .1) (λ q h. l .inv .2 q (omega arith)) (λ q g h. l .inv .3 q (omega arith) h)
 
 pub start-sheet-spec : {M : Type 1} → statement M
 start-sheet-spec =
@@ -52,8 +63,9 @@ start-sheet-spec =
     Inv-loop
     μ-loop
     loop-holds
-    start-word-requires
     mul-sheet
+    shared-slice-read-sheet
+    mul-sheet-2
     slice-write-sheet
     add-k
     loop-less

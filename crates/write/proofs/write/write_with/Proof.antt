@@ -1,5 +1,7 @@
 -- `write::write::write_with` meets its contract: the sheet's image is the one that the memory means. Assumes nothing.
+use Prim.Native.Nat.{ℕ}
 use mathlib.Core.Path.{sym, _∙_}
+use lib.ListN.{length-replicate, getD-replicate}
 use Rattle.write.proofs.AnswerLaws.{root-empty, root-sheet}
 use borrow.Author.Needs.{needs}
 use Rattle.write.proofs.write.write_with.Statement.{statement}
@@ -19,7 +21,7 @@ slice-aggregate-fill-sheet : tie.Need-slice-aggregate-fill-sheet
 slice-aggregate-fill-sheet c = search needs
 
 fill-sheet-requires : tie.Need-fill-sheet-requires
-fill-sheet-requires c κs = search needs
+fill-sheet-requires c κs = let p = c .before .before .before .before .before .before .before .pre in (p .0, (p .1 .0, (length-replicate {A = ℕ} 9344 0, λ k h. getD-replicate {A = ℕ} 9344 k 0 0 h)))
 
 slice-aggregate-write-sheet : tie.Need-slice-aggregate-write-sheet
 slice-aggregate-write-sheet c = search needs
