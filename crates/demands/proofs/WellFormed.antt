@@ -19,6 +19,7 @@ use Rattle.image.specs.WellFormed.{ChildFits, WellFormed}
 use Rattle.image.proofs.TimesLaws.{eq-or-ne}
 use Rattle.roster.specs.Roster.{stateOf}
 use Rattle.roster.proofs.StateLaws.{state-members, owned-few}
+use Rattle.roster.proofs.RosterLaws.{whole-fit}
 use Rattle.write.proofs.StateLaws.{key-length, key-is, above-is, content-past, member-once, has-item, item-below, item-table}
 use Rattle.demands.proofs.Rising.{member-earlier}
 
@@ -30,7 +31,7 @@ module _ (ws ar : List ℕ) (whole : wholeSound ws ar ≡ true) (t : ℕ) where
   table = stateOf ws ar t
 
   few : length (table .members) ≤ mostItems
-  few = rw (state-members ws ar t) (owned-few ws t (record { long = facts .facts .long; few = facts .facts .items; empty = facts .link }))
+  few = rw (state-members ws ar t) (owned-few ws t (whole-fit ws ar whole))
 
   module _ (i : ℕ) (has : Has (table .members) i) where
     inside : i < itemTotal ws

@@ -21,13 +21,13 @@ pub fn has_items(words: &[usize], t: usize) -> bool
         return false;
     }
     let most = words[ITEMS];
-    let mut i = 0;
-    while i < most {
-        let table = item_word(words, i, TABLE);
+    let mut k = 0;
+    while k < most {
+        let table = item_word(words, k, TABLE);
         if table == t {
             return true;
         }
-        i += 1;
+        k += 1;
     }
     false
 }

@@ -1,4 +1,4 @@
--- `roster::collect::has_items` meets its contract. The invariant: no item among the first i is in the table. Assumes nothing.
+-- `roster::collect::has_items` meets its contract. The invariant: no item among the first k is in the table. Assumes nothing.
 use mathlib.Core.Path.{_≡_, sym, _∙_}
 use mathlib.Core.Bool.{false}
 use Prim.Native.Nat.{_-_, _≤_}
@@ -11,10 +11,10 @@ use Rattle.roster.proofs.collect.has_items.Statement.{statement}
 use Rattle.roster.proofs.collect.has_items.Tie as tie
 
 abbrev Inv-loop : tie.InvT-loop
-Inv-loop words t most i₀ i = (i ≤ itemTotal words) × (most ≡ itemTotal words) × (someBelow (inTable words t) i ≡ false)
+Inv-loop words t most k₀ k = (k ≤ itemTotal words) × (most ≡ itemTotal words) × (someBelow (inTable words t) k ≡ false)
 
 abbrev μ-loop : tie.MeasureT-loop
-μ-loop words t most i₀ i = itemTotal words - i
+μ-loop words t most k₀ k = itemTotal words - k
 
 shared-slice-read-if1 : tie.Need-shared-slice-read-if1 Inv-loop μ-loop
 shared-slice-read-if1 c = omega (arith, c .before .before .pre .long)
@@ -35,10 +35,10 @@ returns-2 : tie.Need-returns-2 Inv-loop μ-loop
 returns-2 c =
     let a = c .before .before .before .before .before .before .before .before .args in
     let l = c .before .before .before .loop in
-    search-hit (a .words .now) (a .t) (l .i) (omega arith) (sym (c .before .item-word .ensures) ∙ c .if2 .taken)
+    search-hit (a .words .now) (a .t) (l .k) (omega arith) (sym (c .before .item-word .ensures) ∙ c .if2 .taken)
 
-add-i : tie.Need-add-i Inv-loop μ-loop
-add-i c = omega (arith, c .before .before .before .before .before .before .before .before .pre .few)
+add-k : tie.Need-add-k Inv-loop μ-loop
+add-k c = omega (arith, c .before .before .before .before .before .before .before .before .pre .few)
 
 loop-less : tie.Need-loop-less Inv-loop μ-loop
 loop-less c = omega arith
@@ -47,13 +47,13 @@ loop-again : tie.Need-loop-again Inv-loop μ-loop
 loop-again c =
     let a = c .before .before .before .before .before .before .before .before .args in
     let l = c .before .before .before .loop in
-    (omega arith, l .inv .1, search-turn (a .words .now) (a .t) (l .i) (l .inv .2) (λ e. c .if2 .left (c .before .item-word .ensures ∙ e)))
+    (omega arith, l .inv .1, search-turn (a .words .now) (a .t) (l .k) (l .inv .2) (λ e. c .if2 .left (c .before .item-word .ensures ∙ e)))
 
 returns-3 : tie.Need-returns-3 Inv-loop μ-loop
 returns-3 c =
     let a = c .before .before .before .before .before .before .args in
     let l = c .before .loop in
-    search-end (a .words .now) (a .t) (l .i) (omega (arith, c .loop-test .left)) (l .inv .2)
+    search-end (a .words .now) (a .t) (l .k) (omega (arith, c .loop-test .left)) (l .inv .2)
 
 pub has-items-spec : {M : Type 1} → statement M
 has-items-spec =
@@ -67,7 +67,7 @@ has-items-spec =
     loop-holds
     item-word-requires
     returns-2
-    add-i
+    add-k
     loop-less
     loop-again
     returns-3)
