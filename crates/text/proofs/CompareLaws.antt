@@ -3,13 +3,15 @@ use mathlib.Core.Path.{_≡_, refl, sym, ap, _∙_}
 use mathlib.Core.Bool.{Bool, true, false, _&&_}
 use mathlib.Core.List.{List, [], _∷_, _++_}
 use Prim.Native.Nat.{ℕ, zero, suc, _+_, _-_, _≤_, _<_}
-use native.Mathlib.Numerals.{add-one}
 use native.Mathlib.Omega.{arith}
-use lib.ListN.{length, getD, take, drop, drop-of-length-le}
-use lib.Seq.{drop-cons, take-add}
+use lib.ListN.{length, getD, take, drop}
+use lib.Seq.{take-add, take-take, take-all}
 use lib.Dec.{eqb, leb}
-use borrow.Author.Tests.{eqb-true, eq-eqb, ne-eqb, le-leb, leb-true, lt-leb}
+use borrow.Author.Tests.{eqb-true, eqb-false, eq-eqb, le-leb, leb-true, lt-leb}
+use Rattle.words.specs.Store.{part}
+use Rattle.words.specs.Field.{field}
 use Rattle.words.proofs.ChoiceLaws.{both}
+use Rattle.words.proofs.FieldLaws.{field-same}
 use Rattle.text.specs.Compare.{sameBytes, endsAt}
 
 -- the test holds just of equal texts
@@ -30,27 +32,68 @@ same-refl (x ∷ a) = rw (eq-eqb x x refl) (same-refl a)
 pub equal-same : (a b : List ℕ) → a ≡ b → sameBytes a b ≡ true
 equal-same a b e = rw e (same-refl b)
 
--- texts of different length differ
-pub same-lengths : (a b : List ℕ) → (length a ≡ length b → ⊥) → sameBytes a b ≡ false
-same-lengths a b other = go (sameBytes a b) refl
+pub same-other : (a b : List ℕ) → (a ≡ b → ⊥) → sameBytes a b ≡ false
+same-other a b other = go (sameBytes a b) refl
   where
     go : (t : Bool) → sameBytes a b ≡ t → sameBytes a b ≡ false
-    go true e = absurd (other (ap length (same-equal a b e)))
+    go true e = absurd (other (same-equal a b e))
     go false e = e
 
--- one turn of the loop, and its end
-module _ (a b : List ℕ) (i : ℕ) (ha : i < length a) (hb : i < length b) where
-  pub same-hit : getD a i 0 ≡ getD b i 0 → sameBytes (drop i a) (drop i b) ≡ sameBytes (drop (i + 1) a) (drop (i + 1) b)
-  unfolding sameBytes
-  same-hit e = rw (add-one, drop-cons a i 0, drop-cons b i 0, eq-eqb (getD a i 0) (getD b i 0) e)
+-- texts of different length differ, and texts with different numbers at a place
+pub same-lengths : (a b : List ℕ) → (length a ≡ length b → ⊥) → sameBytes a b ≡ false
+same-lengths a b other = same-other a b (λ e. other (ap length e))
 
-  pub same-miss : (getD a i 0 ≡ getD b i 0 → ⊥) → sameBytes (drop i a) (drop i b) ≡ false
-  unfolding sameBytes
-  same-miss other = rw (drop-cons a i 0, drop-cons b i 0, ne-eqb (getD a i 0) (getD b i 0) other)
+pub same-numbers : (w : ℕ) (a b : List ℕ) (i : ℕ) → (field w a i ≡ field w b i → ⊥) → sameBytes a b ≡ false
+same-numbers w a b i other = same-other a b (λ e. other (ap (λ (l : List ℕ). field w l i) e))
 
-pub same-end : (a b : List ℕ) (i : ℕ) → length a ≤ i → length b ≤ i → sameBytes (drop i a) (drop i b) ≡ true
+-- no byte, and one
+pub same-none : (a b : List ℕ) → length a ≡ length b → length a ≡ 0 → sameBytes a b ≡ true
 unfolding sameBytes
-same-end a b i ha hb = rw (drop-of-length-le a ha, drop-of-length-le b hb)
+same-none [] [] e none = refl
+same-none [] (y ∷ b) e none = absurd (omega arith)
+same-none (x ∷ a) b e none = absurd (omega arith)
+
+and-true : (t : Bool) → (t && true) ≡ t
+and-true true = refl
+and-true false = refl
+
+pub same-one : (a b : List ℕ) → length a ≡ length b → length a ≡ 1 → eqb (getD a 0 0) (getD b 0 0) ≡ sameBytes a b
+unfolding sameBytes
+same-one [] b e one = absurd (omega arith)
+same-one (x ∷ a) [] e one = absurd (omega arith)
+same-one (x ∷ []) (y ∷ []) e one = sym (and-true (eqb x y))
+same-one (x ∷ []) (y ∷ z ∷ b) e one = absurd (omega arith)
+same-one (x ∷ z ∷ a) (y ∷ b) e one = absurd (omega arith)
+
+-- ---- stretches of w bytes, of texts of one length
+
+module _ (w : ℕ) (a b : List ℕ) (e : length a ≡ length b) (ha : (i : ℕ) → getD a i 0 < 256) (hb : (i : ℕ) → getD b i 0 < 256) where
+  -- equal up to i, and one number there: equal up to the stretch's end
+  pub same-turn : (i : ℕ) → take i a ≡ take i b → field w a i ≡ field w b i → take (i + w) a ≡ take (i + w) b
+  same-turn i front same =
+      take-add i w a ∙ ap (λ (l : List ℕ). l ++ part a i w) front ∙ ap (λ (l : List ℕ). take i b ++ l) (field-same w a b i e ha hb same)
+      ∙ sym (take-add i w b)
+
+  -- equal up to i, and the stretch at the end begins at or before i: its numbers tell
+  pub same-last : (i last : ℕ) → last + w ≡ length a → last ≤ i → take i a ≡ take i b → eqb (field w a last) (field w b last) ≡ sameBytes a b
+  same-last i last whole reach front = go (eqb (field w a last) (field w b last)) refl
+    where
+      go : (t : Bool) → eqb (field w a last) (field w b last) ≡ t → t ≡ sameBytes a b
+      go true same =
+          let shorter : take last a ≡ take last b =
+          sym (take-take last i a reach) ∙ ap (λ (l : List ℕ). take last l) front ∙ take-take last i b reach in
+          let all : take (last + w) a ≡ take (last + w) b = same-turn last shorter (eqb-true _ _ same) in
+          sym (equal-same a b (sym (take-all (last + w) a (omega arith)) ∙ all ∙ take-all (last + w) b (omega arith)))
+      go false other = sym (same-numbers w a b last (eqb-false _ _ other))
+
+  -- two stretches cover a text of at most twice their length
+  pub same-two : (last : ℕ) → last + w ≡ length a → last ≤ w
+      → (eqb (field w a 0) (field w b 0) && eqb (field w a last) (field w b last)) ≡ sameBytes a b
+  same-two last whole reach = go (eqb (field w a 0) (field w b 0)) refl
+    where
+      go : (t : Bool) → eqb (field w a 0) (field w b 0) ≡ t → (t && eqb (field w a last) (field w b last)) ≡ sameBytes a b
+      go true same = same-last (0 + w) last whole (omega arith) (same-turn 0 refl (eqb-true _ _ same))
+      go false other = sym (same-numbers w a b 0 (eqb-false _ _ other))
 
 -- the first n bytes end with the fragment just where they are some bytes and then the fragment
 pub ends-split : (key : List ℕ) (n : ℕ) (frag : List ℕ) → endsAt key n frag ≡ true

@@ -8,10 +8,10 @@ use native.Mathlib.Omega.{arith}
 use mathlib.Core.Bool.{Bool, true, false}
 use lib.Dec.{ltb}
 use borrow.Author.Tests.{ltb-true, ltb-false}
-use lib.ListN.{length, getD, take, drop, set, length-set, length-take, List·getD-eq-default}
+use lib.ListN.{length, getD, take, drop, set, length-set, length-take, length-drop, List·getD-eq-default}
 use lib.Seq.{sets, drop-cons, take-take, drop-drop, getD-take, getD-drop}
 use Rattle.words.specs.Store.{part, putAt}
-use Rattle.words.specs.Field.{number, spelled, field, halfAt, wordAt}
+use Rattle.words.specs.Field.{number, spelled, field, halfAt, wordAt, longAt}
 use Rattle.words.proofs.StoreLaws.{part-put, part-before, part-after, part-part}
 
 -- a field is its first byte and 256 times the field of the others
@@ -44,6 +44,18 @@ word-bytes bytes at h =
       field-step 1 bytes (at + 2) (at + 3) (omega arith) (omega arith),
       field-step 0 bytes (at + 3) (at + 4) (omega arith) (omega arith),
       field-none bytes (at + 4),
+    )
+
+-- a field of eight is two of four
+pub long-words : (bytes : List ℕ) (at : ℕ) → at + 8 ≤ length bytes → longAt bytes at ≡ wordAt bytes at + 4294967296 * wordAt bytes (at + 4)
+long-words bytes at h =
+    omega (
+      arith,
+      field-step 7 bytes at (at + 1) refl (omega arith),
+      field-step 6 bytes (at + 1) (at + 2) (omega arith) (omega arith),
+      field-step 5 bytes (at + 2) (at + 3) (omega arith) (omega arith),
+      field-step 4 bytes (at + 3) (at + 4) (omega arith) (omega arith),
+      word-bytes bytes at (omega arith),
     )
 
 -- the bytes of a number spell it again
@@ -114,3 +126,24 @@ pub field-below : (n : ℕ) (bytes : List ℕ) (at : ℕ) → ((i : ℕ) → get
 unfolding field
 field-below n bytes at all =
     number-below (take n (drop at bytes)) n (omega (arith, length-take n (drop at bytes))) (stretch-bytes n at bytes all)
+
+-- ---- a number says which bytes spell it
+
+numbers-same : (a b : List ℕ) → length a ≡ length b → ((i : ℕ) → getD a i 0 < 256) → ((i : ℕ) → getD b i 0 < 256) → number a ≡ number b → a ≡ b
+unfolding number
+numbers-same [] [] e ha hb same = refl
+numbers-same [] (y ∷ b) e ha hb same = absurd (omega arith)
+numbers-same (x ∷ a) [] e ha hb same = absurd (omega arith)
+numbers-same (x ∷ a) (y ∷ b) e ha hb same =
+    let first : x ≡ y = omega (arith, ha 0, hb 0) in
+    let others : number a ≡ number b = omega (arith, ha 0, hb 0) in
+    cc (first, numbers-same a b (omega arith) (λ i. ha (suc i)) (λ i. hb (suc i)) others)
+
+-- stretches of bytes that are one number are the same bytes
+pub field-same : (n : ℕ) (a b : List ℕ) (at : ℕ) → length a ≡ length b → ((i : ℕ) → getD a i 0 < 256) → ((i : ℕ) → getD b i 0 < 256)
+    → field n a at ≡ field n b at → part a at n ≡ part b at n
+unfolding field
+field-same n a b at e ha hb same =
+    numbers-same (take n (drop at a)) (take n (drop at b))
+    (omega (arith, length-take n (drop at a), length-take n (drop at b), length-drop at a, length-drop at b))
+    (stretch-bytes n at a ha) (stretch-bytes n at b hb) same

@@ -22,3 +22,6 @@ halfAt = field 2
 
 abbrev pub wordAt : List ℕ → ℕ → ℕ
 wordAt = field 4
+
+abbrev pub longAt : List ℕ → ℕ → ℕ
+longAt = field 8

@@ -1,10 +1,11 @@
-// Little-endian numbers in a slice: 16 and 32 bits wide.
+// Little-endian numbers in a slice: 16, 32 and 64 bits wide.
 use crate::wide::byte_half;
 use crate::wide::byte_word;
+use crate::wide::word_long;
 ghost use mathlib.Core.Path.{_≡_};
 ghost use Prim.Native.Nat.{_+_, _≤_};
 ghost use lib.ListN.{length};
-ghost use Rattle.words.specs.Field.{halfAt, wordAt, spelled};
+ghost use Rattle.words.specs.Field.{halfAt, wordAt, longAt, spelled};
 ghost use Rattle.words.specs.Store.{putAt};
 
 // The four bytes from `at` on, as a number, lowest byte first.
@@ -17,6 +18,16 @@ pub fn word_at(file: &[u8], at: usize) -> u32
     let b2 = byte_word(file[at + 2]);
     let b3 = byte_word(file[at + 3]);
     b0 + 256 * b1 + 65536 * b2 + 16777216 * b3
+}
+
+// The eight bytes from `at` on, as a number, lowest byte first.
+pub fn long_at(file: &[u8], at: usize) -> u64
+    requires { ⌜ at + 8 ≤ length (now file) ⌝ }
+    ensures { λ r. ⌜ r ≡ longAt (now (file .entry)) at ⌝ }
+{
+    let low = word_long(word_at(file, at));
+    let high = word_long(word_at(file, at + 4));
+    low + 4294967296 * high
 }
 
 // The two bytes from `at` on, as a number, lowest byte first.

@@ -31,3 +31,9 @@ pub fn word_size(w: u32) -> usize
 {
     w as usize
 }
+
+pub fn word_long(w: u32) -> u64
+    ensures { λ r. ⌜ (r ≡ w) × (r < 2 ^ 32) ⌝ }
+{
+    w as u64
+}

@@ -1,70 +1,40 @@
--- `text::compare::same_bytes` meets its contract. The invariant: the texts are the sameBytes just where what is left of both is.
+-- `text::compare::same_bytes` meets its contract, by that of the function for its length.
 -- Assumes nothing.
-use mathlib.Core.Path.{_≡_, refl, sym, ap, _∙_}
-use mathlib.Core.Bool.{Bool, _&&_}
-use Prim.Native.Nat.{ℕ, _+_, _-_, _≤_}
-use native.Mathlib.Omega.{arith}
+use mathlib.Core.Path.{sym}
+use Rattle.text.proofs.CompareLaws.{same-lengths}
 use borrow.Author.Needs.{needs}
-use lib.ListN.{length, drop}
-use Rattle.text.specs.Compare.{sameBytes}
-use Rattle.text.proofs.CompareLaws.{same-lengths, same-hit, same-miss, same-end}
 use Rattle.text.proofs.compare.same_bytes.Statement.{statement}
 use Rattle.text.proofs.compare.same_bytes.Tie as tie
 
-abbrev Inv-loop : tie.InvT-loop
-Inv-loop a b i₀ i = (i ≤ length a) × (sameBytes a b ≡ sameBytes (drop i a) (drop i b))
-
-abbrev μ-loop : tie.MeasureT-loop
-μ-loop a b i₀ i = length a - i
-
-returns : tie.Need-returns Inv-loop μ-loop
+returns : tie.Need-returns
 returns c = sym (same-lengths _ _ (c .if1 .taken))
 
-loop-holds : tie.Need-loop-holds Inv-loop μ-loop
-loop-holds c = (omega arith, refl)
+same-long-requires : tie.Need-same-long-requires
+same-long-requires c κs = search needs
 
-shared-slice-read-if2 : tie.Need-shared-slice-read-if2 Inv-loop μ-loop
-shared-slice-read-if2 c = search needs
+returns-2 : tie.Need-returns-2
+returns-2 c = search needs
 
-shared-slice-read-if2-2 : tie.Need-shared-slice-read-if2-2 Inv-loop μ-loop
-shared-slice-read-if2-2 c = search needs
+same-words-requires : tie.Need-same-words-requires
+same-words-requires c κs = search needs
 
-returns-2 : tie.Need-returns-2 Inv-loop μ-loop
-returns-2 c =
-    let at = c .before .before .before .before in
-    let args = at .before .before .args in
-    sym (at .loop .inv .1 ∙ same-miss (args .a .now) (args .b .now) (at .loop .i) (omega arith) (omega arith) (c .if2 .taken))
+returns-3 : tie.Need-returns-3
+returns-3 c = search needs
 
-add-i : tie.Need-add-i Inv-loop μ-loop
-add-i c = search needs
+same-few-requires : tie.Need-same-few-requires
+same-few-requires c κs = search needs
 
-loop-less : tie.Need-loop-less Inv-loop μ-loop
-loop-less c = search needs
-
-loop-again : tie.Need-loop-again Inv-loop μ-loop
-loop-again c =
-    let at = c .before .before .before .before in
-    let args = at .before .before .args in
-    (omega arith, at .loop .inv .1 ∙ same-hit (args .a .now) (args .b .now) (at .loop .i) (omega arith) (omega arith) (c .if2 .left))
-
-returns-3 : tie.Need-returns-3 Inv-loop μ-loop
-returns-3 c =
-    let at = c .before in
-    let args = at .before .before .args in
-    sym (at .loop .inv .1 ∙ same-end (args .a .now) (args .b .now) (at .loop .i) (omega arith) (omega arith))
+returns-4 : tie.Need-returns-4
+returns-4 c = search needs
 
 pub same-bytes-spec : {M : Type 1} → statement M
 same-bytes-spec =
     tie.close
     (tie.spec
-    Inv-loop
-    μ-loop
     returns
-    loop-holds
-    shared-slice-read-if2
-    shared-slice-read-if2-2
+    same-long-requires
     returns-2
-    add-i
-    loop-less
-    loop-again
-    returns-3)
+    same-words-requires
+    returns-3
+    same-few-requires
+    returns-4)
