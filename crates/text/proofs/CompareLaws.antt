@@ -65,34 +65,34 @@ same-one (x ∷ []) (y ∷ []) e one = sym (and-true (eqb x y))
 same-one (x ∷ []) (y ∷ z ∷ b) e one = absurd (omega arith)
 same-one (x ∷ z ∷ a) (y ∷ b) e one = absurd (omega arith)
 
--- ---- stretches of w bytes, of texts of one length
+-- ---- stretches of w bytes
 
-module _ (w : ℕ) (a b : List ℕ) (e : length a ≡ length b) (ha : (i : ℕ) → getD a i 0 < 256) (hb : (i : ℕ) → getD b i 0 < 256) where
+module _ (w : ℕ) (a b : List ℕ) (ha : (i : ℕ) → getD a i 0 < 256) (hb : (i : ℕ) → getD b i 0 < 256) where
   -- equal up to i, and one number there: equal up to the stretch's end
-  pub same-turn : (i : ℕ) → take i a ≡ take i b → field w a i ≡ field w b i → take (i + w) a ≡ take (i + w) b
-  same-turn i front same =
-      take-add i w a ∙ ap (λ (l : List ℕ). l ++ part a i w) front ∙ ap (λ (l : List ℕ). take i b ++ l) (field-same w a b i e ha hb same)
+  pub same-turn : (i : ℕ) → i + w ≤ length a → i + w ≤ length b → take i a ≡ take i b → field w a i ≡ field w b i → take (i + w) a ≡ take (i + w) b
+  same-turn i fa fb front same =
+      take-add i w a ∙ ap (λ (l : List ℕ). l ++ part a i w) front ∙ ap (λ (l : List ℕ). take i b ++ l) (field-same w a b i fa fb ha hb same)
       ∙ sym (take-add i w b)
 
   -- equal up to i, and the stretch at the end begins at or before i: its numbers tell
-  pub same-last : (i last : ℕ) → last + w ≡ length a → last ≤ i → take i a ≡ take i b → eqb (field w a last) (field w b last) ≡ sameBytes a b
-  same-last i last whole reach front = go (eqb (field w a last) (field w b last)) refl
+  pub same-last : (i last : ℕ) → last + w ≡ length a → length a ≡ length b → last ≤ i → take i a ≡ take i b → eqb (field w a last) (field w b last) ≡ sameBytes a b
+  same-last i last whole e reach front = go (eqb (field w a last) (field w b last)) refl
     where
       go : (t : Bool) → eqb (field w a last) (field w b last) ≡ t → t ≡ sameBytes a b
       go true same =
           let shorter : take last a ≡ take last b =
           sym (take-take last i a reach) ∙ ap (λ (l : List ℕ). take last l) front ∙ take-take last i b reach in
-          let all : take (last + w) a ≡ take (last + w) b = same-turn last shorter (eqb-true _ _ same) in
+          let all : take (last + w) a ≡ take (last + w) b = same-turn last (omega arith) (omega arith) shorter (eqb-true _ _ same) in
           sym (equal-same a b (sym (take-all (last + w) a (omega arith)) ∙ all ∙ take-all (last + w) b (omega arith)))
       go false other = sym (same-numbers w a b last (eqb-false _ _ other))
 
   -- two stretches cover a text of at most twice their length
-  pub same-two : (last : ℕ) → last + w ≡ length a → last ≤ w
+  pub same-two : (last : ℕ) → last + w ≡ length a → length a ≡ length b → last ≤ w
       → (eqb (field w a 0) (field w b 0) && eqb (field w a last) (field w b last)) ≡ sameBytes a b
-  same-two last whole reach = go (eqb (field w a 0) (field w b 0)) refl
+  same-two last whole e reach = go (eqb (field w a 0) (field w b 0)) refl
     where
       go : (t : Bool) → eqb (field w a 0) (field w b 0) ≡ t → (t && eqb (field w a last) (field w b last)) ≡ sameBytes a b
-      go true same = same-last (0 + w) last whole (omega arith) (same-turn 0 refl (eqb-true _ _ same))
+      go true same = same-last (0 + w) last whole e (omega arith) (same-turn 0 (omega arith) (omega arith) refl (eqb-true _ _ same))
       go false other = sym (same-numbers w a b 0 (eqb-false _ _ other))
 
 -- the first n bytes end with the fragment just where they are some bytes and then the fragment

@@ -140,10 +140,10 @@ numbers-same (x ∷ a) (y ∷ b) e ha hb same =
     cc (first, numbers-same a b (omega arith) (λ i. ha (suc i)) (λ i. hb (suc i)) others)
 
 -- stretches of bytes that are one number are the same bytes
-pub field-same : (n : ℕ) (a b : List ℕ) (at : ℕ) → length a ≡ length b → ((i : ℕ) → getD a i 0 < 256) → ((i : ℕ) → getD b i 0 < 256)
+pub field-same : (n : ℕ) (a b : List ℕ) (at : ℕ) → at + n ≤ length a → at + n ≤ length b → ((i : ℕ) → getD a i 0 < 256) → ((i : ℕ) → getD b i 0 < 256)
     → field n a at ≡ field n b at → part a at n ≡ part b at n
 unfolding field
-field-same n a b at e ha hb same =
+field-same n a b at fa fb ha hb same =
     numbers-same (take n (drop at a)) (take n (drop at b))
     (omega (arith, length-take n (drop at a), length-take n (drop at b), length-drop at a, length-drop at b))
     (stretch-bytes n at a ha) (stretch-bytes n at b hb) same

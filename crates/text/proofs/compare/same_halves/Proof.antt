@@ -31,7 +31,7 @@ returns c =
     let bytes-a : (i : ℕ) → getD a i 0 < 256 = λ i. omega (arith, c .before .before .before .before .before .shared-slice-known .given i) in
     let bytes-b : (i : ℕ) → getD b i 0 < 256 = λ i. omega (arith, c .before .before .before .before .shared-slice-known2 .given i) in
     rw (c .before .before .before .half-at .ensures, c .before .before .half-at2 .ensures, c .before .half-at3 .ensures, c .half-at4 .ensures)
-    (same-two 2 a b (start .pre .0) bytes-a bytes-b (length a - 2) (omega arith) (omega arith))
+    (same-two 2 a b bytes-a bytes-b (length a - 2) (omega arith) (start .pre .0) (omega arith))
 
 pub same-halves-spec : {M : Type 1} → statement M
 same-halves-spec =

@@ -49,7 +49,7 @@ loop-again c =
     let bytes-a : (i : ℕ) → getD a i 0 < 256 = λ i. omega (arith, loop .before .before .shared-slice-known .given i) in
     let bytes-b : (i : ℕ) → getD b i 0 < 256 = λ i. omega (arith, loop .before .shared-slice-known2 .given i) in (
       omega arith,
-      same-turn 8 a b (start .pre .0) bytes-a bytes-b (loop .loop .i) (loop .loop .inv .1)
+      same-turn 8 a b bytes-a bytes-b (loop .loop .i) (omega arith) (omega arith) (loop .loop .inv .1)
           (sym (c .before .before .long-at .ensures) ∙ c .if1 .left ∙ c .before .long-at2 .ensures),
     )
 
@@ -68,7 +68,7 @@ returns-2 c =
     let bytes-a : (i : ℕ) → getD a i 0 < 256 = λ i. omega (arith, loop .before .before .shared-slice-known .given i) in
     let bytes-b : (i : ℕ) → getD b i 0 < 256 = λ i. omega (arith, loop .before .shared-slice-known2 .given i) in
     rw (c .before .long-at3 .ensures, c .long-at4 .ensures)
-    (same-last 8 a b (start .pre .0) bytes-a bytes-b (loop .loop .i) (length a - 8) (omega arith) (omega arith) (loop .loop .inv .1))
+    (same-last 8 a b bytes-a bytes-b (loop .loop .i) (length a - 8) (omega arith) (start .pre .0) (omega arith) (loop .loop .inv .1))
 
 pub same-long-spec : {M : Type 1} → statement M
 same-long-spec =

@@ -31,7 +31,7 @@ returns c =
     let bytes-a : (i : ℕ) → getD a i 0 < 256 = λ i. omega (arith, c .before .before .before .before .before .shared-slice-known .given i) in
     let bytes-b : (i : ℕ) → getD b i 0 < 256 = λ i. omega (arith, c .before .before .before .before .shared-slice-known2 .given i) in
     rw (c .before .before .before .word-at .ensures, c .before .before .word-at2 .ensures, c .before .word-at3 .ensures, c .word-at4 .ensures)
-    (same-two 4 a b (start .pre .0) bytes-a bytes-b (length a - 4) (omega arith) (omega arith))
+    (same-two 4 a b bytes-a bytes-b (length a - 4) (omega arith) (start .pre .0) (omega arith))
 
 pub same-words-spec : {M : Type 1} → statement M
 same-words-spec =
