@@ -114,7 +114,7 @@ less-or-not a b = by (leb b a) refl
     by true e = inr (leb-true b a e)
     by false e = inl (leb-false b a e)
 
-step-ascii : (b : ℕ) (s : List ℕ) → b < 128 → stepLen (b ∷ s) ≡ 1
+pub step-ascii : (b : ℕ) (s : List ℕ) → b < 128 → stepLen (b ∷ s) ≡ 1
 unfolding stepLen
 step-ascii b s h = sym (len-1 b (getD s 0 0) (getD s 1 0) (getD s 2 0) (omega arith))
 

@@ -1,3 +1,4 @@
+pub mod Ascii
 pub mod Utf8
 pub mod Compare
 pub mod Order

@@ -1,4 +1,5 @@
 // UTF-8 as RFC 3629, section 4, has it.
+use crate::ascii::is_ascii;
 ghost use mathlib.Core.Path.{_≡_};
 ghost use Prim.Native.Nat.{_<_};
 ghost use lib.ListN.{length, getD, drop};
@@ -93,9 +94,12 @@ pub fn first_bad(s: &[u8]) -> usize
     at
 }
 
-// Whether a text is UTF-8.
+// Whether a text is UTF-8. Most are ASCII, which is told sooner.
 pub fn is_utf8(s: &[u8]) -> bool
     ensures { λ r. ⌜ r ≡ isUtf8 (now (s .entry)) ⌝ }
 {
+    if is_ascii(s) {
+        return true;
+    }
     first_bad(s) == s.len()
 }
