@@ -96,6 +96,10 @@ module _ (file : List ℕ) (count : ℕ) (item : Item) {start size : ℕ} (s : s
   climb-refused e = rw (same-place ∙ e)
 
   module _ (inside : openPointer (length file) start (start + size) 1 ≡ Pointed.Inside) where
+    pub climb-inside : climbFrom file count item ≡ pick (isUtf8 (fragmentOf file item)) (parentOf count (item .parent)) (Step.Refused FragmentNotUtf8)
+    unfolding climbFrom afterPointer
+    climb-inside = rw (same-place ∙ inside)
+
     pub climb-text : isUtf8 (take (start + size - start) (drop start file)) ≡ true → climbFrom file count item ≡ parentOf count (item .parent)
     unfolding climbFrom afterPointer pick
     climb-text good = rw (same-place ∙ inside, sym (ap isUtf8 (fragment-taken file item s z)) ∙ good)

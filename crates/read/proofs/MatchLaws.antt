@@ -8,19 +8,25 @@ use native.Mathlib.Omega.{arith}
 use lib.ListN.{length, take, drop, length-append}
 use lib.Seq.{take-length, take-take, drop-at, length-take-le}
 use lib.Dec.{eqb}
-use borrow.Author.Tests.{le-leb}
+use borrow.Author.Tests.{le-leb, eqb-true, eqb-false}
 use Rattle.words.specs.Choice.{pick}
-use Rattle.words.proofs.ChoiceLaws.{pick-with, pick-same}
+use Rattle.words.proofs.ChoiceLaws.{pick-with, pick-same, both}
+use Rattle.text.specs.Ascii.{isAscii}
+use Rattle.text.specs.Utf8.{isUtf8}
 use Rattle.text.specs.Compare.{sameBytes, endsAt}
-use Rattle.text.proofs.CompareLaws.{same-equal, same-refl, same-lengths, ends-split}
+use Rattle.text.proofs.AsciiLaws.{ascii-append}
+use Rattle.text.proofs.CompareLaws.{same-equal, same-refl, equal-same, same-lengths, ends-split}
 use Rattle.layout.specs.declared.refusal.Refusal.{Refusal}
+use Rattle.layout.specs.declared.refusal.Refusal.the-variants.{FragmentNotUtf8}
+use Rattle.layout.specs.declared.pointer.Pointed.{Pointed}
 use Rattle.layout.specs.declared.table.Table.{Table}
 use Rattle.layout.specs.declared.item.Item.{Item}
+use Rattle.layout.specs.Pointer.{openPointer}
 use Rattle.layout.specs.Item.{itemAt}
 use Rattle.read.specs.declared.chain.Step.{Step}
 use Rattle.read.specs.declared.chain.Matched.{Matched}
-use Rattle.read.specs.Chain.{climbFrom, Joined, append, joinStep, keyOf, names, matchTail, matchStep, matchItem}
-use Rattle.read.proofs.ChainLaws.{fragment-taken, StepFits, climb-fits}
+use Rattle.read.specs.Chain.{parentOf, climbFrom, Joined, append, joinStep, keyOf, names, matchTail, matchStep, matchText, matchItem}
+use Rattle.read.proofs.ChainLaws.{fragment-taken, climb-refused, climb-inside, StepFits, climb-fits}
 
 -- ---- two keys with one tail
 
@@ -83,22 +89,68 @@ match-law : (file : List ℕ) (t : Table) (steps index : ℕ) (key : List ℕ)
 unfolding keyOf matchItem
 match-law file t steps index key = match-step file t steps _ _ key
 
+-- what a fragment says, test by test
+module _ (f key : List ℕ) where
+  -- a key that does not end in the fragment is no match, whatever the step
+  step-other : endsAt key (length key) f ≡ false → (s : Step) → Matched.Ended false ≡ matchStep s f key
+  unfolding matchStep matchTail pick
+  step-other other Step.Root = ap Matched.Ended (sym (unequal (sameBytes f key) refl))
+    where
+      unequal : (q : Bool) → sameBytes f key ≡ q → q ≡ false
+      unequal true e = sym (subst (λ (l : List ℕ). endsAt l (length l) f ≡ true) (same-equal f key e) (ends-joined [] f)) ∙ other
+      unequal false e = refl
+  step-other other (Step.Up parent) = rw other
+  step-other other (Step.Refused why) = refl
+
+  pub match-other : (step : Step) → endsAt key (length key) f ≡ false → Matched.Ended false ≡ matchText step f key
+  unfolding matchText
+  match-other step other = step-other other (pick (isUtf8 f) step (Step.Refused FragmentNotUtf8))
+
+  pub match-no-text : (step : Step) → isUtf8 f ≡ false → Matched.Ended false ≡ matchText step f key
+  unfolding matchText matchStep pick
+  match-no-text step bad = rw bad
+
+  -- the key ends in the fragment, which is a text
+  module _ (ends : endsAt key (length key) f ≡ true) where
+    -- as ASCII as the key
+    pub ends-ascii : isAscii key ≡ true → isAscii f ≡ true
+    ends-ascii e =
+        let split : key ≡ take (length key - length f) key ++ f = sym (take-length key) ∙ ends-split key (length key) f ends .1 in
+        both (isAscii (take (length key - length f) key)) (isAscii f) (sym (ascii-append (take (length key - length f) key) f) ∙ sym (ap isAscii split) ∙ e) .1
+
+    root-length : eqb (length f) (length key) ≡ sameBytes f key
+    root-length = go (eqb (length f) (length key)) refl
+      where
+        go : (q : Bool) → eqb (length f) (length key) ≡ q → q ≡ sameBytes f key
+        go true e =
+            let none : length key - length f ≡ 0 = omega (arith, eqb-true (length f) (length key) e) in
+            let whole : key ≡ f = sym (take-length key) ∙ ends-split key (length key) f ends .1 ∙ ap (λ (n : ℕ). take n key ++ f) none in
+            sym (equal-same f key (sym whole))
+        go false e = sym (same-lengths f key (eqb-false _ _ e))
+
+    module _ (good : isUtf8 f ≡ true) where
+      pub text-refused : {step : Step} {why : Refusal} → step ≡ Step.Refused why → Matched.Ended false ≡ matchText step f key
+      unfolding matchText matchStep pick
+      text-refused e = rw (good, e)
+
+      pub text-root : {step : Step} → step ≡ Step.Root → Matched.Ended (eqb (length f) (length key)) ≡ matchText step f key
+      unfolding matchText matchStep pick
+      text-root e = rw (good, e, root-length)
+
+      pub text-up : {step : Step} {parent : ℕ} → step ≡ Step.Up parent → Matched.Rest parent (length key - length f) ≡ matchText step f key
+      unfolding matchText matchStep matchTail pick
+      text-up e = rw (good, e, ends)
+
 -- what the item at hand says, with its fragment's place as the code has it
-module _ (file : List ℕ) (t : Table) (index : ℕ) (key : List ℕ) {item : Item} (is : item ≡ itemAt file t index) where
-  pub match-refused : {why : Refusal} → climbFrom file (t .count) item ≡ Step.Refused why → Matched.Ended false ≡ matchItem file t index key
+module _ (file : List ℕ) (t : Table) (index : ℕ) (key : List ℕ) {item : Item} (is : item ≡ itemAt file t index) {start size : ℕ} (s : start ≡ item .key) (z : size ≡ item .size) where
+  pub match-refused : {why : Refusal} → openPointer (length file) start (start + size) 1 ≡ Pointed.Refused why → Matched.Ended false ≡ matchItem file t index key
   unfolding matchItem matchStep
-  match-refused e = rw (← is, e)
+  match-refused e = rw (← is, ← climb-refused file (t .count) item s z e)
 
-  module _ {start size : ℕ} (s : start ≡ item .key) (z : size ≡ item .size) where
-    pub match-root : climbFrom file (t .count) item ≡ Step.Root
-        → Matched.Ended (sameBytes (take (start + size - start) (drop start file)) key) ≡ matchItem file t index key
-    unfolding matchItem matchStep
-    match-root e = rw (← is, e, fragment-taken file item s z)
-
-    pub match-up : {parent : ℕ} → climbFrom file (t .count) item ≡ Step.Up parent
-        → matchTail (take (start + size - start) (drop start file)) parent key ≡ matchItem file t index key
-    unfolding matchItem matchStep
-    match-up e = rw (← is, e, fragment-taken file item s z)
+  pub match-inside : {step : Step} → step ≡ parentOf (t .count) (item .parent) → openPointer (length file) start (start + size) 1 ≡ Pointed.Inside
+      → matchText step (take (start + size - start) (drop start file)) key ≡ matchItem file t index key
+  unfolding matchItem matchText
+  match-inside up e = rw (up, ← is, climb-inside file (t .count) item s z e, fragment-taken file item s z)
 
 -- what a match that goes on tells
 unfoldable pub MatchFits : ℕ → ℕ → Matched → Type 0

@@ -74,6 +74,10 @@ matchStep (Step.Refused why) fragment key = Matched.Ended false
 matchStep Step.Root fragment key = Matched.Ended (sameBytes fragment key)
 matchStep (Step.Up parent) fragment key = matchTail fragment parent key
 
+-- the same of a fragment that has to be UTF-8
+unfoldable pub matchText : Step → List ℕ → List ℕ → Matched
+matchText step fragment key = matchStep (pick (isUtf8 fragment) step (Step.Refused FragmentNotUtf8)) fragment key
+
 unfoldable pub matchItem : List ℕ → Table → ℕ → List ℕ → Matched
 matchItem file t index key =
     matchStep (climbFrom file (t .count) (itemAt file t index)) (fragmentOf file (itemAt file t index)) key

@@ -5,16 +5,19 @@ use layout::pointer::Pointed;
 use layout::pointer::open_pointer;
 use layout::refusal::Refusal;
 use layout::table::Table;
+use text::ascii::is_ascii;
 use text::compare::ends_with;
-use text::compare::same_bytes;
 use text::utf8::is_utf8;
 use words::align::Alignment;
 use words::wide::half_size;
 use words::wide::word_size;
 ghost use mathlib.Core.Path.{_≡_};
+ghost use mathlib.Core.Bool.{true};
 ghost use Prim.Native.Nat.{_<_};
+ghost use Rattle.text.specs.Ascii.{isAscii};
+ghost use Rattle.text.specs.Utf8.{isUtf8};
 ghost use Rattle.layout.specs.Table.{InFile};
-ghost use Rattle.read.specs.Chain.{parentOf, climbFrom, matchTail, matchItem, keyOf, names};
+ghost use Rattle.read.specs.Chain.{parentOf, climbFrom, matchText, matchItem, keyOf, names};
 
 // Where an item's chain goes on: it is a root, it has a parent, or the item is refused.
 pub enum Step {
@@ -61,32 +64,52 @@ pub fn climb(file: &[u8], count: usize, item: Item) -> Step
     }
 }
 
-// Whether a key ends in a fragment, and what is left of it for the parent.
-fn match_tail(fragment: &[u8], parent: usize, key: &[u8]) -> Matched
-    ensures { λ r. ⌜ r ≡ matchTail (now (fragment .entry)) parent (now (key .entry)) ⌝ }
+// Whether a fragment is UTF-8, where it may be known to be ASCII.
+fn is_text(fragment: &[u8], ascii: bool) -> bool
+    requires { ⌜ (ascii ≡ true → isAscii (now fragment) ≡ true) ⌝ }
+    ensures { λ r. ⌜ r ≡ isUtf8 (now (fragment .entry)) ⌝ }
 {
-    if ends_with(key, key.len(), fragment) {
-        Matched::Rest {
+    if ascii {
+        return true;
+    }
+    is_utf8(fragment)
+}
+
+// What a fragment says of a key, with the step to the parent. The key has to end in it: that is tested first, since what a key of ASCII bytes ends in is ASCII.
+fn match_fragment(fragment: &[u8], step: Step, key: &[u8], ascii: bool) -> Matched
+    requires { ⌜ (ascii ≡ true → isAscii (now key) ≡ true) ⌝ }
+    ensures { λ r. ⌜ r ≡ matchText step (now (fragment .entry)) (now (key .entry)) ⌝ }
+{
+    if !ends_with(key, key.len(), fragment) {
+        return Matched::Ended(false);
+    }
+    if !is_text(fragment, ascii) {
+        return Matched::Ended(false);
+    }
+    match step {
+        Step::Refused(_) => Matched::Ended(false),
+        Step::Root => Matched::Ended(fragment.len() == key.len()),
+        Step::Up(parent) => Matched::Rest {
             parent,
             size: key.len() - fragment.len(),
-        }
-    } else {
-        Matched::Ended(false)
+        },
     }
 }
 
-// What the item at an index says of a key.
-fn match_item(file: &[u8], table: Table, index: usize, key: &[u8]) -> Matched
-    requires { ⌜ InFile (now file) table × (index < table .count) ⌝ }
+// What the item at an index says of a key, which may be known to be ASCII.
+fn match_item(file: &[u8], table: Table, index: usize, key: &[u8], ascii: bool) -> Matched
+    requires { ⌜ InFile (now file) table × (index < table .count) × (ascii ≡ true → isAscii (now key) ≡ true) ⌝ }
     ensures { λ r. ⌜ r ≡ matchItem (now (file .entry)) table index (now (key .entry)) ⌝ }
 {
     let item = item_at(file, table, index);
     let start = word_size(item.key);
     let end = start + half_size(item.size);
-    match climb(file, table.count, item) {
-        Step::Refused(_) => Matched::Ended(false),
-        Step::Root => Matched::Ended(same_bytes(&file[start..end], key)),
-        Step::Up(parent) => match_tail(&file[start..end], parent, key),
+    match open_pointer(file.len(), start, end, Alignment::Key) {
+        Pointed::Refused(_) => Matched::Ended(false),
+        Pointed::Inside => {
+            let step = parent_of(table.count, item.parent);
+            match_fragment(&file[start..end], step, key, ascii)
+        }
     }
 }
 
@@ -95,11 +118,12 @@ pub fn chain_names(file: &[u8], table: Table, index: usize, key: &[u8]) -> bool
     requires { ⌜ InFile (now file) table × (index < table .count) ⌝ }
     ensures { λ r. ⌜ r ≡ names (keyOf (now (file .entry)) table (table .count) index) (now (key .entry)) ⌝ }
 {
+    let ascii = is_ascii(key);
     let mut at = index;
     let mut end = key.len();
     let mut left = table.count;
     while 0 < left {
-        match match_item(file, table, at, &key[..end]) {
+        match match_item(file, table, at, &key[..end], ascii) {
             Matched::Ended(answer) => {
                 return answer;
             }
