@@ -22,6 +22,9 @@ fn is_ascii_long(s: &[u8]) -> bool
     ensures { λ r. ⌜ r ≡ isAscii (now (s .entry)) ⌝ }
 {
     let last = s.len() - 8;
+    if !is_ascii_at(s, last) {
+        return false;
+    }
     let mut i = 0;
     while i < last {
         if !is_ascii_at(s, i) {
@@ -29,7 +32,7 @@ fn is_ascii_long(s: &[u8]) -> bool
         }
         i += 8;
     }
-    is_ascii_at(s, last)
+    true
 }
 
 // Whether a text is ASCII, byte by byte.
