@@ -1,16 +1,20 @@
 -- Laws about texts of ASCII bytes: they are UTF-8, and so are their parts. Assumes nothing.
-use mathlib.Core.Path.{_≡_, refl, sym, ap, _∙_}
+use mathlib.Core.Path.{_≡_, refl, sym, ap, ap₂, _∙_}
 use mathlib.Core.Bool.{Bool, true, false, _&&_}
 use mathlib.Core.List.{List, [], _∷_, _++_}
-use Prim.Native.Nat.{ℕ, zero, suc, _+_, _≤_, _<_}
+use Prim.Native.Nat.{ℕ, zero, suc, _+_, _*_, _/_, _%_, _^_, _≤_, _<_}
 use native.Mathlib.Numerals.{add-one}
 use native.Mathlib.Omega.{arith}
 use lib.ListN.{length, getD, take, drop, take-append-drop, drop-of-length-le}
 use lib.Seq.{drop-cons, take-add, take-take, take-all}
-use lib.Dec.{leb}
-use borrow.Author.Tests.{leb-true, lt-leb, le-leb}
+use lib.Dec.{leb, eqb}
+use lib.Bits.{bitAnd, and-zero-l, and-high, and-block}
+use borrow.Author.Tests.{leb-true, leb-false, lt-leb, le-leb, eqb-true, eqb-false, eq-eqb, ne-eqb}
 use Rattle.words.specs.Store.{part}
+use Rattle.words.specs.Field.{number, field, longAt}
 use Rattle.words.proofs.ChoiceLaws.{both, both-hold}
+use Rattle.words.proofs.StoreLaws.{length-part}
+use Rattle.words.proofs.FieldLaws.{stretch-bytes}
 use Rattle.text.specs.Ascii.{isAscii}
 use Rattle.text.specs.Utf8.{goodFrom, firstBad, isUtf8, stepLen, oneMore}
 use Rattle.text.proofs.Utf8Parts.{step-ascii, whole-utf8}
@@ -48,33 +52,52 @@ ascii-take n s e = both (isAscii (take n s)) (isAscii (drop n s)) (sym (ascii-sp
 pub ascii-drop : (n : ℕ) (s : List ℕ) → isAscii s ≡ true → isAscii (drop n s) ≡ true
 ascii-drop n s e = both (isAscii (take n s)) (isAscii (drop n s)) (sym (ascii-split n s) ∙ e) .1
 
--- one byte more of a stretch
-pub ascii-step : (n : ℕ) (s : List ℕ) (at next : ℕ) → next ≡ at + 1 → at < length s → isAscii (part s at (suc n)) ≡ (leb (getD s at 0) 0x7F && isAscii (part s next n))
-unfolding isAscii
-ascii-step n s at next e h = rw (e, add-one, drop-cons s at 0)
+-- ---- the highest bits of the bytes of a number
 
-ascii-one : (s : List ℕ) (at : ℕ) → at < length s → isAscii (part s at 1) ≡ leb (getD s at 0) 0x7F
-unfolding isAscii
-ascii-one s at h = ascii-step 0 s at (at + 1) refl h ∙ and-true (leb (getD s at 0) 0x7F)
+-- the number with these bits set, for n bytes
+highest : ℕ → ℕ
+highest zero = 0
+highest (suc n) = 128 + 256 * highest n
+
+bit-clear : (b : ℕ) → b < 256 → eqb (bitAnd b 128) 0 ≡ leb b 0x7F
+bit-clear b h = go (leb b 0x7F) refl
   where
-    and-true : (t : Bool) → (t && true) ≡ t
-    and-true true = refl
-    and-true false = refl
+    go : (t : Bool) → leb b 0x7F ≡ t → eqb (bitAnd b 128) 0 ≡ t
+    go true low =
+        let none : b / 128 ≡ 0 = omega (arith, leb-true b 0x7F low) in
+        let clear : b / 128 % 2 * 128 ≡ 0 = rw none in
+        eq-eqb (bitAnd b 128) 0 (and-high b 1 7 ∙ clear)
+    go false high =
+        let one : b / 128 ≡ 1 = omega (arith, h, leb-false b 0x7F high) in
+        let set : b / 128 % 2 * 128 ≡ 128 = rw one in
+        ne-eqb (bitAnd b 128) 0 (λ e. omega (arith, and-high b 1 7 ∙ set))
 
-pub ascii-eight : (s : List ℕ) (at : ℕ) → at + 8 ≤ length s
-    → (leb (getD s at 0) 0x7F && (leb (getD s (at + 1) 0) 0x7F && (leb (getD s (at + 2) 0) 0x7F && (leb (getD s (at + 3) 0) 0x7F && (leb (getD s (at + 4) 0) 0x7F && (leb (getD s (at + 5) 0) 0x7F && (leb (getD s (at + 6) 0) 0x7F && leb (getD s (at + 7) 0) 0x7F)))))))
-    ≡ isAscii (part s at 8)
-ascii-eight s at h =
-    rw (
-      ascii-step 7 s at (at + 1) refl (omega arith),
-      ascii-step 6 s (at + 1) (at + 2) (omega arith) (omega arith),
-      ascii-step 5 s (at + 2) (at + 3) (omega arith) (omega arith),
-      ascii-step 4 s (at + 3) (at + 4) (omega arith) (omega arith),
-      ascii-step 3 s (at + 4) (at + 5) (omega arith) (omega arith),
-      ascii-step 2 s (at + 5) (at + 6) (omega arith) (omega arith),
-      ascii-step 1 s (at + 6) (at + 7) (omega arith) (omega arith),
-      ascii-one s (at + 7) (omega arith),
-    )
+both-clear : (m b : ℕ) → eqb (m * 256 + b) 0 ≡ (eqb b 0 && eqb m 0)
+both-clear m b = go (eqb b 0) (eqb m 0) refl refl
+  where
+    go : (p q : Bool) → eqb b 0 ≡ p → eqb m 0 ≡ q → eqb (m * 256 + b) 0 ≡ (p && q)
+    go true true e f = eq-eqb (m * 256 + b) 0 (omega (arith, eqb-true b 0 e, eqb-true m 0 f))
+    go true false e f = ne-eqb (m * 256 + b) 0 (λ z. eqb-false m 0 f (omega arith))
+    go false q e f = ne-eqb (m * 256 + b) 0 (λ z. eqb-false b 0 e (omega arith))
+
+clear-ascii : (s : List ℕ) → ((i : ℕ) → getD s i 0 < 256) → eqb (bitAnd (number s) (highest (length s))) 0 ≡ isAscii s
+unfolding number highest isAscii
+clear-ascii [] bytes = eq-eqb (bitAnd 0 0) 0 (and-zero-l 0)
+clear-ascii (b ∷ s) bytes =
+    let low : b < 2 ^ 8 = bytes 0 in
+    let whole : b + 256 * number s ≡ number s * 2 ^ 8 + b = omega arith in
+    let mask : 128 + 256 * highest (length s) ≡ highest (length s) * 2 ^ 8 + 128 = omega arith in
+    ap₂ (λ (x y : ℕ). eqb (bitAnd x y) 0) whole mask
+    ∙ ap (λ (x : ℕ). eqb x 0) (and-block 8 (number s) (highest (length s)) b 128 low (omega arith))
+    ∙ both-clear (bitAnd (number s) (highest (length s))) (bitAnd b 128)
+    ∙ ap₂ (λ (p q : Bool). p && q) (bit-clear b (bytes 0)) (clear-ascii s (λ i. bytes (suc i)))
+
+pub eight-ascii : (s : List ℕ) (at : ℕ) → ((i : ℕ) → getD s i 0 < 256) → at + 8 ≤ length s
+    → eqb (bitAnd (longAt s at) 0x8080808080808080) 0 ≡ isAscii (part s at 8)
+unfolding field highest
+eight-ascii s at bytes h =
+    ap (λ (n : ℕ). eqb (bitAnd (number (part s at 8)) (highest n)) 0) (sym (length-part s at 8 h))
+    ∙ clear-ascii (part s at 8) (stretch-bytes 8 at s bytes)
 
 pub ascii-none : (s : List ℕ) (at : ℕ) → isAscii (part s at 0) ≡ true
 unfolding isAscii

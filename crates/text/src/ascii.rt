@@ -1,19 +1,17 @@
 // Texts of ASCII bytes, eight bytes at a time. The last eight end where the text ends, so they may begin in bytes that were tested before.
+use words::field::long_at;
 ghost use mathlib.Core.Path.{_≡_};
 ghost use Prim.Native.Nat.{_+_, _≤_};
 ghost use lib.ListN.{length};
 ghost use Rattle.words.specs.Store.{part};
 ghost use Rattle.text.specs.Ascii.{isAscii};
 
-// Whether the eight bytes from `at` on are ASCII. No branches, so that the compiler tests them at once.
+// Whether the eight bytes from `at` on are ASCII: of their number, the highest bit of each byte is clear.
 fn is_ascii_at(s: &[u8], at: usize) -> bool
     requires { ⌜ at + 8 ≤ length (now s) ⌝ }
     ensures { λ r. ⌜ r ≡ isAscii (part (now (s .entry)) at 8) ⌝ }
 {
-    let last = (s[at + 6] <= 0x7F) & (s[at + 7] <= 0x7F);
-    let third = (s[at + 4] <= 0x7F) & ((s[at + 5] <= 0x7F) & last);
-    let second = (s[at + 2] <= 0x7F) & ((s[at + 3] <= 0x7F) & third);
-    (s[at] <= 0x7F) & ((s[at + 1] <= 0x7F) & second)
+    long_at(s, at) & 0x8080_8080_8080_8080 == 0
 }
 
 // Whether a text of eight bytes or more is ASCII.
@@ -22,9 +20,6 @@ fn is_ascii_long(s: &[u8]) -> bool
     ensures { λ r. ⌜ r ≡ isAscii (now (s .entry)) ⌝ }
 {
     let last = s.len() - 8;
-    if !is_ascii_at(s, last) {
-        return false;
-    }
     let mut i = 0;
     while i < last {
         if !is_ascii_at(s, i) {
@@ -32,7 +27,7 @@ fn is_ascii_long(s: &[u8]) -> bool
         }
         i += 8;
     }
-    true
+    is_ascii_at(s, last)
 }
 
 // Whether a text is ASCII, byte by byte.

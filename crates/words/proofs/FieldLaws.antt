@@ -113,7 +113,7 @@ number-below (b ∷ bytes) zero h all = absurd (omega arith)
 number-below (b ∷ bytes) (suc n) h all = omega (arith, all 0, number-below bytes n (omega arith) (λ i. all (suc i)))
 
 -- a stretch of bytes is bytes
-stretch-bytes : (n at : ℕ) (bytes : List ℕ) → ((i : ℕ) → getD bytes i 0 < 256) → (i : ℕ) → getD (take n (drop at bytes)) i 0 < 256
+pub stretch-bytes : (n at : ℕ) (bytes : List ℕ) → ((i : ℕ) → getD bytes i 0 < 256) → (i : ℕ) → getD (take n (drop at bytes)) i 0 < 256
 stretch-bytes n at bytes all i = go (ltb i n) refl
   where
     go : (t : Bool) → ltb i n ≡ t → getD (take n (drop at bytes)) i 0 < 256

@@ -21,25 +21,17 @@ abbrev μ-loop : tie.MeasureT-loop
 sub-last : tie.Need-sub-last Inv-loop μ-loop
 sub-last c = search needs
 
+loop-holds : tie.Need-loop-holds Inv-loop μ-loop
+loop-holds c = (omega arith, ascii-none (c .before .args .s .now) 0)
+
 is-ascii-at-requires : tie.Need-is-ascii-at-requires Inv-loop μ-loop
 is-ascii-at-requires c κs = search needs
 
 returns : tie.Need-returns Inv-loop μ-loop
 returns c =
-    let s = c .before .before .before .args .s .now in
-    sym (ascii-stop s (length s - 8) 8 (sym (c .before .is-ascii-at .ensures) ∙ not-true _ (c .if1 .taken)))
-
-loop-holds : tie.Need-loop-holds Inv-loop μ-loop
-loop-holds c = (omega arith, ascii-none (c .before .before .before .args .s .now) 0)
-
-is-ascii-at-requires-2 : tie.Need-is-ascii-at-requires-2 Inv-loop μ-loop
-is-ascii-at-requires-2 c κs = search needs
-
-returns-2 : tie.Need-returns-2 Inv-loop μ-loop
-returns-2 c =
     let at = c .before .before .before in
-    let s = at .before .before .before .before .args .s .now in
-    sym (ascii-stop s (at .loop .i) 8 (sym (c .before .is-ascii-at2 .ensures) ∙ not-true _ (c .if2 .taken)))
+    let s = at .before .before .args .s .now in
+    sym (ascii-stop s (at .loop .i) 8 (sym (c .before .is-ascii-at .ensures) ∙ not-true _ (c .if1 .taken)))
 
 add-i : tie.Need-add-i Inv-loop μ-loop
 add-i c = search needs
@@ -50,15 +42,17 @@ loop-less c = search needs
 loop-again : tie.Need-loop-again Inv-loop μ-loop
 loop-again c =
     let at = c .before .before .before in
-    let s = at .before .before .before .before .args .s .now in
-    (omega arith, ascii-turn s (at .loop .i) 8 (at .loop .inv .1) (sym (c .before .is-ascii-at2 .ensures) ∙ not-false _ (c .if2 .left)))
+    let s = at .before .before .args .s .now in
+    (omega arith, ascii-turn s (at .loop .i) 8 (at .loop .inv .1) (sym (c .before .is-ascii-at .ensures) ∙ not-false _ (c .if1 .left)))
 
-returns-3 : tie.Need-returns-3 Inv-loop μ-loop
-returns-3 c =
-    let at = c .before in
-    let s = at .before .before .before .before .args .s .now in
-    let last = at .before .before .is-ascii-at .ensures in
-    sym (not-false _ (at .before .if1 .left)) ∙ last ∙ ascii-last s (at .loop .i) (length s - 8) 8 (omega arith) (omega arith) (at .loop .inv .1)
+is-ascii-at-requires-2 : tie.Need-is-ascii-at-requires-2 Inv-loop μ-loop
+is-ascii-at-requires-2 c κs = search needs
+
+returns-2 : tie.Need-returns-2 Inv-loop μ-loop
+returns-2 c =
+    let at = c .before .before in
+    let s = at .before .before .args .s .now in
+    c .is-ascii-at2 .ensures ∙ ascii-last s (at .loop .i) (length s - 8) 8 (omega arith) (omega arith) (at .loop .inv .1)
 
 pub is-ascii-long-spec : {M : Type 1} → statement M
 is-ascii-long-spec =
@@ -67,12 +61,11 @@ is-ascii-long-spec =
     Inv-loop
     μ-loop
     sub-last
+    loop-holds
     is-ascii-at-requires
     returns
-    loop-holds
-    is-ascii-at-requires-2
-    returns-2
     add-i
     loop-less
     loop-again
-    returns-3)
+    is-ascii-at-requires-2
+    returns-2)
