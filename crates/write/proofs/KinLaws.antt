@@ -2,7 +2,7 @@
 -- Assumes nothing.
 use mathlib.Core.Path.{_≡_, refl, sym, ap, _∙_}
 use mathlib.Core.Bool.{Bool, true, false}
-use mathlib.Core.Logic.{_⊎_, inl, inr, ⊎-elim}
+use mathlib.Core.Logic.{⊎-elim}
 use mathlib.Core.List.{List, [], _∷_, _++_, map, append-nil}
 use Prim.Native.Nat.{ℕ, zero, suc, _+_, _-_, _≤_, _<_}
 use native.Mathlib.Nat.{mod-eq-of-lt}
@@ -23,7 +23,6 @@ use Rattle.image.proofs.NumberLaws.{getD-made}
 use Rattle.image.proofs.RunLaws.{numbered-each, number-at, start-suc, start-most, start-all, length-numbered}
 use Rattle.order.specs.Chain.{starts}
 use Rattle.order.proofs.ChainLaws.{length-starts, starts-at}
-use Rattle.lay.specs.Sheet.{sheetSlots}
 use Rattle.roster.specs.Roster.{stateOf}
 use Rattle.write.specs.Sheeted.{kids, fromLast, Parents, Kin}
 use Rattle.write.proofs.StateLaws.{Right, among, among-hit, among-miss, among-none, members-are, above-is}
