@@ -30,11 +30,6 @@ unfolding orElse
 or-nothing Held.nothing = refl
 or-nothing (Held.holds c) = refl
 
-or-pick : (b : Bool) (c : Content) (h : Held) → orElse (pick b (Held.holds c) Held.nothing) h ≡ pick b (Held.holds c) h
-unfolding orElse pick
-or-pick true c h = refl
-or-pick false c h = refl
-
 -- ---- an item more
 
 pub held-snoc : (items : List Entry) (x : Entry) (t : ℕ) (k : List ℕ)

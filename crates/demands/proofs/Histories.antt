@@ -17,7 +17,7 @@ use Rattle.model.specs.declared.Numbered.{Numbered}
 use Rattle.model.specs.Table.{Content, Entry}
 use Rattle.model.specs.Builder.{Builder, Shelf, Result, result, noShelf, shelfAt, separatorOf}
 use Rattle.model.specs.Builder as model
-use Rattle.memory.specs.Memory.{Memory, memory, leastWords}
+use Rattle.memory.specs.Memory.{Memory, leastWords}
 use Rattle.memory.specs.Meaning.{meaning}
 use Rattle.tables.specs.Table.{newTable}
 use Rattle.build.specs.Answer.{insertedNumber}

@@ -22,7 +22,7 @@ use mathlib.Core.List.{List, [], _∷_, _++_}
 use lib.ListN.{length, take, getD, set, length-set, length-append, drop-of-length-le}
 use lib.Seq.{drop-append-seam}
 use Rattle.words.specs.Choice.{pick}
-use Rattle.words.proofs.ChoiceLaws.{pick-true, pick-false, both}
+use Rattle.words.proofs.ChoiceLaws.{pick-true, pick-false}
 use Rattle.text.specs.Prefix.{prefixes}
 use Rattle.text.proofs.PrefixLaws.{next-within, next-rises}
 use Rattle.layout.specs.declared.refusal.Refusal.the-variants.{TooManyItems, ArenaFull, NotContainer, NestedTooDeep}

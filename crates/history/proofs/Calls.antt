@@ -20,7 +20,7 @@ use Rattle.memory.specs.Memory.{tableTotal, itemTotal, roomUsed, tableSeparator
 use Rattle.memory.specs.Find.{findKey}
 use Rattle.memory.specs.Item.{Stored, kindOf, replaceItem}
 use Rattle.build.specs.declared.walk.Way.{Way}
-use Rattle.build.specs.Walk.{way, wayOf, sum}
+use Rattle.build.specs.Walk.{wayOf, sum}
 use Rattle.build.specs.Insert.{containers, refused, added, insertNew, overwrite, insertAlong, insertWalked}
 use Rattle.build.proofs.WalkLaws.{last}
 use Rattle.history.specs.Items.{item, itemOf, Table}

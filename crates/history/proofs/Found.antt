@@ -10,14 +10,13 @@ use borrow.Author.Tests.{eqb-true, eq-eqb}
 use lib.Dec.{eqb, ltb}
 use lib.ListN.{length, getD}
 use Rattle.words.specs.Choice.{pick}
-use Rattle.words.proofs.ChoiceLaws.{both, both-hold, not-both}
+use Rattle.words.proofs.ChoiceLaws.{both-hold, not-both}
 use Rattle.text.specs.Compare.{sameBytes}
 use Rattle.text.proofs.CompareLaws.{same-equal, same-refl}
 use Rattle.model.specs.Table.{Entry, noEntry, entryAt}
 use Rattle.model.specs.Walk.{findKey, isThere}
 use Rattle.memory.specs.Memory.{itemTotal}
 use Rattle.memory.specs.Find as words
-use Rattle.memory.specs.Meaning.{meaning}
 use Rattle.history.specs.Items.{Item, itemOf, Table}
 use Rattle.history.specs.Honest.{Good}
 use Rattle.history.proofs.Index.{find-within}
@@ -98,11 +97,6 @@ module _ (g : ℕ → Table) (ws ar : List ℕ) (honest : Good g ws ar) (t : ℕ
         where
           none-is : (words.findKey ws ar t key < itemTotal ws → ⊥) → words.findKey ws ar t key ≡ itemTotal ws
           none-is h = let b = find-within ws ar (honest .tidy) t key in omega arith
-
-  -- the same of what the memory means
-  pub find-meant : words.findKey ws ar t key ≡ findKey (meaning ws ar .items) t key
-  unfolding meaning
-  find-meant = find-same
 
   pub there-same : isThere items t key ≡ ltb (words.findKey ws ar t key) (itemTotal ws)
   there-same = ap (λ (n : ℕ). ltb n (length items)) (sym find-same) ∙ ap (ltb (words.findKey ws ar t key)) (items-count ws ar)

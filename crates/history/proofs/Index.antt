@@ -3,7 +3,7 @@ use Prim.Native.Nat.{ℕ, zero, suc, _%_, _≤_, _<_}
 use native.Mathlib.Nat.{not-suc-le-zero, mod-lt}
 use native.Mathlib.Omega.{arith}
 use mathlib.Core.Path.{_≡_, refl, sym, ap, _∙_, subst}
-use mathlib.Core.Bool.{Bool, true, false, not}
+use mathlib.Core.Bool.{Bool, true, false}
 use mathlib.Core.List.{List}
 use borrow.Author.Tests.{eqb-true, eqb-false, eq-eqb, ne-eqb}
 use lib.Dec.{eqb}
@@ -14,10 +14,8 @@ use Rattle.words.specs.Hash.{hashOf}
 use Rattle.words.proofs.ChoiceLaws.{both, pick-with}
 use Rattle.text.specs.Compare.{sameBytes}
 use Rattle.text.proofs.CompareLaws.{same-equal, same-refl}
-use Rattle.memory.specs.Memory.{buckets, itemTotal, itemTable, itemHash, itemOlder, keyStart, keySize, keyOf, memory}
+use Rattle.memory.specs.Memory.{buckets, itemTotal, itemTable, itemHash, itemOlder, keyStart, keySize, keyOf}
 use Rattle.memory.specs.Find.{isItem, seek, findKey}
-use Rattle.build.proofs.WalkLaws.{last}
-use Rattle.history.specs.Items.{item}
 use Rattle.history.specs.Tidy.{lastIn, bucketOf, Tidy}
 
 pub false-true : {A : Type 0} → false ≡ true → A

@@ -111,10 +111,6 @@ itemsOf ws ar = listed (entryOf ws ar) (itemTotal ws)
 abbrev pub tablesOf : List ℕ → List Shelf
 tablesOf ws = listed (shelfOf ws) (tableTotal ws)
 
-pub meaning-is : (ws ar : List ℕ) → meaning ws ar ≡ builder (length ar) (roomUsed ws) (tablesOf ws) (itemsOf ws ar)
-unfolding meaning
-meaning-is ws ar = refl
-
 pub builder-same : {r r′ u u′ : ℕ} {T T′ : List Shelf} {I I′ : List Entry} → r ≡ r′ → u ≡ u′ → T ≡ T′ → I ≡ I′ → builder r u T I ≡ builder r′ u′ T′ I′
 builder-same a b c d = cc
 

@@ -10,7 +10,7 @@ use Rattle.text.specs.Utf8.{isUtf8}
 use Rattle.layout.specs.declared.refusal.Refusal.{Refusal}
 use Rattle.model.specs.declared.Inserted.{Inserted}
 use Rattle.model.specs.Builder.{mostTables, longestKey, separatorOf}
-use Rattle.memory.specs.Memory.{leastWords, freshWords, tableTotal, itemTotal, roomUsed, tableSeparator, tablePlaced, itemTable, valueKind, memory, Outcome}
+use Rattle.memory.specs.Memory.{leastWords, freshWords, tableTotal, itemTotal, roomUsed, tableSeparator, tablePlaced, itemTable, valueKind, Outcome}
 use Rattle.memory.specs.Item.{stored}
 use Rattle.tables.specs.Table.{takes, addTable, newTable, unnumbered}
 use Rattle.tables.proofs.TableLaws.{takes-facts}

@@ -23,7 +23,7 @@ use Rattle.tables.proofs.TableLaws.{takes-facts}
 use Rattle.build.specs.Walk.{wayOf}
 use Rattle.build.specs.Insert.{refused, insertWalked, keyed}
 use Rattle.nest.specs.Nest.{heldAt, heldHeight, placeTable, whenAccepted, settled, nested, tableSound, insertTable}
-use Rattle.history.specs.Items.{Item, item, itemOf, Table, tableOf}
+use Rattle.history.specs.Items.{Item, itemOf, Table, tableOf}
 use Rattle.history.specs.Right.{heldItem, heldIn, Right}
 use Rattle.layout.specs.declared.refusal.Refusal.the-variants.{MemoryBroken, TableUnknown, TableInItself, KeyNotUtf8, KeyTooLong, NotContainer, NestedTooDeep}
 use Rattle.nest.proofs.NestLaws.{held-other, held-kind, held-guest}

@@ -13,7 +13,6 @@ use Rattle.words.specs.Choice.{pick}
 use Rattle.text.specs.Utf8.{isUtf8}
 use Rattle.layout.specs.Kind.{kindKnown}
 use Rattle.model.specs.Builder.{most}
-use Rattle.build.specs.Walk.{way}
 use Rattle.history.specs.Items.{Item, item, Table}
 use Rattle.history.specs.Right.{isBytes, There, Above, Parent, heldItem, heldIn, Right}
 

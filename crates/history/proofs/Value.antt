@@ -16,7 +16,7 @@ use Rattle.text.specs.Utf8.{isUtf8}
 use Rattle.model.specs.declared.Inserted.{Inserted}
 use Rattle.model.specs.declared.Numbered.{Numbered}
 use Rattle.model.specs.Builder.{mostTables, longestKey, separatorOf}
-use Rattle.memory.specs.Memory.{word, leastWords, tableAt, tableTotal, itemTotal, tableSeparator, tablePlaced, tableHeight, valueKind, sound, freshWords, Memory, memory, Outcome}
+use Rattle.memory.specs.Memory.{word, leastWords, tableAt, tableTotal, itemTotal, tableSeparator, tablePlaced, tableHeight, valueKind, sound, freshWords, Memory, Outcome}
 use Rattle.memory.specs.Item.{Stored, stored}
 use Rattle.tables.specs.Table.{takes, addTable, newTable}
 use Rattle.tables.proofs.TableLaws.{takes-facts}

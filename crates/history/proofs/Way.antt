@@ -3,7 +3,7 @@ use Prim.Native.Nat.{ℕ, zero, suc, _+_, _-_, _≤_, _<_}
 use native.Mathlib.Omega.{arith}
 use native.Mathlib.Decide.{decLt}
 use mathlib.Core.Path.{_≡_, refl, sym, ap, _∙_, subst}
-use mathlib.Core.Bool.{Bool, true, false, not}
+use mathlib.Core.Bool.{Bool, true, false}
 use mathlib.Core.List.{List, [], _∷_}
 use borrow.Author.Tests.{eqb-true, eqb-false}
 use lib.Dec.{eqb}
@@ -16,8 +16,7 @@ use Rattle.memory.specs.Memory.{itemTotal, itemKind}
 use Rattle.memory.specs.Find.{findKey}
 use Rattle.build.specs.declared.walk.Way.{Way}
 use Rattle.build.specs.Walk.{way, descend}
-use Rattle.build.specs.Insert.{containers}
-use Rattle.build.proofs.WalkLaws.{further, last, walk-end, walk-miss, walk-block, walk-pass}
+use Rattle.build.proofs.WalkLaws.{further, walk-end, walk-miss, walk-block, walk-pass}
 use Rattle.history.specs.Items.{Item, itemOf}
 use Rattle.history.specs.Tidy.{Tidy}
 use Rattle.history.specs.Right.{There, Above}

@@ -7,7 +7,7 @@ use native.Mathlib.Omega.{arith}
 use lib.ListN.{length, take, drop, getD, length-append, length-take, length-drop}
 use lib.Seq.{take-at, drop-at, take-add, take-take, drop-drop, getD-take, getD-drop}
 use Rattle.words.specs.Store.{part, putAt}
-use Rattle.words.proofs.StoreLaws.{put-none, put-append, put-comm, length-put, part-put}
+use Rattle.words.proofs.StoreLaws.{put-none, put-append, put-comm, part-put}
 use Rattle.image.specs.Laid.{Holds, Laid}
 
 -- ---- what is laid
@@ -15,19 +15,12 @@ use Rattle.image.specs.Laid.{Holds, Laid}
 pub laid-none : (img : List ℕ) (at : ℕ) → Laid img img at [] at
 laid-none img at = record { end-is = sym (add-zero at); image-is = sym (put-none img at) }
 
--- a store that ends where it says
-pub laid-put : (img : List ℕ) (at : ℕ) (bytes : List ℕ) → Laid img (putAt img at bytes) at bytes (at + length bytes)
-laid-put img at bytes = record { end-is = refl; image-is = refl }
-
 -- two runs of bytes, the second where the first ends, are one
 pub laid-join : {a b c : List ℕ} {at mid end : ℕ} {xs ys : List ℕ} → Laid a b at xs mid → Laid b c mid ys end → Laid a c at (xs ++ ys) end
 laid-join {a} {b} {c} {at} {mid} {end} {xs} {ys} p q = record {
   end-is = omega (arith, p .end-is, q .end-is, length-append xs ys);
   image-is = q .image-is ∙ rw (p .image-is, p .end-is, put-append);
 }
-
-pub laid-length : {a b : List ℕ} {at end : ℕ} {xs : List ℕ} → Laid a b at xs end → length b ≡ length a
-laid-length {a} {b} {at} {end} {xs} p = ap length (p .image-is) ∙ length-put a at xs
 
 -- the same bytes under another name
 pub laid-as : {a b : List ℕ} {at end : ℕ} {xs ys : List ℕ} → xs ≡ ys → Laid a b at xs end → Laid a b at ys end
@@ -47,9 +40,6 @@ put-both l r at rs ps r1 p1 {a} {c} {d} {e} {q} ea ee ec eq h ed =
 pub holds-put : (l : List ℕ) (at : ℕ) (bytes : List ℕ) → at + length bytes ≤ length l → Holds (putAt l at bytes) at bytes
 unfolding Holds
 holds-put l at bytes fits = part-put l at bytes fits
-
-pub holds-laid : {a b : List ℕ} {at end : ℕ} {xs : List ℕ} → Laid a b at xs end → end ≤ length a → Holds b at xs
-holds-laid {a} {b} {at} {end} {xs} p fits = rw (p .image-is) (holds-put a at xs (omega (arith, p .end-is)))
 
 -- the first and the second of two runs of bytes that are held
 pub holds-front : (l : List ℕ) (at : ℕ) (a b : List ℕ) → Holds l at (a ++ b) → Holds l at a

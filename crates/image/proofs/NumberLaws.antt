@@ -10,11 +10,11 @@ use Rattle.words.specs.Hash.{hashBy}
 use Rattle.text.specs.Order.{precedes}
 use Rattle.text.proofs.OrderLaws.{total}
 use Rattle.model.specs.Table.{Rows, times, Has}
-use Rattle.image.specs.Number.{keyOrder, hashesOf, bucketOf, run, numbered, bucketStart, byNumber, itemOf, indexIn, numberOf}
+use Rattle.image.specs.Number.{keyOrder, hashesOf, bucketOf, numbered, bucketStart, byNumber, itemOf, indexIn, numberOf}
 use Rattle.image.specs.Numbering.{Each, Numbering}
 use Rattle.image.proofs.TimesLaws.{times-some, place-once, Stands, index-stands}
 use Rattle.image.proofs.OrderLaws.{length-order, times-order, order-ascends, ascends-at}
-use Rattle.image.proofs.RunLaws.{number-bucket, numbered-each, numbers-descend, start-all, start-most}
+use Rattle.image.proofs.RunLaws.{number-bucket, numbered-each, numbers-descend, start-most}
 
 -- an element of a list made one by one
 pub getD-made : (f : ℕ → ℕ) (l : List ℕ) (k : ℕ) → k < length l → getD (map f l) k 0 ≡ f (getD l k 0)
@@ -63,12 +63,9 @@ module _ (rule : ℕ → ℕ) (table : Rows) where
   unfolding byNumber
   length-by-number = length-map (numbered (hashesOf rule table)) (λ (q : ℕ). getD (keyOrder table) q 0) ∙ places-each .size
 
-  -- a bucket's word is at most the item count; past the last bucket it is the item count
+  -- a bucket's word is at most the item count
   pub first-most : (b : ℕ) → bucketStart (hashesOf rule table) b ≤ length (table .members)
   first-most b = rw length-hashes at (start-most (hashesOf rule table) b)
-
-  pub first-all : bucketStart (hashesOf rule table) (length (table .members)) ≡ length (table .members)
-  first-all = rw length-hashes at (start-all (hashesOf rule table))
 
   -- the bucket of a number's place is its item's hash modulo the item count
   pub item-bucket : (k : ℕ) → k < length (table .members)

@@ -1,7 +1,6 @@
 -- The images of document 01, 'Worked numbers', byte by byte: they come out of the definition by computation. Assumes nothing.
 use Prim.Native.Nat.{ℕ}
 use mathlib.Core.Path.{_≡_, refl}
-use mathlib.Core.Bool.{_&&_, _||_}
 use mathlib.Core.List.{List, [], _∷_}
 use lib.ListN.{length, drop}
 use Rattle.words.specs.Choice.{pick}

@@ -6,7 +6,7 @@ use lib.Dec.{eqb, ltb}
 use lib.ListN.{length, set}
 use Rattle.words.specs.Choice.{pick}
 use Rattle.text.specs.Compare.{sameBytes}
-use Rattle.model.specs.Table.{Content, Entry, entryAt, noItem, isContainer}
+use Rattle.model.specs.Table.{Content, Entry, entryAt, isContainer}
 
 -- the index of the item of table t with a key, or the count of the items where there is none
 unfoldable pub findKey : List Entry → ℕ → List ℕ → ℕ

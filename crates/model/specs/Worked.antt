@@ -1,7 +1,7 @@
 -- Inserts by hand: the definitions compute what document 01 says of "a/b" and of a container that is replaced. Assumes nothing.
 use Prim.Native.Nat.{ℕ}
 use mathlib.Core.Path.{_≡_, refl}
-use mathlib.Core.Bool.{true, false, _&&_, _||_}
+use mathlib.Core.Bool.{true, false}
 use mathlib.Core.List.{List, [], _∷_}
 use Rattle.words.specs.Choice.{pick}
 use Rattle.text.specs.Compare.{sameBytes}
@@ -10,9 +10,9 @@ use Rattle.text.specs.Prefix.{endsFrom, prefixes}
 use Rattle.layout.specs.declared.kind.Kind.{Kind}
 use Rattle.layout.specs.declared.refusal.Refusal.{Refusal}
 use Rattle.model.specs.declared.Inserted.{Inserted}
-use Rattle.model.specs.Table.{Content, Entry, entryAt, noItem, kindOf}
-use Rattle.model.specs.Walk.{entry, findKey, putKey, Walked, walk, keyRoom}
-use Rattle.model.specs.Builder.{Builder, Result, result, fresh, shelfAt, takes, separatorOf, newTable, news, usedAfter, counted, atWalked, put, keyed, insertValue}
+use Rattle.model.specs.Table.{Content, entryAt, noItem}
+use Rattle.model.specs.Walk.{entry, findKey, putKey, walk, keyRoom}
+use Rattle.model.specs.Builder.{Builder, result, fresh, shelfAt, takes, separatorOf, newTable, news, usedAfter, counted, atWalked, put, keyed, insertValue}
 
 -- a builder with an arena of 8 bytes and one table, whose separator is "/"
 unfoldable pub start : Builder

@@ -1,31 +1,14 @@
--- Laws of parts that may end early, of tables by their keys alone, and of items whose records lie in the words. Assumes nothing.
+-- Laws of tables by their keys alone, and of items whose records lie in the words. Assumes nothing.
 use mathlib.Core.Path.{_≡_, refl, sym, ap, _∙_}
 use mathlib.Core.List.{List, []}
 use Prim.Native.Nat.{ℕ, _+_, _-_, _≤_, _<_}
 use native.Mathlib.Omega.{arith}
-use lib.ListN.{length, take, drop, getD, length-drop, drop-of-length-le, take-append-drop}
-use lib.Seq.{take-all}
-use Rattle.words.specs.Store.{part}
+use lib.ListN.{length, take, drop, getD, take-append-drop}
 use Rattle.model.specs.Table.{Rows, times, Has}
 use Rattle.image.specs.Number.{sortKeys, keyOrder}
 use Rattle.image.proofs.TimesLaws.{times-append, times-some}
 use Rattle.image.proofs.OrderLaws.{sort-same, order-same, length-order, times-order}
 use Rattle.order.specs.Key.{recordAt, keyAt, keyed, Known}
-
--- ---- a part that ends where the list does
-
-take-none : (n : ℕ) → _≡_ {A = List ℕ} (take n []) []
-take-none n = take-all n [] (omega arith)
-
-pub span-none : (l : List ℕ) (at n : ℕ) → length l ≤ at → [] ≡ part l at n
-span-none l at n past = rw (drop-of-length-le l past) (sym (take-none n))
-
-pub span-rest : (l : List ℕ) (at n : ℕ) → length l - at ≤ n → part l at (length l - at) ≡ part l at n
-span-rest l at n short =
-    take-all (length l - at) (drop at l) (omega (arith, length-drop at l)) ∙ sym (take-all n (drop at l) (omega (arith, length-drop at l)))
-
-pub span-all : (l : List ℕ) (at n : ℕ) → part l at (at + n - at) ≡ part l at n
-span-all l at n = let e : at + n - at ≡ n = omega arith in ap (λ (k : ℕ). take k (drop at l)) e
 
 -- ---- tables by their keys
 

@@ -3,10 +3,10 @@ use mathlib.Core.Path.{_≡_, refl}
 use mathlib.Core.List.{List}
 use Prim.Native.Nat.{ℕ, zero, suc, _%_, _≤_}
 use native.Mathlib.Omega.{arith}
-use lib.ListN.{length, take}
+use lib.ListN.{length}
 use lib.Seq.{take-length}
 use Rattle.words.specs.Store.{putAt, zeros}
-use Rattle.words.proofs.StoreLaws.{length-zeros, length-put, part-put}
+use Rattle.words.proofs.StoreLaws.{length-zeros, length-put}
 use Rattle.layout.specs.Table.{longestFile}
 use Rattle.audit.specs.Sound.{SoundTable}
 use Rattle.audit.proofs.SoundLaws.{passes-exactly-the-sound}
@@ -57,11 +57,6 @@ module _ (rule : ℕ → ℕ) (state : State) (root : ℕ) (good : Writable stat
   pub alone-passes : length (imageOf rule state root) ≤ longestFile → AllPass rule (imageOf rule state root) state depth root headerSize
   unfolding Holds
   alone-passes short = front-passes (imageOf rule state root) short (take-length (imageOf rule state root))
-
-  -- the front of a buffer of any length, as long as the image
-  pub taken-passes : (buffer : List ℕ) → length (imageOf rule state root) ≤ length buffer → length (imageOf rule state root) ≤ longestFile
-      → AllPass rule (take (length (imageOf rule state root)) (putAt buffer 0 (imageOf rule state root))) state depth root headerSize
-  taken-passes buffer fits short = rw (part-put buffer 0 (imageOf rule state root) (omega arith)) (alone-passes short)
 
 -- a buffer that the image was put to the front of
 pub image-passes : ImagePasses

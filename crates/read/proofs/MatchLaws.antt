@@ -25,7 +25,7 @@ use Rattle.layout.specs.Pointer.{openPointer}
 use Rattle.layout.specs.Item.{itemAt}
 use Rattle.read.specs.declared.chain.Step.{Step}
 use Rattle.read.specs.declared.chain.Matched.{Matched}
-use Rattle.read.specs.Chain.{parentOf, climbFrom, Joined, append, joinStep, keyOf, names, matchTail, matchStep, matchText, matchItem}
+use Rattle.read.specs.Chain.{parentOf, Joined, append, joinStep, keyOf, names, matchTail, matchStep, matchText, matchItem}
 use Rattle.read.proofs.ChainLaws.{fragment-taken, climb-refused, climb-inside, StepFits, climb-fits}
 
 -- ---- two keys with one tail

@@ -3,10 +3,10 @@ use mathlib.Core.Path.{refl}
 use mathlib.Core.List.{List}
 use Prim.Native.Nat.{ℕ, _≤_}
 use native.Mathlib.Omega.{arith}
-use lib.ListN.{length, take}
+use lib.ListN.{length}
 use lib.Seq.{take-length}
 use Rattle.words.specs.Store.{putAt, zeros}
-use Rattle.words.proofs.StoreLaws.{length-zeros, length-put, part-put}
+use Rattle.words.proofs.StoreLaws.{length-zeros, length-put}
 use Rattle.layout.specs.Table.{longestFile}
 use Rattle.model.specs.Table.{State}
 use Rattle.image.specs.Image.{headerSize, depth, tableBytes, imageOf}
@@ -37,8 +37,3 @@ module _ (rule : ℕ → ℕ) (state : State) (root : ℕ) (good : Writable stat
   pub alone-back : length (imageOf rule state root) ≤ longestFile → AllBack rule (imageOf rule state root) state depth root headerSize
   unfolding Holds
   alone-back short = front-back (imageOf rule state root) short (take-length (imageOf rule state root))
-
-  -- the front of a buffer of any length, as long as the image
-  pub taken-back : (buffer : List ℕ) → length (imageOf rule state root) ≤ length buffer → length (imageOf rule state root) ≤ longestFile
-      → AllBack rule (take (length (imageOf rule state root)) (putAt buffer 0 (imageOf rule state root))) state depth root headerSize
-  taken-back buffer fits short = rw (part-put buffer 0 (imageOf rule state root) (omega arith)) (alone-back short)

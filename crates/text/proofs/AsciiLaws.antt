@@ -16,7 +16,7 @@ use Rattle.words.proofs.ChoiceLaws.{both, both-hold}
 use Rattle.words.proofs.StoreLaws.{length-part}
 use Rattle.words.proofs.FieldLaws.{stretch-bytes}
 use Rattle.text.specs.Ascii.{isAscii}
-use Rattle.text.specs.Utf8.{goodFrom, firstBad, isUtf8, stepLen, oneMore}
+use Rattle.text.specs.Utf8.{goodFrom, firstBad, isUtf8, oneMore}
 use Rattle.text.proofs.Utf8Parts.{step-ascii, whole-utf8}
 
 -- ASCII is UTF-8

@@ -1,13 +1,13 @@
 -- Laws about UTF-8 texts. Callers cite these and not the definitions' text. Assumes nothing.
 use mathlib.Core.Path.{_≡_, refl, sym, ap, _∙_}
-use mathlib.Core.Bool.{Bool, true, false, _&&_, _||_, and-false}
+use mathlib.Core.Bool.{Bool, true, false, _&&_, and-false}
 use mathlib.Core.List.{List, [], _∷_, _++_}
 use Prim.Native.Nat.{ℕ, zero, suc, _+_, _-_, _≤_, _<_}
 use native.Mathlib.Omega.{arith}
 use lib.ListN.{length, getD, take, drop, length-append, length-drop, drop-of-length-le}
 use borrow.Author.Tests.{le-leb, lt-leb}
 use lib.Seq.{drop-cons, drop-drop, getD-drop}
-use lib.Dec.{leb, eqb}
+use lib.Dec.{leb}
 use Rattle.text.specs.Utf8.{between, tail, isTwo, startsThree, startsFour, firstOf, sequenceLen, stepLen, oneMore, goodFrom, firstBad}
 
 -- ---- a byte that is missing counts as 0, which continues no character

@@ -6,12 +6,12 @@ use mathlib.Core.Bool.{Bool, true, false, _&&_, _||_}
 use mathlib.Core.List.{List, [], _∷_, _++_}
 use Prim.Native.Nat.{ℕ, zero, suc, _+_, _-_, _≤_, _<_}
 use native.Mathlib.Omega.{arith}
-use lib.ListN.{length, getD, take, drop, length-append}
+use lib.ListN.{length, getD, take, length-append}
 use lib.Seq.{length-take-le}
 use borrow.Author.Tests.{leb-true, leb-false, eqb-true, eq-eqb}
 use lib.Dec.{leb, eqb}
 use Rattle.text.specs.Utf8.{between, tail, isTwo, startsThree, startsFour, firstOf, sequenceLen, stepLen, oneMore, goodFrom, firstBad, isUtf8}
-use Rattle.text.proofs.Utf8Laws.{first-bad-append, valid-append, step-within, step-take, len-1, sequence-below}
+use Rattle.text.proofs.Utf8Laws.{first-bad-append, valid-append, step-take, len-1, sequence-below}
 use Rattle.words.proofs.ChoiceLaws.{both}
 
 valid-rest : (a b : List ℕ) → firstBad a ≡ length a → firstBad (a ++ b) ≡ length (a ++ b) → firstBad b ≡ length b

@@ -3,11 +3,9 @@ use Prim.Native.Nat.{ℕ, _+_}
 use mathlib.Core.Path.{_≡_, refl, sym, ap, subst, _∙_}
 use mathlib.Core.List.{List, []}
 use native.Mathlib.Omega.{arith}
-use lib.ListN.{length}
 use denote.Ref.{RefT, now}
 use Rattle.words.specs.Hash.{plain}
 use Rattle.layout.specs.declared.refusal.Refusal.{Refusal}
-use Rattle.layout.specs.declared.refusal.Refusal.the-variants.{TableTooShort}
 use Rattle.layout.specs.declared.table.Opened.{Opened}
 use Rattle.layout.specs.Table.{openTable}
 use Rattle.read.specs.declared.lookup.Looked.{Looked}

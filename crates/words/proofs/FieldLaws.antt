@@ -1,6 +1,6 @@
 -- Laws about little-endian fields, each once over the width. Callers cite these and not the definitions' text. Assumes nothing.
-use mathlib.Core.Path.{_≡_, refl, sym, ap, _∙_}
-use mathlib.Core.List.{List, [], _∷_, _++_, append-assoc}
+use mathlib.Core.Path.{_≡_, refl, ap, _∙_}
+use mathlib.Core.List.{List, [], _∷_}
 use Prim.Native.Nat.{ℕ, zero, suc, _+_, _*_, _-_, _/_, _%_, _^_, _≤_, _<_}
 use native.Mathlib.Nat.{one-le-pow}
 use native.Mathlib.Numerals.{add-one}
@@ -8,8 +8,8 @@ use native.Mathlib.Omega.{arith}
 use mathlib.Core.Bool.{Bool, true, false}
 use lib.Dec.{ltb}
 use borrow.Author.Tests.{ltb-true, ltb-false}
-use lib.ListN.{length, getD, take, drop, set, length-set, length-take, length-drop, List·getD-eq-default}
-use lib.Seq.{sets, drop-cons, take-take, drop-drop, getD-take, getD-drop}
+use lib.ListN.{length, getD, take, drop, set, length-take, length-drop, List·getD-eq-default}
+use lib.Seq.{drop-cons, getD-take, getD-drop}
 use Rattle.words.specs.Store.{part, putAt}
 use Rattle.words.specs.Field.{number, spelled, field, halfAt, wordAt, longAt}
 use Rattle.words.proofs.StoreLaws.{part-put, part-before, part-after, part-part}

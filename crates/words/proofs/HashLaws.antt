@@ -1,13 +1,13 @@
 -- Laws about the hash, for every rule for a byte. Assumes nothing.
 use mathlib.Core.Path.{_≡_, refl, sym, ap, _∙_}
 use mathlib.Core.List.{List, [], _∷_, _++_}
-use Prim.Native.Nat.{ℕ, suc, _+_, _-_, _*_, _%_, _^_, _≤_, _<_}
+use Prim.Native.Nat.{ℕ, _+_, _-_, _*_, _^_, _≤_, _<_}
 use native.Mathlib.Numerals.{add-one}
 use native.Mathlib.Omega.{arith}
 use native.Mathlib.Nat.{mul-le-mul, le-pred-of-lt}
 use lib.ListN.{length, getD, take, drop, drop-of-length-le}
 use lib.Seq.{drop-cons, take-add, take-all}
-use Rattle.words.specs.Hash.{hashStep, hashFrom, hashBy, hashOf}
+use Rattle.words.specs.Hash.{hashStep, hashFrom, hashBy}
 
 module _ (rule : ℕ → ℕ) where
   -- one turn of the loop, and its end

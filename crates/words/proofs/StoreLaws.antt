@@ -6,7 +6,7 @@ use Prim.Native.Nat.{ℕ, zero, suc, _+_, _-_, _≤_, _<_}
 use native.Mathlib.Nat.{add-zero, add-suc, suc-add}
 use native.Mathlib.Numerals.{add-one}
 use native.Mathlib.Omega.{arith}
-use lib.ListN.{length, getD, take, drop, set, length-set, length-drop, replicate, length-replicate, getD-replicate, take-append-drop}
+use lib.ListN.{length, getD, take, drop, set, length-set, length-drop, length-replicate, getD-replicate, take-append-drop}
 use lib.Seq.{sets, sets-eq, set-comm, take-set-lt, take-set-le, drop-set-lt, drop-set-add, take-suc, take-at, drop-at, take-all, take-take, drop-drop, length-take-le, getD-take, getD-drop}
 use Rattle.words.specs.Store.{part, putAt, zeros}
 

@@ -49,10 +49,6 @@ either : (p q : Bool) → (p || q) ≡ true → (p ≡ true) ⊎ (q ≡ true)
 either true q e = inl refl
 either false q e = inr e
 
-not-not : (p : Bool) → not p ≡ true → p ≡ false
-not-not true e = let z : _≡_ {A = ℕ} 0 1 = cc in absurd (omega arith)
-not-not false e = refl
-
 kind-cases : (k : ℕ) → (eqb k valueKind || (eqb k tableKind || eqb k containerKind)) ≡ true → (k ≡ valueKind) ⊎ ((k ≡ tableKind) ⊎ (k ≡ containerKind))
 kind-cases k e =
     ⊎-elim (λ v. inl (eqb-true k valueKind v))

@@ -1,8 +1,6 @@
 -- `gvdb::building::gvdb_fresh` meets its contract: the fresh start's answer as its number. Assumes nothing.
-use mathlib.Core.Path.{_≡_, sym, ap, _∙_}
-use Rattle.memory.specs.Memory.{outcome, memory}
+use mathlib.Core.Path.{ap}
 use Rattle.memory.specs.Answer.{startedNumber}
-use Rattle.memory.specs.declared.fresh.Started.{Started}
 use Rattle.gvdb.specs.Building.{told}
 use borrow.Author.Needs.{needs}
 use Rattle.gvdb.proofs.building.gvdb_fresh.Statement.{statement}

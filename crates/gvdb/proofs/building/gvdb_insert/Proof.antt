@@ -1,6 +1,5 @@
 -- `gvdb::building::gvdb_insert` meets its contract: the insert's answer as numbers, and its memory. Assumes nothing.
-use mathlib.Core.Path.{_≡_, sym, ap, _∙_}
-use Rattle.memory.specs.Memory.{outcome, memory}
+use mathlib.Core.Path.{ap}
 use Rattle.gvdb.specs.Building.{told, insertedAnswer}
 use borrow.Author.Needs.{needs}
 use Rattle.gvdb.proofs.building.gvdb_insert.Statement.{statement}

@@ -1,5 +1,5 @@
 -- `gvdb::building::gvdb_item_count` meets its contract: the count's answer as numbers. Assumes nothing.
-use mathlib.Core.Path.{_≡_, sym, ap, _∙_}
+use mathlib.Core.Path.{sym, ap, _∙_}
 use Rattle.tables.specs.Answer.{countedNumber, countedItems}
 use Rattle.gvdb.specs.Building.{countedAnswer}
 use borrow.Author.Needs.{needs}

@@ -1,7 +1,5 @@
 -- `gvdb::building::gvdb_new_table` meets its contract: the answer as numbers. Assumes nothing.
-use mathlib.Core.Path.{_≡_, sym, ap, _∙_}
-use Rattle.memory.specs.Memory.{outcome, memory}
-use Rattle.model.specs.declared.Numbered.{Numbered}
+use mathlib.Core.Path.{ap}
 use Rattle.tables.specs.Answer.{numberedNumber, numberedTable}
 use Rattle.gvdb.specs.Building.{told, numberedAnswer}
 use borrow.Author.Needs.{needs}

@@ -1,5 +1,5 @@
 -- `gvdb::building::inserted_of` meets its contract: each arm by the variant that it matched. Assumes nothing.
-use mathlib.Core.Path.{_≡_, sym, ap, _∙_}
+use mathlib.Core.Path.{sym, ap}
 use Rattle.build.specs.Answer.{insertedNumber, insertedKind}
 use Rattle.gvdb.specs.Building.{insertedAnswer}
 use borrow.Author.Needs.{needs}

@@ -1,5 +1,5 @@
 -- `gvdb::checking::gvdb_check` meets its contract: the check's answer as numbers. Assumes nothing.
-use mathlib.Core.Path.{_≡_, sym, ap, _∙_}
+use mathlib.Core.Path.{sym, ap, _∙_}
 use Rattle.audit.specs.Answer.{checkedNumber, checkedRule, checkedItem}
 use Rattle.gvdb.specs.Checking.{checkedAnswer}
 use borrow.Author.Needs.{needs}

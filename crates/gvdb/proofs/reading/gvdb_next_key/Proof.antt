@@ -1,5 +1,5 @@
 -- `gvdb::reading::gvdb_next_key` meets its contract: the listing's answer as numbers, and its buffer. Assumes nothing.
-use mathlib.Core.Path.{_≡_, sym, ap, _∙_}
+use mathlib.Core.Path.{sym, ap, _∙_}
 use Rattle.gvdb.specs.Reading.{listedAnswer}
 use borrow.Author.Needs.{needs}
 use Rattle.gvdb.proofs.reading.gvdb_next_key.Statement.{statement}

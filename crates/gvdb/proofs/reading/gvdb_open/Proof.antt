@@ -1,5 +1,5 @@
 -- `gvdb::reading::gvdb_open` meets its contract: the counts of a table that opened are small (`opened-in-file`). Assumes nothing.
-use mathlib.Core.Path.{_≡_, sym, ap, _∙_}
+use mathlib.Core.Path.{sym, ap, _∙_}
 use native.Mathlib.Omega.{arith}
 use Rattle.layout.proofs.OpenLaws.{opened-in-file}
 use Rattle.gvdb.specs.Reading.{openedAnswer}

@@ -1,5 +1,5 @@
 -- `gvdb::reading::place_of` meets its contract: each arm by the variant that it matched. Assumes nothing.
-use mathlib.Core.Path.{_≡_, sym, ap, _∙_}
+use mathlib.Core.Path.{sym, ap}
 use Rattle.gvdb.specs.Reading.{lookedAnswer}
 use borrow.Author.Needs.{needs}
 use Rattle.gvdb.proofs.reading.place_of.Statement.{statement}

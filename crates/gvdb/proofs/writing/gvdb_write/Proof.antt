@@ -1,5 +1,5 @@
 -- `gvdb::writing::gvdb_write` meets its contract: the write's answer as numbers, and its buffer. Assumes nothing.
-use mathlib.Core.Path.{_≡_, sym, ap, _∙_}
+use mathlib.Core.Path.{sym, ap, _∙_}
 use Rattle.gvdb.specs.Writing.{writtenAnswer}
 use borrow.Author.Needs.{needs}
 use Rattle.gvdb.proofs.writing.gvdb_write.Statement.{statement}

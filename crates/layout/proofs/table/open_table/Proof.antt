@@ -1,5 +1,5 @@
 -- `layout::table::open_table` meets its contract: 1, the refusal of the pointer, or what the bytes inside it open as. Assumes nothing.
-use mathlib.Core.Path.{_≡_, sym, _∙_}
+use mathlib.Core.Path.{sym, _∙_}
 use borrow.Author.Tests.{lt-ltb, le-ltb}
 use Rattle.words.specs.Choice.{pick}
 use Rattle.layout.specs.Table.{openTable}

@@ -1,5 +1,5 @@
 -- `layout::table::table_in` meets its contract: each return by the tests that led there, over the two words of the head. Assumes nothing.
-use mathlib.Core.Path.{_≡_, ap, _∙_}
+use mathlib.Core.Path.{ap, _∙_}
 use borrow.Author.Tests.{lt-ltb, le-ltb, eq-eqb, ne-eqb}
 use Rattle.words.specs.Choice.{pick}
 use Rattle.words.specs.Bits.{bloomCount}

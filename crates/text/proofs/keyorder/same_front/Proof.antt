@@ -4,7 +4,7 @@ use mathlib.Core.Path.{_≡_, refl, sym, _∙_}
 use Prim.Native.Nat.{ℕ, _-_, _≤_, _<_}
 use native.Mathlib.Omega.{arith}
 use borrow.Author.Needs.{needs}
-use lib.ListN.{length, take, getD}
+use lib.ListN.{take, getD}
 use Rattle.text.proofs.CompareLaws.{same-turn}
 use Rattle.text.proofs.keyorder.same_front.Statement.{statement}
 use Rattle.text.proofs.keyorder.same_front.Tie as tie

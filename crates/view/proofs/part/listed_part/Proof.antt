@@ -2,25 +2,16 @@ use Rattle.view.proofs.PartLaws.{stretch-same}
 use borrow.Author.Needs.{needs}
 use Rattle.view.proofs.part.listed_part.Statement.{statement}
 use Rattle.view.proofs.part.listed_part.Tie as tie
-use Rattle.view.proofs.part.listed_part.Reads as reads
-use Rattle.view.proofs.part.listed_part.Lts as lts
-use Rattle.view.proofs.part.listed_end.Reads as listed-end-reads
-use Rattle.view.proofs.part.listed_start.Reads as listed-start-reads
-use Rattle.view.proofs.part.stretch.Reads as stretch-reads
 
--- src/part.rt:100:19
 listed-start-requires : tie.Need-listed-start-requires
 listed-start-requires c κs = search needs
 
--- src/part.rt:100:41
 listed-end-requires : tie.Need-listed-end-requires
 listed-end-requires c κs = search needs
 
--- src/part.rt:100:5
 stretch-requires : tie.Need-stretch-requires
 stretch-requires c κs = search needs
 
--- src/part.rt:97:1
 returns : tie.Need-returns
 returns c = stretch-same _ _ _ _ _ _ (c .before .before .listed-start .ensures) (c .before .listed-end .ensures) (c .stretch .ensures)
 

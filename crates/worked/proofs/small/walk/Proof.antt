@@ -1,7 +1,7 @@
 -- `worked::small::walk` is safe and ends: while the end of the prefix is not that of the key, the next one lies further on (`next-rises`). Assumes nothing.
 use Prim.Native.Nat.{_≤_, _<_, _-_}
 use native.Mathlib.Omega.{arith}
-use mathlib.Core.Path.{_≡_, sym}
+use mathlib.Core.Path.{sym}
 use lib.ListN.{length}
 use lib.Seq.{length-take-le}
 use Rattle.text.proofs.PrefixLaws.{next-rises}

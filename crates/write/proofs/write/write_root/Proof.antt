@@ -1,5 +1,4 @@
 -- `write::write::write_root` meets its contract: the roster leaves the words as they were, and the rest only reads them. Assumes nothing.
-use mathlib.Core.Path.{_≡_}
 use borrow.Author.Needs.{needs}
 use Rattle.write.proofs.write.write_root.Statement.{statement}
 use Rattle.write.proofs.write.write_root.Tie as tie
