@@ -14,7 +14,7 @@ use Rattle.read.specs.declared.chain.Step.{Step}
 use Rattle.read.specs.Chain.{fragmentOf, climbFrom, Joined, append, joinStep, keyOf}
 use Rattle.read.specs.Find.{findItem}
 use Rattle.read.proofs.ChainLaws.{climb-or}
-use Rattle.own.specs.Key.{bytesOf}
+use Rattle.check_keys.specs.Key.{bytesOf}
 use Rattle.audit.specs.Rules.{isJoined, soughtAt, indexOf}
 
 unfoldable KeyText : Joined → Type 0

@@ -23,9 +23,9 @@ use Rattle.read.specs.declared.chain.Step.{Step}
 use Rattle.read.specs.declared.lookup.Found.{Found}
 use Rattle.read.specs.Chain.{Joined, keyOf, parentOf}
 use Rattle.read.specs.Find.{findItem}
-use Rattle.own.specs.declared.tally.Own.{Own}
+use Rattle.check_keys.specs.declared.tally.Own.{Own}
 use Rattle.audit.specs.declared.check.Checked.{Checked}
-use Rattle.own.specs.Key.{bytesOf, ownKey}
+use Rattle.check_keys.specs.Key.{bytesOf, ownKey}
 use Rattle.audit.specs.Survey.{keyRule}
 use Rattle.audit.specs.Rules.{isJoined, isAt, keyLists, keyFinds, isInside, listOpens, valueOpens, childCount, among, childGood, childrenGood, listsIt, parentKeeps, parentGood, brokenRule, firstBroken, checkIn}
 use Rattle.audit.proofs.KeyText.{sought-own}

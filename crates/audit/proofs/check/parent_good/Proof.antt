@@ -2,7 +2,7 @@
 use mathlib.Core.Path.{sym, ap, _∙_}
 use Rattle.audit.specs.Rules.{parentKeeps, listsIt}
 use Rattle.audit.proofs.RuleLaws.{parent-keeps}
-use Rattle.own.proofs.PlaceLaws.{parent-below}
+use Rattle.check_keys.proofs.PlaceLaws.{parent-below}
 use Rattle.audit.proofs.SurveyLaws.{six-marked}
 use borrow.Author.Needs.{needs}
 use Rattle.audit.proofs.check.parent_good.Statement.{statement}

@@ -1,7 +1,7 @@
 -- `audit::rules::key_rule` meets its contract: each return is a case of the definition. Assumes nothing.
 use mathlib.Core.Path.{sym, _∙_}
 use Rattle.words.specs.Hash.{plain}
-use Rattle.own.proofs.KeyLaws.{own-sized, own-hashed}
+use Rattle.check_keys.proofs.KeyLaws.{own-sized, own-hashed}
 use Rattle.audit.proofs.RuleLaws.{key-broken, key-nothing, key-here, key-elsewhere}
 use borrow.Author.Needs.{needs}
 use Rattle.audit.proofs.rules.key_rule.Statement.{statement}

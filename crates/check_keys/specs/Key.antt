@@ -1,0 +1,26 @@
+-- An item's own key, which is never written out: its bytes, its hash and its length. Assumes nothing.
+use Prim.Native.Nat.{ℕ, _<_}
+use mathlib.Core.Path.{_≡_}
+use mathlib.Core.List.{List, []}
+use lib.ListN.{length}
+use Rattle.words.specs.Hash.{hashBy}
+use Rattle.layout.specs.declared.table.Table.{Table}
+use Rattle.layout.specs.Table.{InFile}
+use Rattle.read.specs.Chain.{Joined, keyOf}
+use Rattle.read.specs.declared.listing.Measured.{Measured}
+use Rattle.read.specs.Listing.{measure}
+use Rattle.check_keys.specs.declared.tally.Own.{Own}
+
+unfoldable pub bytesOf : Joined → List ℕ
+bytesOf (Joined.joined k) = k
+bytesOf (Joined.broken why) = []
+
+unfoldable pub ownKey : (ℕ → ℕ) → Joined → Own
+ownKey rule (Joined.joined k) = Own.Key (hashBy rule k) (length k)
+ownKey rule (Joined.broken why) = Own.Broken
+
+-- an item of the table that has a key of so many bytes
+pub record Keyed (file : List ℕ) (t : Table) (index size : ℕ) : Type 0 where
+  pub inside : InFile file t
+  pub below : index < t .count
+  pub sized : measure (keyOf file t (t .count) index) ≡ Measured.Size size

@@ -1,0 +1,129 @@
+// Looking up the key of an item, with no buffer for the key.
+use crate::place::Passed;
+use crate::place::Place;
+use crate::place::pass_back;
+use crate::place::place_at;
+use layout::item::item_at;
+use layout::table::Table;
+use read::chain::Step;
+use read::chain::climb;
+use read::lookup::Found;
+use read::lookup::Run;
+use read::lookup::bloom_passes;
+use read::lookup::run_of;
+use words::wide::half_size;
+use words::wide::word_size;
+ghost use mathlib.Core.Path.{_≡_};
+ghost use Prim.Native.Nat.{_<_};
+ghost use Rattle.words.specs.Hash.{plain, hashOf};
+ghost use Rattle.layout.specs.Table.{InFile};
+ghost use Rattle.read.specs.Chain.{keyOf, names};
+ghost use Rattle.read.specs.Find.{itemMatches, firstOf, findItem};
+ghost use Rattle.check_keys.specs.Key.{bytesOf, Keyed};
+ghost use Rattle.check_keys.specs.Place.{Placed, ItemCompared};
+
+// What an item says of the key before a place: yes or no, or that the front is its parent's to name.
+pub enum Compared {
+    Ended(bool),
+    Rest { parent: usize, place: Place },
+}
+
+// What the item at an index says of the key before a place. Its bytes are compared first, so that one that differs costs no more.
+fn compare_item(file: &[u8], table: Table, at: usize, place: Place) -> Compared
+    requires { ⌜ InFile (now file) table × Placed (now file) table place × (at < table .count) ⌝ }
+    ensures { λ r. ⌜ ItemCompared (now (file .entry)) table at place r ⌝ }
+{
+    let item = item_at(file, table, at);
+    let start = word_size(item.key);
+    let end = start + half_size(item.size);
+    if file.len() < end {
+        return Compared::Ended(false);
+    }
+    match pass_back(file, table, place, start, end) {
+        Passed::Differs => Compared::Ended(false),
+        Passed::Over(next) => match climb(file, table.count, item) {
+            Step::Refused(_) => Compared::Ended(false),
+            Step::Root => Compared::Ended(next.size == 0),
+            Step::Up(parent) => Compared::Rest {
+                parent,
+                place: next,
+            },
+        },
+    }
+}
+
+// Whether the chain of the item at a position names the key of the item at an index, which has so many bytes. The two are compared from the back.
+fn same_key(file: &[u8], table: Table, at: usize, index: usize, size: usize) -> bool
+    requires { ⌜ Keyed (now file) table index size × (at < table .count) ⌝ }
+    ensures { λ r. ⌜ r ≡ names (keyOf (now (file .entry)) table (table .count) at) (bytesOf (keyOf (now (file .entry)) table (table .count) index)) ⌝ }
+{
+    let count = table.count;
+    let mut here = place_at(file, table, index, size, count);
+    let mut now_at = at;
+    let mut left = count;
+    while 0 < left {
+        match compare_item(file, table, now_at, here) {
+            Compared::Ended(answer) => {
+                return answer;
+            }
+            Compared::Rest { parent, place } => {
+                now_at = parent;
+                here = place;
+            }
+        }
+        left -= 1;
+    }
+    false
+}
+
+// Whether the item at a position has the hash, and its chain names the key of the item at an index.
+fn own_matches(file: &[u8], table: Table, index: usize, size: usize, hash: u32, at: usize) -> bool
+    requires { ⌜ Keyed (now file) table index size × (at < table .count) × (hash ≡ hashOf (bytesOf (keyOf (now file) table (table .count) index))) ⌝ }
+    ensures { λ r. ⌜ r ≡ itemMatches plain (now (file .entry)) table (bytesOf (keyOf (now (file .entry)) table (table .count) index)) at ⌝ }
+{
+    let item = item_at(file, table, at);
+    if item.hash != hash {
+        return false;
+    }
+    if at == index {
+        return true;
+    }
+    same_key(file, table, at, index, size)
+}
+
+// The first item of a run that matches.
+fn first_same(file: &[u8], table: Table, index: usize, size: usize, hash: u32, run: Run) -> Found
+    requires { ⌜ Keyed (now file) table index size × (hash ≡ hashOf (bytesOf (keyOf (now file) table (table .count) index))) ⌝ }
+    ensures { λ r. ⌜ r ≡ firstOf plain (now (file .entry)) table (bytesOf (keyOf (now (file .entry)) table (table .count) index)) run ⌝ }
+{
+    let last = run.last;
+    let count = table.count;
+    let mut at = run.first;
+    while at < last {
+        if count <= at {
+            return Found::Nothing;
+        }
+        if own_matches(file, table, index, size, hash, at) {
+            return Found::At(at);
+        }
+        at += 1;
+    }
+    Found::Nothing
+}
+
+// The item that the key of the item at an index names; the key's length and hash are known.
+pub fn find_own(file: &[u8], table: Table, index: usize, size: usize, hash: u32) -> Found
+    requires { ⌜ Keyed (now file) table index size × (hash ≡ hashOf (bytesOf (keyOf (now file) table (table .count) index))) ⌝ }
+    ensures { λ r. ⌜ r ≡ findItem plain (now (file .entry)) table (bytesOf (keyOf (now (file .entry)) table (table .count) index)) ⌝ }
+{
+    let buckets = table.buckets;
+    if buckets == 0 {
+        return Found::Nothing;
+    }
+    if bloom_passes(file, table, hash) {
+        let run = run_of(file, table, word_size(hash) % buckets);
+        first_same(file, table, index, size, hash, run)
+    } else {
+        Found::Nothing
+    }
+}

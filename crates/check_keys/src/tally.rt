@@ -1,0 +1,97 @@
+// The hash and the length of an item's joined key, on the way from the item to its root, with no buffer for the key.
+use layout::item::item_at;
+use layout::table::Table;
+use read::chain::Step;
+use read::chain::climb;
+use words::hash::wrapping_mul;
+use words::wide::byte_word;
+use words::wide::half_size;
+use words::wide::word_size;
+ghost use mathlib.Core.Path.{_≡_};
+ghost use Prim.Native.Nat.{_<_};
+ghost use Rattle.words.specs.Hash.{plain};
+ghost use Rattle.layout.specs.Table.{InFile};
+ghost use Rattle.read.specs.Chain.{keyOf};
+ghost use Rattle.check_keys.specs.Tally.{before, prepend, finish};
+ghost use Rattle.check_keys.specs.Key.{ownKey};
+
+// Of the bytes behind a place: what the hash of the bytes before them is multiplied by, and what is added.
+pub struct Tally {
+    pub weight: u32,
+    pub sum: u32,
+}
+
+// An item's key by its hash and length, or that it does not read.
+pub enum Own {
+    Key { hash: u32, size: usize },
+    Broken,
+}
+
+// One byte more in front.
+fn prepend_byte(byte: u8, tally: Tally) -> Tally
+    ensures { λ r. ⌜ r ≡ before plain byte tally ⌝ }
+{
+    let weight = tally.weight;
+    let counted = wrapping_mul(byte_word(byte), weight);
+    Tally {
+        weight: wrapping_mul(33, weight),
+        sum: std::num::wrapping_add_u32(counted, tally.sum),
+    }
+}
+
+// All of a slice in front.
+fn prepend_all(bytes: &[u8], tally: Tally) -> Tally
+    ensures { λ r. ⌜ r ≡ prepend plain (now (bytes .entry)) tally ⌝ }
+{
+    let mut state = tally;
+    let mut i = bytes.len();
+    while 0 < i {
+        i -= 1;
+        state = prepend_byte(bytes[i], state);
+    }
+    state
+}
+
+// The hash of a whole key.
+fn finished(tally: Tally) -> u32
+    ensures { λ r. ⌜ r ≡ finish tally ⌝ }
+{
+    let front = wrapping_mul(5381, tally.weight);
+    std::num::wrapping_add_u32(front, tally.sum)
+}
+
+// The hash and the length of the key of the item at an index.
+pub fn own_key(file: &[u8], table: Table, index: usize) -> Own
+    requires { ⌜ InFile (now file) table × (index < table .count) ⌝ }
+    ensures { λ r. ⌜ r ≡ ownKey plain (keyOf (now (file .entry)) table (table .count) index) ⌝ }
+{
+    let count = table.count;
+    let mut at = index;
+    let mut total: usize = 0;
+    let mut tally = Tally { weight: 1, sum: 0 };
+    let mut left = count;
+    while 0 < left {
+        let item = item_at(file, table, at);
+        let start = word_size(item.key);
+        let part = half_size(item.size);
+        let stop = start + part;
+        total += part;
+        match climb(file, count, item) {
+            Step::Refused(_) => {
+                return Own::Broken;
+            }
+            Step::Root => {
+                return Own::Key {
+                    hash: finished(prepend_all(&file[start..stop], tally)),
+                    size: total,
+                };
+            }
+            Step::Up(parent) => {
+                tally = prepend_all(&file[start..stop], tally);
+                at = parent;
+            }
+        }
+        left -= 1;
+    }
+    Own::Broken
+}
