@@ -7,8 +7,8 @@ use lib.ListN.{length, take}
 use Rattle.words.specs.Hash.{plain}
 use Rattle.read.specs.declared.lookup.Looked.{Looked}
 use Rattle.read.specs.Lookup.{lookupTable}
-use Rattle.audit.specs.declared.check.Checked.{Checked}
-use Rattle.audit.specs.Rules.{checkTable}
+use Rattle.check_table.specs.declared.check.Checked.{Checked}
+use Rattle.check_table.specs.Rules.{checkTable}
 use Rattle.memory.specs.Memory.{leastWords}
 use Rattle.image.specs.Image.{depth}
 use Rattle.write.specs.declared.Written.{Written}

@@ -7,7 +7,7 @@ use Rattle.words.specs.Hash.{plain}
 use Rattle.layout.specs.Table.{openTable}
 use Rattle.read.specs.Lookup.{lookupValue, lookupTable}
 use Rattle.read.specs.Listing.{keyAt, listed, written, valueAt}
-use Rattle.audit.specs.Rules.{checkTable}
+use Rattle.check_table.specs.Rules.{checkTable}
 use Rattle.memory.specs.Memory.{Memory, leastWords, outcome, freshStart}
 use Rattle.memory.specs.Answer.{startedNumber}
 use Rattle.memory.proofs.Unique.{outcome-unique}

@@ -1,6 +1,6 @@
 -- The document's number and values of the check's answer, as they cross to C. Assumes nothing.
-use Rattle.audit.specs.declared.check.Checked.{Checked}
-use Rattle.audit.specs.Answer.{checkedNumber, checkedRule, checkedItem}
+use Rattle.check_table.specs.declared.check.Checked.{Checked}
+use Rattle.check_table.specs.Answer.{checkedNumber, checkedRule, checkedItem}
 use Rattle.gvdb.specs.declared.checking.GvdbCheck.{GvdbCheck}
 
 unfoldable pub checkedAnswer : Checked → GvdbCheck

@@ -13,8 +13,8 @@ use Rattle.layout.specs.Item.{itemAt, rootMark}
 use Rattle.layout.specs.Kind.{kindByte}
 use Rattle.layout.proofs.AnswerLaws.{pointer-inside-is}
 use Rattle.read.specs.declared.lookup.Found.{Found}
-use Rattle.audit.specs.Rules.{indexOf, childAt, childCount}
-use Rattle.audit.specs.Sound.{ValueGood, InList, SoundIn}
+use Rattle.check_table.specs.Rules.{indexOf, childAt, childCount}
+use Rattle.check_table.specs.Sound.{ValueGood, InList, SoundIn}
 use Rattle.model.specs.Table.{Content, State, Has, kindOf, isContainer, isChild}
 use Rattle.image.specs.Number.{indexIn, itemOf, numberOf}
 use Rattle.image.specs.Image.{childrenOf, parentNumber, coversOf, tableBytes}

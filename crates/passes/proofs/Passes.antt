@@ -8,8 +8,8 @@ use lib.Seq.{take-length}
 use Rattle.words.specs.Store.{putAt, zeros}
 use Rattle.words.proofs.StoreLaws.{length-zeros, length-put}
 use Rattle.layout.specs.Table.{longestFile}
-use Rattle.audit.specs.Sound.{SoundTable}
-use Rattle.audit.proofs.SoundLaws.{passes-exactly-the-sound}
+use Rattle.check_table.specs.Sound.{SoundTable}
+use Rattle.check_table.proofs.SoundLaws.{passes-exactly-the-sound}
 use Rattle.model.specs.Table.{State}
 use Rattle.image.specs.Image.{headerSize, depth, tableBytes, imageOf}
 use Rattle.image.specs.WellFormed.{Writable}

@@ -8,8 +8,8 @@ use Rattle.words.specs.Choice.{pick}
 use Rattle.words.specs.Hash.{plain}
 use Rattle.read.specs.declared.lookup.Looked.{Looked}
 use Rattle.read.specs.Lookup.{lookupTable}
-use Rattle.audit.specs.declared.check.Checked.{Checked}
-use Rattle.audit.specs.Rules.{checkTable}
+use Rattle.check_table.specs.declared.check.Checked.{Checked}
+use Rattle.check_table.specs.Rules.{checkTable}
 use Rattle.model.specs.Table.{times, entryAt, membersBelow, rowsOf}
 use Rattle.image.specs.Plan.{chunkSize}
 use Rattle.image.specs.Image.{imageOf}

@@ -8,8 +8,8 @@ use Rattle.words.specs.Store.{putAt}
 use Rattle.layout.specs.Table.{longestFile}
 use Rattle.read.specs.declared.lookup.Looked.{Looked}
 use Rattle.read.specs.Lookup.{lookupTable}
-use Rattle.audit.specs.declared.check.Checked.{Checked}
-use Rattle.audit.specs.Rules.{checkTable}
+use Rattle.check_table.specs.declared.check.Checked.{Checked}
+use Rattle.check_table.specs.Rules.{checkTable}
 use Rattle.model.specs.Table.{Content, State, Has}
 use Rattle.image.specs.Image.{headerSize, depth, tableBytes, imageOf}
 use Rattle.image.specs.WellFormed.{Writable}

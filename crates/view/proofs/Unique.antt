@@ -5,8 +5,8 @@ use mathlib.Core.Path.{_≡_, sym, ap, subst, _∙_}
 use mathlib.Core.List.{List}
 use denote.Ref.{RefT, now}
 use Rattle.words.specs.Hash.{plain}
-use Rattle.audit.specs.declared.check.Checked.{Checked}
-use Rattle.audit.specs.Rules.{checkTable}
+use Rattle.check_table.specs.declared.check.Checked.{Checked}
+use Rattle.check_table.specs.Rules.{checkTable}
 use Rattle.layout.specs.declared.table.Opened.{Opened}
 use Rattle.read.specs.declared.lookup.Looked.{Looked}
 use Rattle.read.specs.declared.listing.Listed.{Listed}

@@ -1,6 +1,6 @@
 // A table as a view that borrows its file. Each function takes the view apart and calls covered functions: no branch, no arithmetic, no loop.
 // A view holds no proof that it is good: each call opens the table again, so a view of any numbers is harmless.
-use audit::check::Checked;
+use check_table::check::Checked;
 use layout::table::Opened;
 use read::listing::Cursor;
 use read::listing::Listed;
@@ -8,7 +8,7 @@ use read::listing::Valued;
 use read::lookup::Looked;
 ghost use mathlib.Core.Path.{_≡_};
 ghost use Rattle.words.specs.Hash.{plain};
-ghost use Rattle.audit.specs.Rules.{checkTable};
+ghost use Rattle.check_table.specs.Rules.{checkTable};
 ghost use Rattle.view.specs.Views.{OpenedOf, ValueOf, NestedOf, ListedOf, KeyOf};
 
 // A table of a lent file: the file, and the pointer to the table.
@@ -108,6 +108,6 @@ impl<'a> TableView<'a> {
     pub fn check(self) -> Checked
         ensures { λ r. ⌜ r ≡ checkTable plain (now (self .entry .file)) (self .entry .start) (self .entry .end) ⌝ }
     {
-        audit::check::check_table(self.file, self.start, self.end)
+        check_table::check::check_table(self.file, self.start, self.end)
     }
 }

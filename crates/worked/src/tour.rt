@@ -1,6 +1,6 @@
 // A walk through each file of data/: what its root table opens as, its keys and values as they list, and what lookups answer.
 use crate::say;
-use audit::check::Checked;
+use check_table::check::Checked;
 use layout::refusal::number_of;
 use read::listing::Cursor;
 use read::listing::Listed;
@@ -82,7 +82,7 @@ fn lookup(file: &[u8], start: u32, end: u32, key: &[u8]) {
 // What the check says of the root table.
 fn check(file: &[u8], start: u32, end: u32) {
     say::text(b"  check: ");
-    match audit::check::check_table(file, start, end) {
+    match check_table::check::check_table(file, start, end) {
         Checked::Sound => say::text(b"sound"),
         Checked::Broken { rule, item } => {
             say::text(b"rule ");

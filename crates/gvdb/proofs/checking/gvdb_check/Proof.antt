@@ -1,6 +1,6 @@
 -- `gvdb::checking::gvdb_check` meets its contract: the check's answer as numbers. Assumes nothing.
 use mathlib.Core.Path.{sym, ap, _∙_}
-use Rattle.audit.specs.Answer.{checkedNumber, checkedRule, checkedItem}
+use Rattle.check_table.specs.Answer.{checkedNumber, checkedRule, checkedItem}
 use Rattle.gvdb.specs.Checking.{checkedAnswer}
 use borrow.Author.Needs.{needs}
 use Rattle.gvdb.proofs.checking.gvdb_check.Statement.{statement}

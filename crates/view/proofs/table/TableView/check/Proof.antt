@@ -41,17 +41,17 @@ use denote.Triple.Walked.{says, Stays, stay-none, walkOf, goes-none, Walks, ends
 use denote.Exit.{yes}
 use denote.Triple.Clauses.{ensured, lasts}
 use Rattle.words.specs.Hash.{plain as plain-rule}
-use Rattle.audit.specs.Rules.{checkTable}
-use Rattle.audit.specs.declared.check.Checked.{Checked}
-use Rattle.audit.proofs.check.Checked as DChecked
-use Rattle.audit.proofs.check.Checked.Laws as DChecked′
+use Rattle.check_table.specs.Rules.{checkTable}
+use Rattle.check_table.specs.declared.check.Checked.{Checked}
+use Rattle.check_table.proofs.check.Checked as DChecked
+use Rattle.check_table.proofs.check.Checked.Laws as DChecked′
 use Rattle.view.specs.declared.table.TableView.{TableView}
 use Rattle.view.proofs.table.TableView as DTableView
 use Rattle.view.proofs.table.TableView.Laws as DTableView′
-use Rattle.audit.proofs.check.check_table as of-check-table
-use Rattle.audit.proofs.check.check_table.Symbol as of-check-table-def
-use Rattle.audit.proofs.check.check_table.Symbol.{name as #check-table}
-use Rattle.audit.proofs.check.check_table.Met as of-check-table-thm
+use Rattle.check_table.proofs.check.check_table as of-check-table
+use Rattle.check_table.proofs.check.check_table.Symbol as of-check-table-def
+use Rattle.check_table.proofs.check.check_table.Symbol.{name as #check-table}
+use Rattle.check_table.proofs.check.check_table.Met as of-check-table-thm
 use Rattle.view.proofs.table.TableView.check.Key.{name as #it}
 use Rattle.view.proofs.table.TableView.check as it
 use Rattle.view.proofs.table.TableView.check.Statement as stated
@@ -61,7 +61,7 @@ abbrev stayed : Stays (it.ended .signature .params) (it.ended .kept)
 stayed = (stay-none (λ κs. DTableView.the-row (namedLft 1 0 tt κs)) yes, tt)
 
 module _ {M : Type 1} (𝓤 : URA M) (H : Heap 𝓤) (A : Atoms 𝓤) (mem : Memory → SProp 𝓤) (run : Routine → Fun 𝓤) where
-  -- the contract of `audit::check::check_table`
+  -- the contract of `check_table::check::check_table`
   abbrev Contract-check-table : Contract 𝓤
   Contract-check-table = tripleOf 𝓤 H A of-check-table.signature (of-check-table.spec 𝓤 H A mem run)
 
@@ -72,7 +72,7 @@ module _ {M : Type 1} (𝓤 : URA M) (H : Heap 𝓤) (A : Atoms 𝓤) (W : Given
   abbrev Post : Val → SProp 𝓤
   Post = walkOf 𝓤 H A it.ended stayed (it.clauses 𝓤 H A mem run) .post (((κ₀, tt), (q₀, tt), tt, (self, tt), at), tt)
 
-  -- call 1, of `audit::check::check_table`: what it is passed, what it asks, and what it says of its result
+  -- call 1, of `check_table::check::check_table`: what it is passed, what it asks, and what it says of its result
   abbrev to-1 : Contract-check-table 𝓤 H A mem run .Ghost
   to-1 = (((κ₀, tt), (q₀, tt), tt, ((self .file), ((self .start), ((self .end), tt))), ((sliceVal ((self .file) .ptr) (length ((self .file) .now))) ∷ [], ((vint w32 (self .start)) ∷ [], ((vint w32 (self .end)) ∷ [], tt)))), tt)
 
@@ -107,7 +107,7 @@ module _ {M : Type 1} (𝓤 : URA M) (H : Heap 𝓤) (A : Atoms 𝓤) (W : Given
           assigns ! (of-opd ! (load ! (from ! (fld ! refl (stop !))) (look-in ! 8 (sub ! 0 refl (whole !))))) (from ! (stop !)) (init ! 6 refl (tt, wt0 .1 .0)) $
           assigns ! (of-opd ! (load ! (from ! (fld ! refl (stop !))) (look-in ! 8 (sub ! 1 refl (whole !))))) (from ! (stop !)) (init ! 4 refl (tt, wt0 .1 .1 .0)) $
           assigns ! (of-opd ! (load ! (from ! (fld ! refl (stop !))) (look-in ! 8 (sub ! 2 refl (whole !))))) (from ! (stop !)) (init ! 2 refl (tt, wt0 .1 .1 .1 .0)) $
-          -- call 1, of `audit::check::check_table`
+          -- call 1, of `check_table::check::check_table`
           nothing ! $ owned ! u32 (Is u32) (uint-makes 𝓤 H A W w32) (self .end) ((vint w32 (self .end)) ∷ []) (refl, wt0 .1 .1 .1 .0 .fits) $ fjoin ! $ owned ! u32 (Is u32) (uint-makes 𝓤 H A W w32) (self .start) ((vint w32 (self .start)) ∷ []) (refl, wt0 .1 .1 .0 .fits) $ fjoin ! $ move ! (1 ∷ []) $ use1 W (‵ ((ShrSlice (named 0) κ₀ u8) .own (self .file) ((sliceVal ((self .file) .ptr) (length ((self .file) .now))) ∷ [])) ⊛ ‵ ((DTableView.the-row (namedLft 1 0 tt (κ₀, tt))) .own self ((DTableView′.lowered self) ∷ []))) out-self-0 $ split ! $ move ! (0 ∷ 2 ∷ []) $ fjoin ! $ nothing ! $ move ! (3 ∷ 0 ∷ []) $ join ! $ use2 W (raw (Contract-check-table 𝓤 H A mem run .pre (to-1))) (asked-1) $
           calls-at ! fm (Contract-check-table 𝓤 H A mem run) known-check-table (to-1) (and-then ! (load ! (from ! (stop !)) (look ! 6 refl)) (and-then ! (load ! (from ! (stop !)) (look ! 4 refl)) (and-then ! (load ! (from ! (stop !)) (look ! 2 refl)) (no-more !)))) (λ u1.
           use1 W (later (some (λ (r1 : Checked). ((‵ (flft κ₀ q₀) ⊛ ‵ ftrue) ⊛ ‵ (DChecked.the-row .own r1 (u1 ∷ []))) ⊛ raw (ensured 𝓤 H A of-check-table.ended (of-check-table.clauses 𝓤 H A mem run) (κ₀, tt) ((self .file), ((self .start), ((self .end), tt))) tt r1)))) (id⊢ 𝓤 _) $ await ! tt $ pick ! (λ r1.

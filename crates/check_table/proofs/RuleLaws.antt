@@ -1,0 +1,208 @@
+-- The tests of the rules, from what the calls answer. Assumes nothing.
+use Prim.Native.Nat.{ℕ, suc, _+_, _*_, _≤_, _<_, _-_, _%_}
+use mathlib.Core.Path.{_≡_, refl, sym, ap, _∙_}
+use mathlib.Core.List.{List}
+use mathlib.Core.Bool.{Bool, true, false}
+use native.Mathlib.Omega.{arith}
+use native.Mathlib.Nat.{sub-zero}
+use lib.ListN.{length}
+use lib.Dec.{eqb}
+use borrow.Author.Tests.{eq-eqb, ne-eqb}
+use Rattle.words.specs.Choice.{pick}
+use Rattle.words.specs.Below.{allBelow}
+use Rattle.words.proofs.ChoiceLaws.{both}
+use Rattle.layout.specs.declared.refusal.Refusal.{Refusal}
+use Rattle.layout.specs.declared.pointer.Pointed.{Pointed}
+use Rattle.layout.specs.declared.table.Table.{Table}
+use Rattle.layout.specs.declared.item.Item.{Item}
+use Rattle.layout.specs.Kind.{kindKnown}
+use Rattle.layout.specs.Pointer.{openPointer}
+use Rattle.layout.specs.Item.{itemAt}
+use Rattle.layout.proofs.OpenLaws.{pointer-inside}
+use Rattle.read.specs.declared.chain.Step.{Step}
+use Rattle.read.specs.declared.lookup.Found.{Found}
+use Rattle.read.specs.Chain.{Joined, keyOf, parentOf}
+use Rattle.read.specs.Find.{findItem}
+use Rattle.check_keys.specs.declared.tally.Own.{Own}
+use Rattle.check_table.specs.declared.check.Checked.{Checked}
+use Rattle.check_keys.specs.Key.{bytesOf, ownKey}
+use Rattle.check_table.specs.Survey.{keyRule}
+use Rattle.check_table.specs.Rules.{isJoined, isAt, keyLists, keyFinds, isInside, listOpens, valueOpens, childCount, among, childGood, childrenGood, listsIt, parentKeeps, parentGood, brokenRule, firstBroken, checkIn}
+use Rattle.check_table.proofs.KeyText.{sought-own}
+
+-- ---- rules 1 and 2, with the item's own key at hand
+
+joined-own : (rule : ℕ → ℕ) (j : Joined) {hash size : ℕ} → ownKey rule j ≡ Own.Key hash size → isJoined j ≡ true
+unfolding ownKey isJoined
+joined-own rule (Joined.joined k) e = refl
+joined-own rule (Joined.broken why) e = cc
+
+broken-own : (rule : ℕ → ℕ) (j : Joined) → ownKey rule j ≡ Own.Broken → isJoined j ≡ false
+unfolding ownKey isJoined
+broken-own rule (Joined.joined k) e = cc
+broken-own rule (Joined.broken why) e = refl
+
+module _ (rule : ℕ → ℕ) (file : List ℕ) (t : Table) (index : ℕ) where
+  pub key-broken : ownKey rule (keyOf file t (t .count) index) ≡ Own.Broken → 1 ≡ keyRule rule file t index
+  unfolding keyRule keyLists pick
+  key-broken e = rw (broken-own rule _ e)
+
+  module _ {hash size : ℕ} (own : ownKey rule (keyOf file t (t .count) index) ≡ Own.Key hash size)
+      {f : Found} (found : findItem rule file t (bytesOf (keyOf file t (t .count) index)) ≡ f) where
+    finds : isAt index f ≡ keyFinds rule file t index
+    unfolding keyFinds
+    finds = ap (isAt index) (sym found ∙ sym (sought-own rule file t (t .count) index (joined-own rule _ own)))
+
+    key-sought : pick (isAt index f) 0 2 ≡ keyRule rule file t index
+    unfolding keyRule keyLists pick
+    key-sought = rw (joined-own rule _ own, finds)
+
+  module _ {hash size : ℕ} (own : ownKey rule (keyOf file t (t .count) index) ≡ Own.Key hash size) where
+    pub key-nothing : findItem rule file t (bytesOf (keyOf file t (t .count) index)) ≡ Found.Nothing → 2 ≡ keyRule rule file t index
+    unfolding isAt pick
+    key-nothing e = key-sought own e
+
+    module _ {found : ℕ} (e : findItem rule file t (bytesOf (keyOf file t (t .count) index)) ≡ Found.At found) where
+      pub key-here : found ≡ index → 0 ≡ keyRule rule file t index
+      unfolding isAt pick
+      key-here same = sym (rw (eq-eqb found index same)) ∙ key-sought own e
+
+      pub key-elsewhere : (found ≡ index → ⊥) → 2 ≡ keyRule rule file t index
+      unfolding isAt pick
+      key-elsewhere other = sym (rw (ne-eqb found index other)) ∙ key-sought own e
+
+-- ---- rule 4 of a container: its list lies in the file
+
+refused-no : (why : Refusal) → isInside (Pointed.Refused why) ≡ true → _≡_ {A = ℕ} 0 1
+unfolding isInside
+refused-no why e = cc
+
+inside-fits : (size from to alignment : ℕ) → isInside (openPointer size from to alignment) ≡ true → (from ≤ to) × (to ≤ size)
+inside-fits size from to alignment e = by-case (openPointer size from to alignment) refl e
+  where
+    by-case : (p : Pointed) → openPointer size from to alignment ≡ p → isInside p ≡ true → (from ≤ to) × (to ≤ size)
+    by-case Pointed.Inside is f = pointer-inside size from to alignment is
+    by-case (Pointed.Refused why) is f = let z : _≡_ {A = ℕ} 0 1 = refused-no why f in absurd (omega arith)
+
+module _ (file : List ℕ) (item : Item) where
+  module _ {from to : ℕ} (f : from ≡ item .from) (s : to ≡ item .to) where
+    pub list-refused : {why : Refusal} → openPointer (length file) from to 4 ≡ Pointed.Refused why → false ≡ listOpens file item
+    unfolding listOpens isInside
+    list-refused e = rw (← f, ← s, e)
+
+    pub list-inside : openPointer (length file) from to 4 ≡ Pointed.Inside → eqb ((to - from) % 4) 0 ≡ listOpens file item
+    unfolding listOpens isInside
+    list-inside e = rw (← f, ← s, e)
+
+  opens-list : item .kind ≡ 76 → valueOpens file item ≡ listOpens file item
+  unfolding valueOpens pick
+  opens-list is =
+      let other : item .kind ≡ 118 → ⊥ = λ e. omega arith in
+      let neither : item .kind ≡ 72 → ⊥ = λ e. omega arith in
+      rw (ne-eqb _ _ other, ne-eqb _ _ neither, eq-eqb _ _ is)
+
+  pub list-room : item .kind ≡ 76 → valueOpens file item ≡ true → (item .from ≤ item .to) × (item .from + 4 * childCount item ≤ length file)
+  unfolding listOpens childCount
+  list-room is opens =
+      let inside = inside-fits (length file) (item .from) (item .to) 4 (both _ _ (sym (opens-list is) ∙ opens) .0) in
+      (inside .0, omega arith)
+
+-- ---- the first rule that is broken, rule by rule
+
+module _ (rule : ℕ → ℕ) (file : List ℕ) (t : Table) (index : ℕ) where
+  key-other : (keyRule rule file t index ≡ 0 → ⊥) → keyRule rule file t index ≡ brokenRule rule file t index
+  unfolding keyRule brokenRule pick
+  key-other = by-tests (keyLists file t index) (keyFinds rule file t index) _
+    where
+      by-tests : (one two : Bool) (rest : ℕ) → (_≡_ {A = ℕ} (pick one (pick two 0 2) 1) 0 → ⊥) → _≡_ {A = ℕ} (pick one (pick two 0 2) 1) (pick one (pick two rest 2) 1)
+      by-tests true true rest n = absurd (n refl)
+      by-tests true false rest n = refl
+      by-tests false two rest n = refl
+
+  key-keeps : keyRule rule file t index ≡ 0 → (keyLists file t index ≡ true) × (keyFinds rule file t index ≡ true)
+  unfolding keyRule pick
+  key-keeps = by-tests (keyLists file t index) (keyFinds rule file t index)
+    where
+      by-tests : (one two : Bool) → _≡_ {A = ℕ} (pick one (pick two 0 2) 1) 0 → (one ≡ true) × (two ≡ true)
+      by-tests true true e = (refl, refl)
+      by-tests true false e = absurd (omega arith)
+      by-tests false two e = absurd (omega arith)
+
+  module _ {key : ℕ} (said : key ≡ keyRule rule file t index) where
+    pub breaks-key : (key ≡ 0 → ⊥) → key ≡ brokenRule rule file t index
+    breaks-key n = said ∙ key-other (λ e. n (said ∙ e))
+
+    module _ (none : key ≡ 0) {item : Item} (is : item ≡ itemAt file t index) where
+      keyed : (keyLists file t index ≡ true) × (keyFinds rule file t index ≡ true)
+      keyed = key-keeps (sym said ∙ none)
+
+      pub breaks-3 : kindKnown (item .kind) ≡ false → 3 ≡ brokenRule rule file t index
+      unfolding brokenRule pick
+      breaks-3 e = rw (keyed .0, keyed .1, ← is, e)
+
+      module _ (three : kindKnown (item .kind) ≡ true) where
+        pub breaks-4 : valueOpens file item ≡ false → 4 ≡ brokenRule rule file t index
+        unfolding brokenRule pick
+        breaks-4 e = rw (keyed .0, keyed .1, ← is, three, e)
+
+        module _ (four : valueOpens file item ≡ true) where
+          pub breaks-5 : childrenGood file t index item ≡ false → 5 ≡ brokenRule rule file t index
+          unfolding brokenRule pick
+          breaks-5 e = rw (keyed .0, keyed .1, ← is, three, four, e)
+
+          module _ (five : childrenGood file t index item ≡ true) where
+            pub breaks-6 : parentGood file t index item ≡ false → 6 ≡ brokenRule rule file t index
+            unfolding brokenRule pick
+            breaks-6 e = rw (keyed .0, keyed .1, ← is, three, four, five, e)
+
+            pub breaks-none : parentGood file t index item ≡ true → 0 ≡ brokenRule rule file t index
+            unfolding brokenRule pick
+            breaks-none e = rw (keyed .0, keyed .1, ← is, three, four, five, e)
+
+-- ---- the search for the first item that breaks a rule
+
+module _ (broken : ℕ → ℕ) where
+  pub broken-turn : (count at : ℕ) → at < count
+      → firstBroken broken (count - at) at ≡ pick (eqb (broken at) 0) (firstBroken broken (count - (at + 1)) (at + 1)) (Checked.Broken (broken at) at)
+  unfolding firstBroken
+  broken-turn count at h =
+      let e : count - at ≡ suc (count - (at + 1)) = omega arith in
+      rw e
+
+  pub broken-over : (count at : ℕ) → count ≤ at → firstBroken broken (count - at) at ≡ Checked.Sound
+  unfolding firstBroken
+  broken-over count at h =
+      let e : count - at ≡ 0 = omega arith in
+      rw e
+
+pub broken-start : (rule : ℕ → ℕ) (file : List ℕ) (t : Table) → firstBroken (brokenRule rule file t) (t .count - 0) 0 ≡ checkIn rule file t
+unfolding checkIn
+broken-start rule file t = ap (λ (n : ℕ). firstBroken (brokenRule rule file t) n 0) (sub-zero (t .count))
+
+-- ---- a parent that lists an index, or does not; rule 5 of a container and of another item; rule 6
+
+module _ (file : List ℕ) (index : ℕ) (item : Item) where
+  pub lists-other : (item .kind ≡ 76 → ⊥) → false ≡ listsIt file index item
+  unfolding listsIt
+  lists-other n = rw (ne-eqb _ _ n)
+
+  pub lists-shut : item .kind ≡ 76 → valueOpens file item ≡ false → false ≡ listsIt file index item
+  unfolding listsIt
+  lists-shut is shut = rw (eq-eqb _ _ is, shut)
+
+  pub lists-open : item .kind ≡ 76 → valueOpens file item ≡ true → {from n : ℕ} → from ≡ item .from → n ≡ childCount item → among file from n index ≡ listsIt file index item
+  unfolding listsIt
+  lists-open is opens start same = rw (eq-eqb _ _ is, opens, start, same)
+
+module _ (file : List ℕ) (t : Table) (index : ℕ) (item : Item) where
+  pub children-other : (item .kind ≡ 76 → ⊥) → true ≡ childrenGood file t index item
+  unfolding childrenGood pick
+  children-other n = rw (ne-eqb _ _ n)
+
+  pub children-all : item .kind ≡ 76 → {from n : ℕ} → from ≡ item .from → n ≡ childCount item → allBelow (childGood file t index from) n ≡ childrenGood file t index item
+  unfolding childrenGood pick
+  children-all is start same = rw (eq-eqb _ _ is, start, same)
+
+  pub parent-keeps : {s : Step} → parentOf (t .count) (item .parent) ≡ s → parentKeeps file t index s ≡ parentGood file t index item
+  unfolding parentGood
+  parent-keeps e = rw e

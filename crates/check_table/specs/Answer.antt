@@ -1,0 +1,22 @@
+-- The number of document 01 that each answer of the check stands for, with its values. Assumes nothing.
+use Prim.Native.Nat.{ℕ}
+use Rattle.layout.specs.declared.refusal.Refusal.the-variants.{CheckBroken}
+use Rattle.layout.specs.Refusal.{number}
+use Rattle.check_table.specs.declared.check.Checked.{Checked}
+
+-- 40 where a rule is broken; 0 for a table that passes
+unfoldable pub checkedNumber : Checked → ℕ
+checkedNumber Checked.Sound = 0
+checkedNumber (Checked.Broken rule item) = number CheckBroken
+checkedNumber (Checked.Refused why) = number why
+
+-- the rule broken, 1 to 6, and the item's index, which stand with 40
+unfoldable pub checkedRule : Checked → ℕ
+checkedRule Checked.Sound = 0
+checkedRule (Checked.Broken rule item) = rule
+checkedRule (Checked.Refused why) = 0
+
+unfoldable pub checkedItem : Checked → ℕ
+checkedItem Checked.Sound = 0
+checkedItem (Checked.Broken rule item) = item
+checkedItem (Checked.Refused why) = 0

@@ -1,0 +1,49 @@
+-- What is answered with 40: the first item that does not keep every rule, and the first rule that it breaks. Assumes nothing.
+use Prim.Native.Nat.{ℕ, _<_}
+use mathlib.Core.Path.{_≡_}
+use mathlib.Core.Logic.{_↔_}
+use mathlib.Core.List.{List}
+use mathlib.Core.Bool.{true, false}
+use Rattle.layout.specs.declared.table.Opened.{Opened}
+use Rattle.layout.specs.declared.table.Table.{Table}
+use Rattle.layout.specs.Kind.{kindKnown}
+use Rattle.layout.specs.Table.{openTable}
+use Rattle.layout.specs.Item.{itemAt}
+use Rattle.check_table.specs.declared.check.Checked.{Checked}
+use Rattle.check_table.specs.Rules.{keyLists, keyFinds, valueOpens, childrenGood, parentGood, checkTable}
+
+module _ (rule : ℕ → ℕ) (file : List ℕ) (t : Table) (i : ℕ) where
+  -- every rule holds of an item
+  pub record Keeps : Type 0 where
+    pub one : keyLists file t i ≡ true
+    pub two : keyFinds rule file t i ≡ true
+    pub three : kindKnown (itemAt file t i .kind) ≡ true
+    pub four : valueOpens file (itemAt file t i) ≡ true
+    pub five : childrenGood file t i (itemAt file t i) ≡ true
+    pub six : parentGood file t i (itemAt file t i) ≡ true
+
+  -- a rule is the first that an item breaks: those before it hold
+  pub data Breaks : ℕ → Type 0 where
+    first : keyLists file t i ≡ false → Breaks 1
+    second : keyLists file t i ≡ true → keyFinds rule file t i ≡ false → Breaks 2
+    third : keyLists file t i ≡ true → keyFinds rule file t i ≡ true → kindKnown (itemAt file t i .kind) ≡ false → Breaks 3
+    fourth : keyLists file t i ≡ true → keyFinds rule file t i ≡ true → kindKnown (itemAt file t i .kind) ≡ true
+        → valueOpens file (itemAt file t i) ≡ false → Breaks 4
+    fifth : keyLists file t i ≡ true → keyFinds rule file t i ≡ true → kindKnown (itemAt file t i .kind) ≡ true
+        → valueOpens file (itemAt file t i) ≡ true → childrenGood file t i (itemAt file t i) ≡ false → Breaks 5
+    sixth : keyLists file t i ≡ true → keyFinds rule file t i ≡ true → kindKnown (itemAt file t i .kind) ≡ true
+        → valueOpens file (itemAt file t i) ≡ true → childrenGood file t i (itemAt file t i) ≡ true → parentGood file t i (itemAt file t i) ≡ false → Breaks 6
+
+-- the table opens, the items before this one keep every rule, and this one breaks this rule first
+pub record BrokenAt (rule : ℕ → ℕ) (file : List ℕ) (start end broken item : ℕ) : Type 0 where
+  pub table : Table
+  pub opens : openTable file start end ≡ Opened.Table table
+  pub below : item < table .count
+  pub before : (k : ℕ) → k < item → Keeps rule file table k
+  pub breaks : Breaks rule file table item broken
+
+-- the statement: 40 names the first item and its first broken rule
+abbrev pub NamesTheFirst : Type 0
+NamesTheFirst =
+    (rule : ℕ → ℕ) (file : List ℕ) (start end broken item : ℕ)
+    → (checkTable rule file start end ≡ Checked.Broken broken item) ↔ BrokenAt rule file start end broken item

@@ -1,0 +1,54 @@
+-- What the functions of the check say: rules 1 and 2 together, and the marks, by which a child is marked exactly when the container that
+-- it names lists it. Assumes nothing.
+use Prim.Native.Nat.{ℕ, _*_, _≤_, _<_}
+use mathlib.Core.Path.{_≡_}
+use mathlib.Core.List.{List}
+use mathlib.Core.Bool.{Bool, true, false, not, _&&_}
+use lib.ListN.{length}
+use lib.Dec.{ltb, eqb}
+use Rattle.words.specs.Choice.{pick}
+use Rattle.layout.specs.declared.table.Table.{Table}
+use Rattle.layout.specs.declared.item.Item.{Item}
+use Rattle.layout.specs.Item.{itemAt}
+use Rattle.check_table.specs.Marks.{marked, withMark}
+use Rattle.check_table.specs.Rules.{keyLists, keyFinds, valueOpens, childrenGood, listsIt}
+
+-- which of rules 1 and 2 an item breaks first; 0 for neither
+unfoldable pub keyRule : (ℕ → ℕ) → List ℕ → Table → ℕ → ℕ
+keyRule rule file t index = pick (keyLists file t index) (pick (keyFinds rule file t index) 0 2) 1
+
+-- an item that names the container and is not marked yet
+unfoldable pub freshChild : List ℕ → Table → ℕ → List ℕ → ℕ → Bool
+freshChild file t index marks child =
+    ltb child (t .count) && (eqb (itemAt file t child .parent) index && not (marked marks child))
+
+unfoldable pub afterChild : Bool → List ℕ → ℕ → List ℕ
+afterChild fresh marks child = pick fresh (withMark marks child) marks
+
+-- rule 5, of an item that keeps rule 4
+unfoldable pub fiveOrShut : List ℕ → Table → ℕ → Item → Bool
+fiveOrShut file t index item = pick (valueOpens file item) (childrenGood file t index item) true
+
+-- no mark yet
+pub record Blank (t : Table) (marks : List ℕ) : Type 0 where
+  pub room : t .count ≤ 64 * length marks
+  pub none : (c : ℕ) → marked marks c ≡ false
+
+-- no child of a container is marked yet
+pub record Fresh (file : List ℕ) (t : Table) (index : ℕ) (marks : List ℕ) : Type 0 where
+  pub room : t .count ≤ 64 * length marks
+  pub new : (c : ℕ) → c < t .count → itemAt file t c .parent ≡ index → marked marks c ≡ false
+
+-- a container's children are marked as wanted, if all went well, and no other item's mark has changed
+pub record Marking (file : List ℕ) (t : Table) (index : ℕ) (wanted : ℕ → Bool) (before after : List ℕ) (well : Bool) : Type 0 where
+  pub room : t .count ≤ 64 * length after
+  pub others : (c : ℕ) → c < t .count → (itemAt file t c .parent ≡ index → ⊥) → marked after c ≡ marked before c
+  pub own : well ≡ true → (c : ℕ) → c < t .count → itemAt file t c .parent ≡ index → marked after c ≡ wanted c
+
+-- the containers before stop keep rule 5, and the marks of their children say whether they list them; stop is the count or breaks rule 5
+pub record Survey (file : List ℕ) (t : Table) (stop : ℕ) (marks : List ℕ) : Type 0 where
+  pub room : t .count ≤ 64 * length marks
+  pub within : stop ≤ t .count
+  pub sound : (i : ℕ) → i < stop → fiveOrShut file t i (itemAt file t i) ≡ true
+  pub broken : stop < t .count → fiveOrShut file t stop (itemAt file t stop) ≡ false
+  pub below : (c : ℕ) → c < t .count → itemAt file t c .parent < stop → marked marks c ≡ listsIt file c (itemAt file t (itemAt file t c .parent))

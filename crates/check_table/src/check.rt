@@ -1,0 +1,119 @@
+// The check: the first item that breaks a rule, with the first rule that it breaks.
+use crate::marks::is_marked;
+use crate::rules::key_rule;
+use crate::rules::lists_it;
+use crate::rules::value_opens;
+use crate::survey::mark_all;
+use layout::item::Item;
+use layout::item::item_at;
+use layout::kind::kind_known;
+use layout::refusal::Refusal;
+use layout::table::Opened;
+use layout::table::Table;
+use layout::table::open_table;
+use read::chain::Step;
+use read::chain::parent_of;
+ghost use mathlib.Core.Path.{_≡_};
+ghost use Prim.Native.Nat.{_≤_, _<_};
+ghost use Rattle.words.specs.Hash.{plain};
+ghost use Rattle.layout.specs.Table.{InFile};
+ghost use Rattle.layout.specs.Item.{itemAt};
+ghost use Rattle.check_table.specs.Rules.{parentGood, brokenRule, checkIn, checkTable};
+ghost use Rattle.check_table.specs.Survey.{Survey};
+
+// Each item keeps every rule, or the first that does not and the first rule that it breaks, or why the table does not open.
+pub enum Checked {
+    Sound,
+    Broken { rule: u32, item: usize },
+    Refused(Refusal),
+}
+
+// Rule 6, by the marks where the parent was walked.
+fn parent_good(
+    file: &[u8],
+    table: Table,
+    index: usize,
+    item: Item,
+    stop: usize,
+    marks: &[usize],
+) -> bool
+    requires { ⌜ InFile (now file) table × (index < table .count) × (item ≡ itemAt (now file) table index) ⌝ }
+    requires { ⌜ Survey (now file) table stop (now marks) ⌝ }
+    ensures { λ r. ⌜ r ≡ parentGood (now (file .entry)) table index item ⌝ }
+{
+    match parent_of(table.count, item.parent) {
+        Step::Root => true,
+        Step::Refused(_) => false,
+        Step::Up(parent) => {
+            if parent < stop {
+                is_marked(marks, index)
+            } else {
+                lists_it(file, index, item_at(file, table, parent))
+            }
+        }
+    }
+}
+
+// The first rule that an item breaks, or 0.
+fn broken_rule(file: &[u8], table: Table, index: usize, stop: usize, marks: &[usize]) -> u32
+    requires { ⌜ InFile (now file) table × (index < table .count) × (index ≤ stop) ⌝ }
+    requires { ⌜ Survey (now file) table stop (now marks) ⌝ }
+    ensures { λ r. ⌜ r ≡ brokenRule plain (now (file .entry)) table index ⌝ }
+{
+    let key = key_rule(file, table, index);
+    if key != 0 {
+        return key;
+    }
+    let item = item_at(file, table, index);
+    if !kind_known(item.kind) {
+        return 3;
+    }
+    if !value_opens(file, item) {
+        return 4;
+    }
+    if index == stop {
+        return 5;
+    }
+    if !parent_good(file, table, index, item, stop, marks) {
+        return 6;
+    }
+    0
+}
+
+// The first item of an open table that breaks a rule.
+fn check_marked(file: &[u8], table: Table, stop: usize, marks: &[usize]) -> Checked
+    requires { ⌜ InFile (now file) table ⌝ }
+    requires { ⌜ Survey (now file) table stop (now marks) ⌝ }
+    ensures { λ r. ⌜ r ≡ checkIn plain (now (file .entry)) table ⌝ }
+{
+    let count = table.count;
+    let mut at = 0;
+    while at < count {
+        let rule = broken_rule(file, table, at, stop, marks);
+        if rule != 0 {
+            return Checked::Broken { rule, item: at };
+        }
+        at += 1;
+    }
+    Checked::Sound
+}
+
+// The check of an open table, with a bit for each of the 699,050 items that a file can hold.
+fn check_open(file: &[u8], table: Table) -> Checked
+    requires { ⌜ InFile (now file) table ⌝ }
+    ensures { λ r. ⌜ r ≡ checkIn plain (now (file .entry)) table ⌝ }
+{
+    let mut marks = [0usize; 10923];
+    let stop = mark_all(file, table, &mut marks);
+    check_marked(file, table, stop, &marks)
+}
+
+// The check of the table at a pointer: opening, then 40 for the first item and its first broken rule.
+pub fn check_table(file: &[u8], start: u32, end: u32) -> Checked
+    ensures { λ r. ⌜ r ≡ checkTable plain (now (file .entry)) start end ⌝ }
+{
+    match open_table(file, start, end) {
+        Opened::Refused(why) => Checked::Refused(why),
+        Opened::Table(table) => check_open(file, table),
+    }
+}
