@@ -16,9 +16,9 @@ use Rattle.layout.specs.declared.refusal.Refusal.{Refusal}
 use Rattle.layout.specs.declared.refusal.Refusal.the-variants.{MemoryBroken, TableUnknown, KeyNotUtf8, KeyTooLong, NotContainer, TooManyItems, ArenaFull, NestedTooDeep}
 use Rattle.model.specs.declared.Inserted.{Inserted}
 use Rattle.model.specs.Builder.{longestKey, mostItems}
-use Rattle.memory.specs.Memory.{itemTotal, roomUsed, tableSeparator, itemKind, valueKind, sound, Memory, memory, Outcome, outcome}
-use Rattle.memory.specs.Find.{findKey}
-use Rattle.memory.specs.Item.{Stored, stored, kindOf}
+use Rattle.build_memory.specs.Memory.{itemTotal, roomUsed, tableSeparator, itemKind, valueKind, sound, Memory, memory, Outcome, outcome}
+use Rattle.build_memory.specs.Find.{findKey}
+use Rattle.build_memory.specs.Item.{Stored, stored, kindOf}
 use Rattle.tables.specs.Table.{takes}
 use Rattle.build.specs.Walk.{wayOf, sum}
 use Rattle.build.specs.Insert.{refused, insertNew, overwrite, insertAlong, insertWalked, keyed, insertSound, insertValue}

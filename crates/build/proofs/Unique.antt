@@ -4,9 +4,9 @@ use mathlib.Core.Path.{_≡_}
 use mathlib.Core.Bool.{Bool}
 use mathlib.Core.List.{List}
 use Rattle.model.specs.declared.Inserted.{Inserted}
-use Rattle.memory.specs.Memory.{Memory, outcome}
-use Rattle.memory.specs.Item.{Stored}
-use Rattle.memory.proofs.Unique.{outcome-unique}
+use Rattle.build_memory.specs.Memory.{Memory, outcome}
+use Rattle.build_memory.specs.Item.{Stored}
+use Rattle.build_memory.proofs.Unique.{outcome-unique}
 use Rattle.build.specs.Insert.{insertWalked, insertValue}
 
 module _ (ws ar : List ℕ) (t : ℕ) (key : List ℕ) where

@@ -11,9 +11,9 @@ use Rattle.words.specs.Hash.{hashOf}
 use Rattle.text.specs.Prefix.{endsPast, nextEnd}
 use Rattle.text.proofs.PrefixLaws.{past-more, past-last, next-within, next-rises}
 use Rattle.model.specs.Builder.{mostItems}
-use Rattle.memory.specs.Memory.{itemTotal, itemKind, containerKind, Memory}
-use Rattle.memory.specs.Find.{findKey}
-use Rattle.memory.specs.Item.{stored, makeItem}
+use Rattle.build_memory.specs.Memory.{itemTotal, itemKind, containerKind, Memory}
+use Rattle.build_memory.specs.Find.{findKey}
+use Rattle.build_memory.specs.Item.{stored, makeItem}
 use Rattle.build.specs.declared.walk.Way.{Way}
 use Rattle.build.specs.declared.walk.Walked.{Walked}
 use Rattle.build.specs.Walk.{way, descend, sum}

@@ -12,9 +12,9 @@ use Rattle.layout.specs.declared.refusal.Refusal.{Refusal}
 use Rattle.layout.specs.declared.refusal.Refusal.the-variants.{MemoryBroken, TableUnknown, KeyNotUtf8, KeyTooLong, NotContainer, TooManyItems, ArenaFull, NestedTooDeep}
 use Rattle.model.specs.declared.Inserted.{Inserted}
 use Rattle.model.specs.Builder.{longestKey, mostItems}
-use Rattle.memory.specs.Memory.{tableTotal, itemTotal, roomUsed, tableSeparator, itemKind, valueKind, containerKind, sound, Sound, Memory, memory, Outcome, outcome}
-use Rattle.memory.specs.Find.{findKey}
-use Rattle.memory.specs.Item.{Stored, stored, kindOf, makeItem, replaceItem}
+use Rattle.build_memory.specs.Memory.{tableTotal, itemTotal, roomUsed, tableSeparator, itemKind, valueKind, containerKind, sound, Sound, Memory, memory, Outcome, outcome}
+use Rattle.build_memory.specs.Find.{findKey}
+use Rattle.build_memory.specs.Item.{Stored, stored, kindOf, makeItem, replaceItem}
 use Rattle.tables.specs.Table.{takes}
 use Rattle.build.specs.Walk.{wayOf, sum}
 

@@ -7,8 +7,8 @@ use lib.ListN.{length, take}
 use lib.Dec.{ltb, eqb}
 use Rattle.words.specs.Choice.{pick}
 use Rattle.text.specs.Prefix.{endsPast}
-use Rattle.memory.specs.Memory.{itemTotal, tableSeparator, itemKind, containerKind}
-use Rattle.memory.specs.Find.{findKey}
+use Rattle.build_memory.specs.Memory.{itemTotal, tableSeparator, itemKind, containerKind}
+use Rattle.build_memory.specs.Find.{findKey}
 use Rattle.build.specs.declared.walk.Way.{Way}
 
 -- clear: no item on the way is other than a container; from: where the last container that is there ends; parent: its index and one, or 0

@@ -1,9 +1,9 @@
 // The dry walk of an insert: it reads and counts, and writes nothing.
-use memory::find::find_hashed;
-use memory::place::CONTAINER_KIND;
-use memory::place::ITEMS;
-use memory::place::KIND;
-use memory::place::item_word;
+use build_memory::find::find_hashed;
+use build_memory::place::CONTAINER_KIND;
+use build_memory::place::ITEMS;
+use build_memory::place::KIND;
+use build_memory::place::item_word;
 use text::prefix::next_end;
 use words::hash::HASH_START;
 use words::hash::hash_on;
@@ -14,7 +14,7 @@ ghost use lib.ListN.{length, take};
 ghost use Rattle.words.specs.Hash.{hashOf};
 ghost use Rattle.text.specs.Prefix.{endsPast};
 ghost use Rattle.model.specs.Builder.{longestKey, mostItems};
-ghost use Rattle.memory.specs.Memory.{Sound};
+ghost use Rattle.build_memory.specs.Memory.{Sound};
 ghost use Rattle.build.specs.Walk.{way, descend, sum};
 
 // How far the containers of a key are there: clear where nothing else stands in the way, from where the last one ends, parent its index

@@ -16,8 +16,8 @@ use Rattle.read.specs.Answer.{lookedNumber}
 use Rattle.model.specs.declared.Counted.{Counted}
 use Rattle.model.specs.Table.{Content, Has, rowsOf}
 use Rattle.model.specs.Builder as model
-use Rattle.memory.specs.Memory.{Memory, leastWords, tableTotal}
-use Rattle.memory.specs.Meaning.{meaning, shelfOf}
+use Rattle.build_memory.specs.Memory.{Memory, leastWords, tableTotal}
+use Rattle.build_memory.specs.Meaning.{meaning, shelfOf}
 use Rattle.tables.specs.Table.{itemCount}
 use Rattle.whole.specs.Whole.{wholeSound}
 use Rattle.whole.proofs.WholeFacts.{whole-facts}

@@ -17,8 +17,8 @@ use Rattle.model.specs.declared.Numbered.{Numbered}
 use Rattle.model.specs.Table.{Content, Entry}
 use Rattle.model.specs.Builder.{Builder, Shelf, Result, result, noShelf, shelfAt, separatorOf}
 use Rattle.model.specs.Builder as model
-use Rattle.memory.specs.Memory.{Memory, leastWords}
-use Rattle.memory.specs.Meaning.{meaning}
+use Rattle.build_memory.specs.Memory.{Memory, leastWords}
+use Rattle.build_memory.specs.Meaning.{meaning}
 use Rattle.tables.specs.Table.{newTable}
 use Rattle.build.specs.Answer.{insertedNumber}
 use Rattle.history.specs.Honest.{Honest}

@@ -13,8 +13,8 @@ use Rattle.layout.specs.Refusal.{number}
 use Rattle.model.specs.declared.Inserted.{Inserted}
 use Rattle.model.specs.declared.Numbered.{Numbered}
 use Rattle.model.specs.declared.Counted.{Counted}
-use Rattle.memory.specs.Memory.{Memory, sound, Outcome}
-use Rattle.memory.specs.Item.{Stored}
+use Rattle.build_memory.specs.Memory.{Memory, sound, Outcome}
+use Rattle.build_memory.specs.Item.{Stored}
 use Rattle.tables.specs.Table.{addTable, newTable, itemCount}
 use Rattle.tables.specs.Answer.{numberedNumber, countedNumber}
 use Rattle.build.specs.Insert.{keyed, insertWalked, insertAlong, insertNew, overwrite, insertSound, insertValue}

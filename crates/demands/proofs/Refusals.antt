@@ -11,8 +11,8 @@ use Rattle.layout.specs.declared.refusal.Refusal.{Refusal}
 use Rattle.layout.specs.declared.refusal.Refusal.the-variants.{SeparatorOutside, TooManyTables, MemoryBroken}
 use Rattle.model.specs.declared.Inserted.{Inserted}
 use Rattle.model.specs.declared.Numbered.{Numbered}
-use Rattle.memory.specs.Memory.{leastWords, Memory, memory, Outcome, freshStart}
-use Rattle.memory.specs.Answer.{startedNumber}
+use Rattle.build_memory.specs.Memory.{leastWords, Memory, memory, Outcome, freshStart}
+use Rattle.build_memory.specs.Answer.{startedNumber}
 use Rattle.tables.specs.Table.{unnumbered, addTable, newTable}
 use Rattle.tables.specs.Answer.{numberedNumber}
 use Rattle.build.specs.Insert.{insertValue}

@@ -7,7 +7,7 @@ use native.Mathlib.Omega.{arith}
 use lib.ListN.{length, getD, length-append, List·getD-append}
 use lib.Seq.{getD-at}
 use Rattle.model.specs.Table.{Has}
-use Rattle.memory.specs.Memory.{itemTotal, itemTable}
+use Rattle.build_memory.specs.Memory.{itemTotal, itemTable}
 use Rattle.image.specs.Number.{indexIn}
 use Rattle.image.proofs.TimesLaws.{eq-or-ne, lt-or-ge, index-stands}
 use Rattle.roster.specs.Roster.{stateOf}

@@ -7,8 +7,8 @@ use native.Mathlib.Omega.{arith}
 use lib.ListN.{length}
 use Rattle.words.specs.Choice.{pick}
 use Rattle.model.specs.Table.{Content, Entry, entryAt, Has, rowsOf}
-use Rattle.memory.specs.Memory.{itemTotal}
-use Rattle.memory.specs.Meaning.{meaning}
+use Rattle.build_memory.specs.Memory.{itemTotal}
+use Rattle.build_memory.specs.Meaning.{meaning}
 use Rattle.roster.specs.Roster.{stateOf}
 use Rattle.write.proofs.StateLaws.{table-is, total-is, has-item, item-below, item-table}
 use Rattle.demands.specs.Last.{Held}

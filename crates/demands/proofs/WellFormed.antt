@@ -11,8 +11,8 @@ use Rattle.words.proofs.ChoiceLaws.{pick-true, pick-false}
 use Rattle.text.specs.Utf8.{isUtf8}
 use Rattle.model.specs.Table.{Rows, Has, isChild, isContainer, noItem}
 use Rattle.model.specs.Builder.{longestKey, mostItems}
-use Rattle.memory.specs.Memory.{itemTotal, itemParent, keyOf}
-use Rattle.memory.specs.Find.{findKey}
+use Rattle.build_memory.specs.Memory.{itemTotal, itemParent, keyOf}
+use Rattle.build_memory.specs.Find.{findKey}
 use Rattle.whole.specs.Whole.{wholeSound}
 use Rattle.whole.proofs.WholeFacts.{WholeFacts, whole-facts}
 use Rattle.image.specs.WellFormed.{ChildFits, WellFormed}

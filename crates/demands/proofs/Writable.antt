@@ -10,8 +10,8 @@ use Rattle.words.specs.Choice.{pick}
 use Rattle.words.specs.Store.{part}
 use Rattle.words.proofs.ChoiceLaws.{both}
 use Rattle.model.specs.Table.{Content}
-use Rattle.memory.specs.Memory.{tableTotal, itemKind, itemGuest, valueStart, valueSize, valueKind, tableKind}
-use Rattle.memory.specs.Meaning.{contentOf}
+use Rattle.build_memory.specs.Memory.{tableTotal, itemKind, itemGuest, valueStart, valueSize, valueKind, tableKind}
+use Rattle.build_memory.specs.Meaning.{contentOf}
 use Rattle.whole.specs.Whole.{heightLimit, wholeSound}
 use Rattle.whole.proofs.WholeLaws.{limit-loose, limit-placed}
 use Rattle.whole.proofs.WholeFacts.{whole-facts}

@@ -5,7 +5,7 @@ use mathlib.Core.Bool.{Bool}
 use mathlib.Core.List.{List, [], _∷_}
 use lib.Dec.{eqb}
 use lib.ListN.{length}
-use Rattle.memory.specs.Memory.{Memory, memory, freshWords}
+use Rattle.build_memory.specs.Memory.{Memory, memory, freshWords}
 use Rattle.tables.specs.Table.{newTable, itemCount}
 use Rattle.tables.specs.Answer.{numberedNumber, countedNumber}
 use Rattle.build.specs.Insert.{insertValue}

@@ -6,8 +6,8 @@ use mathlib.Core.Path.{_≡_}
 use mathlib.Core.Bool.{false}
 use mathlib.Core.List.{List}
 use lib.ListN.{length}
-use Rattle.memory.specs.Memory.{Memory, memory, leastWords, freshStart}
-use Rattle.memory.specs.Answer.{startedNumber}
+use Rattle.build_memory.specs.Memory.{Memory, memory, leastWords, freshStart}
+use Rattle.build_memory.specs.Answer.{startedNumber}
 use Rattle.demands.specs.Calls.{Call, answered, accepted, leaves, lent, leavesLent, started, after}
 
 abbrev pub RefusalChangesNothing : Type 0

@@ -17,7 +17,7 @@ use Rattle.read.specs.Lookup.{lookupValue, lookupTable}
 use Rattle.read.specs.Answer.{lookedNumber}
 use Rattle.model.specs.declared.Counted.{Counted}
 use Rattle.model.specs.Table.{Content}
-use Rattle.memory.specs.Memory.{Memory, leastWords}
+use Rattle.build_memory.specs.Memory.{Memory, leastWords}
 use Rattle.tables.specs.Table.{itemCount}
 use Rattle.image.specs.Image.{depth}
 use Rattle.readback.specs.Told.{Views, Both}

@@ -9,7 +9,7 @@ use Rattle.read.specs.declared.lookup.Looked.{Looked}
 use Rattle.read.specs.Lookup.{lookupTable}
 use Rattle.check_table.specs.declared.check.Checked.{Checked}
 use Rattle.check_table.specs.Rules.{checkTable}
-use Rattle.memory.specs.Memory.{leastWords}
+use Rattle.build_memory.specs.Memory.{leastWords}
 use Rattle.image.specs.Image.{depth}
 use Rattle.write.specs.declared.Written.{Written}
 use Rattle.write.specs.Write.{writeAnswer, imageAfter}

@@ -10,7 +10,7 @@ use Rattle.text.specs.Prefix.{prefixes}
 use Rattle.model.specs.declared.Numbered.{Numbered}
 use Rattle.model.specs.Table.{Content}
 use Rattle.model.specs.Builder.{noSeparator, separatorOf}
-use Rattle.memory.specs.Memory.{Memory}
+use Rattle.build_memory.specs.Memory.{Memory}
 use Rattle.tables.specs.Table.{newTable}
 use Rattle.demands.specs.Calls.{Call, accepted, after}
 

@@ -8,9 +8,9 @@ use Rattle.layout.specs.Table.{openTable}
 use Rattle.read.specs.Lookup.{lookupValue, lookupTable}
 use Rattle.read.specs.Listing.{keyAt, listed, written, valueAt}
 use Rattle.check_table.specs.Rules.{checkTable}
-use Rattle.memory.specs.Memory.{Memory, leastWords, outcome, freshStart}
-use Rattle.memory.specs.Answer.{startedNumber}
-use Rattle.memory.proofs.Unique.{outcome-unique}
+use Rattle.build_memory.specs.Memory.{Memory, leastWords, outcome, freshStart}
+use Rattle.build_memory.specs.Answer.{startedNumber}
+use Rattle.build_memory.proofs.Unique.{outcome-unique}
 use Rattle.tables.specs.Table.{newTable, itemCount}
 use Rattle.build.specs.Insert.{insertValue}
 use Rattle.nest.specs.Nest.{insertTable}

@@ -1,14 +1,14 @@
 // Building tables over lent memory.
 use layout::kind::byte_of;
 use layout::refusal::number_of;
-use memory::fresh::Started;
+use build_memory::fresh::Started;
 use model::Counted;
 use model::Inserted;
 use model::Numbered;
 use words::wide::byte_word;
 ghost use mathlib.Core.Path.{_≡_};
-ghost use Rattle.memory.specs.Memory.{leastWords, memory, outcome, freshStart};
-ghost use Rattle.memory.specs.Answer.{startedNumber};
+ghost use Rattle.build_memory.specs.Memory.{leastWords, memory, outcome, freshStart};
+ghost use Rattle.build_memory.specs.Answer.{startedNumber};
 ghost use Rattle.tables.specs.Table.{newTable, itemCount};
 ghost use Rattle.build.specs.Insert.{insertValue};
 ghost use Rattle.nest.specs.Nest.{insertTable};
@@ -40,7 +40,7 @@ pub struct GvdbCount {
 pub extern "C" fn gvdb_memory_words() -> usize
     ensures { λ r. ⌜ r ≡ leastWords ⌝ }
 {
-    memory::fresh::memory_words()
+    build_memory::fresh::memory_words()
 }
 
 // An empty builder, whatever the memory held.
@@ -48,7 +48,7 @@ pub extern "C" fn gvdb_memory_words() -> usize
 pub extern "C" fn gvdb_fresh(words: &mut [usize], arena: &[u8]) -> u32
     ensures { λ r. ⌜ outcome r (memory (now (words .exit)) (now (arena .entry))) ≡ told startedNumber (freshStart (now (words .entry)) (now (arena .entry))) ⌝ }
 {
-    match memory::fresh::fresh(words, arena) {
+    match build_memory::fresh::fresh(words, arena) {
         Started::Ready => 0,
         Started::Refused(why) => number_of(why),
     }

@@ -12,9 +12,9 @@ use Rattle.text.specs.Prefix.{endsPast, nextEnd}
 use Rattle.layout.specs.declared.refusal.Refusal.{Refusal}
 use Rattle.model.specs.declared.Inserted.{Inserted}
 use Rattle.model.specs.Builder.{mostItems, longestKey}
-use Rattle.memory.specs.Memory.{tableTotal, itemTotal, roomUsed, tableSeparator, itemTable, itemParent, itemKind, valueStart, valueSize, itemGuest, keyOf, memory, Outcome, outcome}
-use Rattle.memory.specs.Find.{findKey}
-use Rattle.memory.specs.Item.{Stored, kindOf, replaceItem}
+use Rattle.build_memory.specs.Memory.{tableTotal, itemTotal, roomUsed, tableSeparator, itemTable, itemParent, itemKind, valueStart, valueSize, itemGuest, keyOf, memory, Outcome, outcome}
+use Rattle.build_memory.specs.Find.{findKey}
+use Rattle.build_memory.specs.Item.{Stored, kindOf, replaceItem}
 use Rattle.build.specs.declared.walk.Way.{Way}
 use Rattle.build.specs.Walk.{way, descend, wayOf, sum}
 use Rattle.build.specs.Insert.{containers, refused, added, insertNew, overwrite, insertAlong, insertWalked}
@@ -32,7 +32,7 @@ use Rattle.model.specs.Walk as seen
 use Rattle.model.specs.Walk.{isThere, entry, putKey, Walked, walk, keyRoom}
 use Rattle.model.specs.Builder as told
 use Rattle.model.specs.Builder.{Builder, Shelf, noShelf, shelfAt, Result, result, withItems, news, usedAfter, counted, atWalked, put}
-use Rattle.memory.specs.Meaning.{shelfOf, meaning}
+use Rattle.build_memory.specs.Meaning.{shelfOf, meaning}
 use Rattle.history.specs.Items.{item, itemOf, Table}
 use Rattle.history.specs.Honest.{Good}
 use Rattle.history.proofs.Index.{find-within}

@@ -16,9 +16,9 @@ use Rattle.text.proofs.PrefixLaws.{next-within, next-rises}
 use Rattle.layout.specs.declared.kind.Kind.{Kind}
 use Rattle.layout.specs.declared.refusal.Refusal.{Refusal}
 use Rattle.model.specs.declared.Inserted.{Inserted}
-use Rattle.memory.specs.Memory.{tableTotal, itemTotal, roomUsed, tableSeparator, itemKind, memory, Outcome, outcome}
-use Rattle.memory.specs.Find.{findKey}
-use Rattle.memory.specs.Item.{Stored, kindOf, replaceItem}
+use Rattle.build_memory.specs.Memory.{tableTotal, itemTotal, roomUsed, tableSeparator, itemKind, memory, Outcome, outcome}
+use Rattle.build_memory.specs.Find.{findKey}
+use Rattle.build_memory.specs.Item.{Stored, kindOf, replaceItem}
 use Rattle.build.specs.declared.walk.Way.{Way}
 use Rattle.build.specs.Walk.{wayOf, sum}
 use Rattle.build.specs.Insert.{containers, refused, added, insertNew, overwrite, insertAlong, insertWalked}

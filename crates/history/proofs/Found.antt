@@ -15,8 +15,8 @@ use Rattle.text.specs.Compare.{sameBytes}
 use Rattle.text.proofs.CompareLaws.{same-equal, same-refl}
 use Rattle.model.specs.Table.{Entry, noEntry, entryAt}
 use Rattle.model.specs.Walk.{findKey, isThere}
-use Rattle.memory.specs.Memory.{itemTotal}
-use Rattle.memory.specs.Find as words
+use Rattle.build_memory.specs.Memory.{itemTotal}
+use Rattle.build_memory.specs.Find as words
 use Rattle.history.specs.Items.{Item, itemOf, Table}
 use Rattle.history.specs.Honest.{Good}
 use Rattle.history.proofs.Index.{find-within}

@@ -14,9 +14,9 @@ use Rattle.text.specs.Prefix.{endsPast, nextEnd}
 use Rattle.text.proofs.PrefixLaws.{next-within, next-rises}
 use Rattle.text.proofs.Utf8Parts.{utf8-cut}
 use Rattle.layout.specs.Kind.{kindKnown}
-use Rattle.memory.specs.Memory.{word, tableTotal, itemTotal, roomUsed, containerKind, Memory, memory}
-use Rattle.memory.specs.Item.{Stored, stored, makeItem}
-use Rattle.memory.proofs.MadeLaws.{made-arena}
+use Rattle.build_memory.specs.Memory.{word, tableTotal, itemTotal, roomUsed, containerKind, Memory, memory}
+use Rattle.build_memory.specs.Item.{Stored, stored, makeItem}
+use Rattle.build_memory.proofs.MadeLaws.{made-arena}
 use Rattle.build.specs.Walk.{sum}
 use Rattle.build.specs.Insert.{Laid, containers}
 use Rattle.build.proofs.WalkLaws.{further, last, make-end, make-more}

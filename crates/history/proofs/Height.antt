@@ -13,8 +13,8 @@ use Rattle.words.proofs.ChoiceLaws.{both, both-hold}
 use Rattle.model.specs.Table.{Content, Entry}
 use Rattle.model.specs.Builder.{most, heldBy}
 use Rattle.model.specs.Builder as told
-use Rattle.memory.specs.Memory.{tableTotal, itemTotal, valueKind, tableKind}
-use Rattle.memory.specs.Meaning.{meaning}
+use Rattle.build_memory.specs.Memory.{tableTotal, itemTotal, valueKind, tableKind}
+use Rattle.build_memory.specs.Meaning.{meaning}
 use Rattle.nest.specs.Nest.{heldHeight}
 use Rattle.history.specs.Items.{Item, itemOf, tableOf}
 use Rattle.history.specs.Right.{heldItem, heldIn}

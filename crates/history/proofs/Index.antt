@@ -14,8 +14,8 @@ use Rattle.words.specs.Hash.{hashOf}
 use Rattle.words.proofs.ChoiceLaws.{both, pick-with}
 use Rattle.text.specs.Compare.{sameBytes}
 use Rattle.text.proofs.CompareLaws.{same-equal, same-refl}
-use Rattle.memory.specs.Memory.{buckets, itemTotal, itemTable, itemHash, itemOlder, keyStart, keySize, keyOf}
-use Rattle.memory.specs.Find.{isItem, seek, findKey}
+use Rattle.build_memory.specs.Memory.{buckets, itemTotal, itemTable, itemHash, itemOlder, keyStart, keySize, keyOf}
+use Rattle.build_memory.specs.Find.{isItem, seek, findKey}
 use Rattle.history.specs.Tidy.{lastIn, bucketOf, Tidy}
 
 pub false-true : {A : Type 0} → false ≡ true → A

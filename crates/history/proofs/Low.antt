@@ -7,8 +7,8 @@ use lib.ListN.{length}
 use Rattle.words.specs.Store.{putAt}
 use Rattle.words.specs.Hash.{hashOf}
 use Rattle.words.proofs.StoreLaws.{length-put, get-put, get-before}
-use Rattle.memory.specs.Memory.{word, copies, buckets, links, leastWords, linksFrom, headsFrom, itemAt, headAt, linkAt, tableTotal, itemTotal, roomUsed, keyOf, emptyMark, freshWords}
-use Rattle.memory.proofs.MemoryLaws.{length-copies, get-copies}
+use Rattle.build_memory.specs.Memory.{word, copies, buckets, links, leastWords, linksFrom, headsFrom, itemAt, headAt, linkAt, tableTotal, itemTotal, roomUsed, keyOf, emptyMark, freshWords}
+use Rattle.build_memory.proofs.MemoryLaws.{length-copies, get-copies}
 use Rattle.history.specs.Items.{itemOf}
 use Rattle.history.specs.Tidy.{lastIn, bucketOf, Tidy}
 use Rattle.history.proofs.Index.{last-cong}

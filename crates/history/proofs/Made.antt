@@ -12,9 +12,9 @@ use lib.ListN.{length}
 use Rattle.words.specs.Choice.{pick}
 use Rattle.words.specs.Store.{part}
 use Rattle.words.specs.Hash.{hashOf}
-use Rattle.memory.specs.Memory.{word, leastWords, headsFrom, itemAt, headAt, linkAt, itemTotal, roomUsed, itemOlder, keyOf, Memory, memory}
-use Rattle.memory.specs.Item.{Stored, makeItem}
-use Rattle.memory.proofs.MadeLaws.{made-length, made-arena, made-items, made-used, made-low, made-head, other-head, own-word, other-word, made-behind, old-part, key-part, value-part}
+use Rattle.build_memory.specs.Memory.{word, leastWords, headsFrom, itemAt, headAt, linkAt, itemTotal, roomUsed, itemOlder, keyOf, Memory, memory}
+use Rattle.build_memory.specs.Item.{Stored, makeItem}
+use Rattle.build_memory.proofs.MadeLaws.{made-length, made-arena, made-items, made-used, made-low, made-head, other-head, own-word, other-word, made-behind, old-part, key-part, value-part}
 use Rattle.history.specs.Items.{item, itemOf}
 use Rattle.history.specs.Tidy.{lastIn, bucketOf, Tidy}
 use Rattle.history.proofs.Index.{last-cong}

@@ -15,10 +15,10 @@ use Rattle.words.specs.Choice.{pick}
 use Rattle.model.specs.Table.{Content, Entry, noItem, entryAt}
 use Rattle.model.specs.Builder.{Shelf, Builder, mostItems}
 use Rattle.model.specs.Walk.{entry}
-use Rattle.memory.specs.Memory.{tableTotal, itemTotal, roomUsed, itemTable, itemParent, keyOf, valueKind, tableKind, Memory, memory}
-use Rattle.memory.specs.Item.{Stored, makeItem, replaceItem}
-use Rattle.memory.specs.Meaning.{contentOf, entryOf, shelfOf, listed, meaning}
-use Rattle.memory.proofs.MadeLaws.{made-arena}
+use Rattle.build_memory.specs.Memory.{tableTotal, itemTotal, roomUsed, itemTable, itemParent, keyOf, valueKind, tableKind, Memory, memory}
+use Rattle.build_memory.specs.Item.{Stored, makeItem, replaceItem}
+use Rattle.build_memory.specs.Meaning.{contentOf, entryOf, shelfOf, listed, meaning}
+use Rattle.build_memory.proofs.MadeLaws.{made-arena}
 use Rattle.history.specs.Items.{Item, item, itemOf, Table, tableOf}
 use Rattle.history.specs.Tidy.{Tidy}
 use Rattle.history.proofs.Made as made

@@ -16,8 +16,8 @@ use Rattle.text.specs.Utf8.{isUtf8}
 use Rattle.layout.specs.declared.refusal.Refusal.{Refusal}
 use Rattle.model.specs.declared.Inserted.{Inserted}
 use Rattle.model.specs.Builder.{most, longestKey, deepest}
-use Rattle.memory.specs.Memory.{word, tableAt, tableTotal, itemTotal, tableSeparator, tablePlaced, tableHeight, itemTable, itemKind, itemGuest, tableKind, sound, Memory, memory, Outcome, outcome}
-use Rattle.memory.specs.Item.{stored}
+use Rattle.build_memory.specs.Memory.{word, tableAt, tableTotal, itemTotal, tableSeparator, tablePlaced, tableHeight, itemTable, itemKind, itemGuest, tableKind, sound, Memory, memory, Outcome, outcome}
+use Rattle.build_memory.specs.Item.{stored}
 use Rattle.tables.specs.Table.{takes}
 use Rattle.tables.proofs.TableLaws.{takes-facts}
 use Rattle.build.specs.Walk.{wayOf}

@@ -12,9 +12,9 @@ use Rattle.words.proofs.StoreLaws.{length-put, get-put, get-before, get-after}
 use Rattle.text.specs.Utf8.{isUtf8}
 use Rattle.model.specs.declared.Inserted.{Inserted}
 use Rattle.model.specs.Builder.{longestKey, deepest}
-use Rattle.memory.specs.Memory.{word, tableAt, tableTotal, itemTotal, tableSeparator, tablePlaced, valueKind, tableKind, Outcome}
-use Rattle.memory.specs.Find.{findKey}
-use Rattle.memory.specs.Item.{Stored, stored}
+use Rattle.build_memory.specs.Memory.{word, tableAt, tableTotal, itemTotal, tableSeparator, tablePlaced, valueKind, tableKind, Outcome}
+use Rattle.build_memory.specs.Find.{findKey}
+use Rattle.build_memory.specs.Item.{Stored, stored}
 use Rattle.tables.specs.Table.{takes}
 use Rattle.tables.proofs.TableLaws.{takes-facts}
 use Rattle.build.specs.Walk.{wayOf}
@@ -30,7 +30,7 @@ use Rattle.model.specs.Walk.{Walked, walk, isThere, entry}
 use Rattle.model.specs.Walk as seen
 use Rattle.model.specs.Builder as told
 use Rattle.model.specs.Builder.{Builder, Shelf, shelfAt, Result, put, atWalked}
-use Rattle.memory.specs.Meaning.{entryOf, shelfOf, listed, meaning}
+use Rattle.build_memory.specs.Meaning.{entryOf, shelfOf, listed, meaning}
 use Rattle.history.specs.Items.{Table, tableOf}
 use Rattle.history.specs.Tidy.{Tidy}
 use Rattle.history.specs.Honest.{Honest}

@@ -11,8 +11,8 @@ use lib.ListN.{length}
 use Rattle.words.specs.Store.{part, putAt}
 use Rattle.words.specs.Hash.{hashOf}
 use Rattle.words.proofs.StoreLaws.{length-put, get-put, get-before, get-after, part-put, part-before}
-use Rattle.memory.specs.Memory.{word, itemAt, headAt, linkAt, itemTotal, roomUsed, itemTable, keyOf, Memory, memory}
-use Rattle.memory.specs.Item.{Stored, replaceItem}
+use Rattle.build_memory.specs.Memory.{word, itemAt, headAt, linkAt, itemTotal, roomUsed, itemTable, keyOf, Memory, memory}
+use Rattle.build_memory.specs.Item.{Stored, replaceItem}
 use Rattle.history.specs.Items.{item, itemOf}
 use Rattle.history.specs.Tidy.{lastIn, bucketOf, Tidy}
 use Rattle.history.proofs.Index.{last-cong}

@@ -12,10 +12,10 @@ use Rattle.text.specs.Prefix.{endsPast, nextEnd}
 use Rattle.layout.specs.Kind.{kindKnown}
 use Rattle.layout.specs.declared.kind.Kind.{Kind}
 use Rattle.model.specs.Builder.{mostItems, longestKey}
-use Rattle.memory.specs.Memory.{itemTotal, roomUsed, itemKind, valueKind, tableKind, containerKind, memory}
-use Rattle.memory.specs.Find.{findKey}
-use Rattle.memory.specs.Item.{stored, kindOf, makeItem}
-use Rattle.memory.proofs.MadeLaws.{made-arena}
+use Rattle.build_memory.specs.Memory.{itemTotal, roomUsed, itemKind, valueKind, tableKind, containerKind, memory}
+use Rattle.build_memory.specs.Find.{findKey}
+use Rattle.build_memory.specs.Item.{stored, kindOf, makeItem}
+use Rattle.build_memory.proofs.MadeLaws.{made-arena}
 use Rattle.build.specs.declared.walk.Way.{Way}
 use Rattle.build.specs.Walk.{way, descend, sum}
 use Rattle.build.specs.Insert.{Laid, containers}

@@ -9,8 +9,8 @@ use lib.Dec.{ltb}
 use borrow.Author.Tests.{ne-eqb}
 use native.Mathlib.Omega.{arith}
 use mathlib.Core.Bool.{and-false}
-use Rattle.memory.specs.Memory.{tableTotal, itemTotal, tableSeparator, tablePlaced, itemTable, itemKind, itemGuest, keyOf}
-use Rattle.memory.specs.Meaning.{meaning}
+use Rattle.build_memory.specs.Memory.{tableTotal, itemTotal, tableSeparator, tablePlaced, itemTable, itemKind, itemGuest, keyOf}
+use Rattle.build_memory.specs.Meaning.{meaning}
 use Rattle.model.specs.Builder.{deepest, height}
 use Rattle.tables.specs.Table.{takes}
 use Rattle.nest.specs.Nest.{heldHeight}

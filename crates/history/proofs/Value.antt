@@ -16,8 +16,8 @@ use Rattle.text.specs.Utf8.{isUtf8}
 use Rattle.model.specs.declared.Inserted.{Inserted}
 use Rattle.model.specs.declared.Numbered.{Numbered}
 use Rattle.model.specs.Builder.{mostTables, longestKey, separatorOf}
-use Rattle.memory.specs.Memory.{word, leastWords, tableAt, tableTotal, itemTotal, tableSeparator, tablePlaced, tableHeight, valueKind, sound, freshWords, Memory, Outcome}
-use Rattle.memory.specs.Item.{Stored, stored}
+use Rattle.build_memory.specs.Memory.{word, leastWords, tableAt, tableTotal, itemTotal, tableSeparator, tablePlaced, tableHeight, valueKind, sound, freshWords, Memory, Outcome}
+use Rattle.build_memory.specs.Item.{Stored, stored}
 use Rattle.tables.specs.Table.{takes, addTable, newTable}
 use Rattle.tables.proofs.TableLaws.{takes-facts}
 use Rattle.build.specs.Insert.{keyed, insertSound, insertValue}

@@ -12,8 +12,8 @@ use lib.Seq.{getD-drop}
 use Rattle.words.specs.Choice.{pick}
 use Rattle.text.specs.Prefix.{endsPast, nextFrom, nextEnd}
 use Rattle.text.proofs.PrefixLaws.{next-low, next-past}
-use Rattle.memory.specs.Memory.{itemTotal, itemKind}
-use Rattle.memory.specs.Find.{findKey}
+use Rattle.build_memory.specs.Memory.{itemTotal, itemKind}
+use Rattle.build_memory.specs.Find.{findKey}
 use Rattle.build.specs.declared.walk.Way.{Way}
 use Rattle.build.specs.Walk.{way, descend}
 use Rattle.build.proofs.WalkLaws.{further, walk-end, walk-miss, walk-block, walk-pass}

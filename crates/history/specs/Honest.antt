@@ -1,7 +1,7 @@
 -- Memory that only the builder wrote, and that holds what is right. Assumes nothing: these are definitions.
 use Prim.Native.Nat.{ℕ}
 use mathlib.Core.List.{List}
-use Rattle.memory.specs.Memory.{tableTotal, itemTotal}
+use Rattle.build_memory.specs.Memory.{tableTotal, itemTotal}
 use Rattle.history.specs.Items.{Table, itemOf, tableOf}
 use Rattle.history.specs.Tidy.{Tidy}
 use Rattle.history.specs.Right.{Right}

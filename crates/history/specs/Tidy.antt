@@ -7,7 +7,7 @@ use lib.ListN.{length}
 use lib.Dec.{eqb}
 use Rattle.words.specs.Choice.{pick}
 use Rattle.words.specs.Hash.{hashOf}
-use Rattle.memory.specs.Memory.{word, buckets, links, headAt, linkAt, itemTotal, roomUsed, itemHash, itemOlder, keyStart, keySize, valueStart, valueSize, keyOf, emptyMark, Sound}
+use Rattle.build_memory.specs.Memory.{word, buckets, links, headAt, linkAt, itemTotal, roomUsed, itemHash, itemOlder, keyStart, keySize, valueStart, valueSize, keyOf, emptyMark, Sound}
 
 -- the last number below m that is in bucket b, or the empty mark
 unfoldable pub lastIn : (ℕ → ℕ) → ℕ → ℕ → ℕ

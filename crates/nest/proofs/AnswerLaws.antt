@@ -12,8 +12,8 @@ use Rattle.text.specs.Utf8.{isUtf8}
 use Rattle.layout.specs.declared.refusal.Refusal.the-variants.{MemoryBroken, TableUnknown, TableInItself}
 use Rattle.model.specs.declared.Inserted.{Inserted}
 use Rattle.model.specs.Builder.{longestKey, deepest}
-use Rattle.memory.specs.Memory.{tableKind, sound, Memory, Outcome, outcome}
-use Rattle.memory.specs.Item.{stored}
+use Rattle.build_memory.specs.Memory.{tableKind, sound, Memory, Outcome, outcome}
+use Rattle.build_memory.specs.Item.{stored}
 use Rattle.tables.specs.Table.{takes}
 use Rattle.build.specs.Insert.{insertWalked, keyed}
 use Rattle.nest.specs.Nest.{heldHeight, whenAccepted, settled, nested, tableSound, insertTable}

@@ -15,8 +15,8 @@ use Rattle.layout.specs.declared.refusal.Refusal.{Refusal}
 use Rattle.layout.specs.declared.kind.Kind.{Kind}
 use Rattle.model.specs.declared.Inserted.{Inserted}
 use Rattle.model.specs.Builder.{mostTables, deepest, most}
-use Rattle.memory.specs.Memory.{tableAt, tableHeight, itemTable, itemKind, itemGuest, tableKind, sound, Memory, memory, Outcome, outcome}
-use Rattle.memory.specs.Item.{stored}
+use Rattle.build_memory.specs.Memory.{tableAt, tableHeight, itemTable, itemKind, itemGuest, tableKind, sound, Memory, memory, Outcome, outcome}
+use Rattle.build_memory.specs.Item.{stored}
 use Rattle.tables.specs.Table.{takes}
 use Rattle.build.specs.Walk.{wayOf}
 use Rattle.build.specs.Insert.{refused, keyed, insertAlong, insertWalked}

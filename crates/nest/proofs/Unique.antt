@@ -3,8 +3,8 @@ use Prim.Native.Nat.{ℕ}
 use mathlib.Core.Path.{_≡_}
 use mathlib.Core.List.{List}
 use Rattle.model.specs.declared.Inserted.{Inserted}
-use Rattle.memory.specs.Memory.{Memory, outcome}
-use Rattle.memory.proofs.Unique.{outcome-unique}
+use Rattle.build_memory.specs.Memory.{Memory, outcome}
+use Rattle.build_memory.proofs.Unique.{outcome-unique}
 use Rattle.nest.specs.Nest.{insertTable}
 
 module _ (ws ar : List ℕ) (t : ℕ) (key : List ℕ) where

@@ -10,8 +10,8 @@ use Rattle.words.specs.Store.{putAt}
 use Rattle.layout.specs.declared.refusal.Refusal.the-variants.{MemoryBroken, TableUnknown, TableInItself}
 use Rattle.model.specs.declared.Inserted.{Inserted}
 use Rattle.model.specs.Builder.{mostTables, deepest, most}
-use Rattle.memory.specs.Memory.{tableAt, itemTotal, tableHeight, itemTable, itemKind, itemGuest, tableKind, sound, memory, Outcome, outcome}
-use Rattle.memory.specs.Item.{stored}
+use Rattle.build_memory.specs.Memory.{tableAt, itemTotal, tableHeight, itemTable, itemKind, itemGuest, tableKind, sound, memory, Outcome, outcome}
+use Rattle.build_memory.specs.Item.{stored}
 use Rattle.tables.specs.Table.{takes}
 use Rattle.build.specs.Insert.{refused, keyed, insertWalked}
 

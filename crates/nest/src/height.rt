@@ -1,20 +1,20 @@
 // The height of a table: one more than the greatest height that it holds.
-use memory::place::GUEST;
-use memory::place::HEIGHT;
-use memory::place::ITEMS;
-use memory::place::KIND;
-use memory::place::MOST_TABLES;
-use memory::place::TABLE;
-use memory::place::TABLE_KIND;
-use memory::place::item_word;
-use memory::place::table_word;
+use build_memory::place::GUEST;
+use build_memory::place::HEIGHT;
+use build_memory::place::ITEMS;
+use build_memory::place::KIND;
+use build_memory::place::MOST_TABLES;
+use build_memory::place::TABLE;
+use build_memory::place::TABLE_KIND;
+use build_memory::place::item_word;
+use build_memory::place::table_word;
 ghost use mathlib.Core.Path.{_≡_};
 ghost use Prim.Native.Nat.{_≤_, _<_};
 ghost use lib.ListN.{length};
 ghost use lib.Dec.{ltb};
 ghost use Rattle.words.specs.Choice.{pick};
 ghost use Rattle.model.specs.Builder.{mostItems};
-ghost use Rattle.memory.specs.Memory.{leastWords, itemTotal};
+ghost use Rattle.build_memory.specs.Memory.{leastWords, itemTotal};
 ghost use Rattle.nest.specs.Nest.{heldAt, heldHeight};
 
 // The height of the table that item i holds, where it is an item of the table that holds one; else 0.

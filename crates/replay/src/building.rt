@@ -8,7 +8,7 @@ use gvdb::building::gvdb_item_count;
 use gvdb::building::gvdb_new_table;
 use gvdb::writing::GvdbImage;
 use gvdb::writing::gvdb_write;
-use memory::place::part_of;
+use build_memory::place::part_of;
 use text::compare::same_bytes;
 use words::wide::word_size;
 

@@ -6,7 +6,7 @@ use gvdb::reading::gvdb_get_table;
 use gvdb::reading::gvdb_next_key;
 use gvdb::reading::gvdb_next_value;
 use gvdb::reading::gvdb_open;
-use memory::place::part_of;
+use build_memory::place::part_of;
 use text::compare::same_bytes;
 use text::utf8::first_bad;
 use words::hash::djb_hash;

@@ -11,7 +11,7 @@ use Rattle.words.specs.Below.{someBelow}
 use Rattle.words.specs.Store.{putAt}
 use Rattle.words.proofs.BelowLaws.{some-below, below-some, some-turn}
 use Rattle.words.proofs.StoreLaws.{put-none}
-use Rattle.memory.specs.Memory.{tableTotal, itemTotal, itemTable}
+use Rattle.build_memory.specs.Memory.{tableTotal, itemTotal, itemTable}
 use Rattle.image.specs.Number.{hashesOf, byNumber}
 use Rattle.image.proofs.NumberLaws.{length-hashes, length-by-number}
 use Rattle.order.specs.Chain.{starts}

@@ -13,7 +13,7 @@ use Rattle.words.specs.Store.{putAt}
 use Rattle.words.proofs.StoreLaws.{get-put, get-before}
 use Rattle.model.specs.Table.{Has}
 use Rattle.model.specs.Builder.{mostItems}
-use Rattle.memory.specs.Memory.{itemTotal, itemTable}
+use Rattle.build_memory.specs.Memory.{itemTotal, itemTable}
 use Rattle.image.specs.Number.{hashesOf, bucketStart, byNumber, itemOf, numberOf}
 use Rattle.image.proofs.NumberLaws.{length-hashes, length-by-number, numbering}
 use Rattle.order.specs.Chain.{starts}

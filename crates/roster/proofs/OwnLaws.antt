@@ -12,7 +12,7 @@ use Rattle.words.specs.Choice.{pick}
 use Rattle.words.specs.Store.{putAt}
 use Rattle.words.proofs.StoreLaws.{put-none, put-snoc}
 use Rattle.model.specs.Table.{times, Has}
-use Rattle.memory.specs.Memory.{itemTotal, itemTable}
+use Rattle.build_memory.specs.Memory.{itemTotal, itemTable}
 use Rattle.image.proofs.TimesLaws.{eq-or-ne, lt-or-ge, times-here, times-there, times-none, times-append}
 use Rattle.roster.specs.Fill.{own, owned, earlier, slotOf}
 

@@ -10,7 +10,7 @@ use Rattle.words.specs.Hash.{plain}
 use Rattle.words.specs.Store.{putAt}
 use Rattle.words.proofs.StoreLaws.{length-put, get-put, get-before}
 use Rattle.model.specs.Builder.{mostTables, mostItems}
-use Rattle.memory.specs.Memory.{itemTotal, itemTable}
+use Rattle.build_memory.specs.Memory.{itemTotal, itemTable}
 use Rattle.image.specs.Number.{hashesOf, bucketStart, itemOf, numberOf}
 use Rattle.whole.specs.Whole.{wholeSound}
 use Rattle.whole.proofs.WholeFacts.{whole-facts}

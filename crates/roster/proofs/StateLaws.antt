@@ -12,8 +12,8 @@ use lib.Seq.{getD-at}
 use Rattle.words.specs.Choice.{pick}
 use Rattle.words.specs.Hash.{hashOf}
 use Rattle.model.specs.Table.{Entry, Has, times, entryAt, membersBelow, rowsOf}
-use Rattle.memory.specs.Memory.{itemTotal, itemTable, keyOf}
-use Rattle.memory.specs.Meaning.{entryOf, listed, meaning}
+use Rattle.build_memory.specs.Memory.{itemTotal, itemTable, keyOf}
+use Rattle.build_memory.specs.Meaning.{entryOf, listed, meaning}
 use Rattle.order.specs.Key.{keyAt, hashAt, Known}
 use Rattle.roster.specs.Roster.{stateOf}
 use Rattle.roster.specs.Fill.{own, owned, Fit, Judged}

@@ -11,7 +11,7 @@ use Rattle.words.specs.Below.{someBelow}
 use Rattle.words.specs.Hash.{hashOf, plain}
 use Rattle.words.specs.Store.{putAt}
 use Rattle.model.specs.Builder.{mostItems}
-use Rattle.memory.specs.Memory.{word, leastWords, links, linkAt, emptyMark, tableTotal, itemTotal, itemTable, itemHash, keyOf}
+use Rattle.build_memory.specs.Memory.{word, leastWords, links, linkAt, emptyMark, tableTotal, itemTotal, itemTable, itemHash, keyOf}
 use Rattle.image.specs.Number.{keyOrder, hashesOf, bucketStart, byNumber, itemOf, numberOf}
 use Rattle.order.specs.Chain.{starts}
 use Rattle.order.specs.Items.{numbersPut}

@@ -11,8 +11,8 @@ use lib.ListN.{length, getD}
 use Rattle.words.specs.Hash.{plain}
 use Rattle.model.specs.Table.{State, rowsOf}
 use Rattle.model.specs.Builder.{mostTables, mostItems}
-use Rattle.memory.specs.Memory.{itemTotal, itemTable}
-use Rattle.memory.specs.Meaning.{meaning}
+use Rattle.build_memory.specs.Memory.{itemTotal, itemTable}
+use Rattle.build_memory.specs.Meaning.{meaning}
 use Rattle.image.specs.Number.{hashesOf, bucketStart, itemOf, numberOf}
 
 abbrev pub slotsFrom : ℕ

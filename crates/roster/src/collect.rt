@@ -1,8 +1,8 @@
 // The items of one table, in the order of their keys.
-use memory::place::ITEMS;
-use memory::place::TABLE;
-use memory::place::TABLES;
-use memory::place::item_word;
+use build_memory::place::ITEMS;
+use build_memory::place::TABLE;
+use build_memory::place::TABLES;
+use build_memory::place::item_word;
 use order::sort::sort;
 ghost use mathlib.Core.Path.{_≡_};
 ghost use Prim.Native.Nat.{_≤_};

@@ -1,7 +1,7 @@
 // The items of one table by their numbers, and the words of its buckets.
 use crate::collect::in_order;
-use memory::place::LEAST_WORDS;
-use memory::place::LINKS_FROM;
+use build_memory::place::LEAST_WORDS;
+use build_memory::place::LINKS_FROM;
 use order::items::hash_all;
 use order::items::items_at;
 use order::number::number;

@@ -8,7 +8,7 @@ use lib.ListN.{length}
 use borrow.Author.Tests.{lt-ltb, le-ltb, le-leb, eq-eqb, ne-eqb}
 use Rattle.words.specs.Choice.{pick}
 use Rattle.model.specs.Builder.{mostTables, separatorOf}
-use Rattle.memory.specs.Memory.{itemTotal, tableTotal, sound}
+use Rattle.build_memory.specs.Memory.{itemTotal, tableTotal, sound}
 use Rattle.tables.specs.Table.{addTable, newTable, countOf, itemCount}
 use Rattle.tables.specs.Answer.{numberedNumber, countedNumber, countedItems}
 

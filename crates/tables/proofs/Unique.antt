@@ -5,8 +5,8 @@ use mathlib.Core.Bool.{Bool}
 use mathlib.Core.List.{List}
 use Rattle.model.specs.declared.Numbered.{Numbered}
 use Rattle.model.specs.declared.Counted.{Counted}
-use Rattle.memory.specs.Memory.{Memory, outcome}
-use Rattle.memory.proofs.Unique.{outcome-unique}
+use Rattle.build_memory.specs.Memory.{Memory, outcome}
+use Rattle.build_memory.proofs.Unique.{outcome-unique}
 use Rattle.tables.specs.Table.{takes, newTable, itemCount}
 
 module _ (ws ar : List ℕ) where

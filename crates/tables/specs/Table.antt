@@ -11,7 +11,7 @@ use Rattle.layout.specs.declared.refusal.Refusal.the-variants.{MemoryBroken, Ta
 use Rattle.model.specs.declared.Numbered.{Numbered}
 use Rattle.model.specs.declared.Counted.{Counted}
 use Rattle.model.specs.Builder.{mostTables, separatorOf}
-use Rattle.memory.specs.Memory.{tableAt, tableTotal, itemTotal, tablePlaced, itemTable, sound, memory, Outcome, outcome}
+use Rattle.build_memory.specs.Memory.{tableAt, tableTotal, itemTotal, tablePlaced, itemTable, sound, memory, Outcome, outcome}
 
 -- the table is known and not placed
 unfoldable pub takes : List ℕ → ℕ → Bool

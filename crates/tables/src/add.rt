@@ -1,21 +1,21 @@
 // New tables, and whether a table takes items.
 use layout::refusal::Refusal;
-use memory::place::LAST_SEPARATOR;
-use memory::place::MOST_TABLES;
-use memory::place::NO_SEPARATOR;
-use memory::place::PLACED;
-use memory::place::TABLE_SIZE;
-use memory::place::TABLES;
-use memory::place::TABLES_FROM;
-use memory::place::table_word;
-use memory::rules::judge;
+use build_memory::place::LAST_SEPARATOR;
+use build_memory::place::MOST_TABLES;
+use build_memory::place::NO_SEPARATOR;
+use build_memory::place::PLACED;
+use build_memory::place::TABLE_SIZE;
+use build_memory::place::TABLES;
+use build_memory::place::TABLES_FROM;
+use build_memory::place::table_word;
+use build_memory::rules::judge;
 use model::Numbered;
 use words::wide::byte_size;
 ghost use mathlib.Core.Path.{_≡_};
 ghost use Prim.Native.Nat.{_<_, _^_};
 ghost use lib.ListN.{length};
 ghost use Rattle.model.specs.Builder.{separatorOf};
-ghost use Rattle.memory.specs.Memory.{Sound, memory, outcome};
+ghost use Rattle.build_memory.specs.Memory.{Sound, memory, outcome};
 ghost use Rattle.tables.specs.Table.{takes, addTable, newTable};
 
 // A number that fits the answers' width.

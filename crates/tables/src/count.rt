@@ -1,18 +1,18 @@
 // The count of a table's items.
 use crate::add::narrow;
 use layout::refusal::Refusal;
-use memory::place::ITEMS;
-use memory::place::TABLE;
-use memory::place::TABLES;
-use memory::place::item_word;
-use memory::rules::judge;
+use build_memory::place::ITEMS;
+use build_memory::place::TABLE;
+use build_memory::place::TABLES;
+use build_memory::place::item_word;
+use build_memory::rules::judge;
 use model::Counted;
 use words::wide::word_size;
 ghost use mathlib.Core.Path.{_≡_};
 ghost use Prim.Native.Nat.{_≤_};
 ghost use lib.ListN.{length};
 ghost use Rattle.model.specs.Builder.{mostItems};
-ghost use Rattle.memory.specs.Memory.{leastWords, itemTotal};
+ghost use Rattle.build_memory.specs.Memory.{leastWords, itemTotal};
 ghost use Rattle.tables.specs.Table.{countOf, itemCount};
 
 // How many items are of the table.

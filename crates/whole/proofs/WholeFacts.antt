@@ -14,9 +14,9 @@ use Rattle.words.proofs.BelowLaws.{all-below}
 use Rattle.text.specs.Utf8.{isUtf8}
 use Rattle.text.proofs.CompareLaws.{same-equal}
 use Rattle.model.specs.Builder.{longestKey}
-use Rattle.memory.specs.Memory.{word, links, linkAt, emptyMark, tableTotal, itemTotal, roomUsed, tablePlaced, tableHeight, itemTable, itemHash, keyStart, keySize, itemParent, itemKind, itemGuest, keyOf, tableKind, sound, Sound}
-use Rattle.memory.specs.Find.{findKey}
-use Rattle.memory.proofs.MemoryLaws.{sound-facts}
+use Rattle.build_memory.specs.Memory.{word, links, linkAt, emptyMark, tableTotal, itemTotal, roomUsed, tablePlaced, tableHeight, itemTable, itemHash, keyStart, keySize, itemParent, itemKind, itemGuest, keyOf, tableKind, sound, Sound}
+use Rattle.build_memory.specs.Find.{findKey}
+use Rattle.build_memory.proofs.MemoryLaws.{sound-facts}
 use Rattle.whole.specs.Whole.{tableKnown, keyPlaced, keyShort, placeRight, keyUtf8, hashRight, keyFound, keyRight, begunBy, parentRight, heightLimit, guestPlaced, guestRight, heldOnce, itemRight, linkEmpty, wholeSound}
 use Rattle.whole.proofs.WholeLaws.{place-table, item-guest}
 

@@ -17,8 +17,8 @@ use Rattle.words.proofs.BelowLaws.{all-below}
 use Rattle.text.specs.Compare.{sameBytes}
 use Rattle.text.specs.Utf8.{isUtf8}
 use Rattle.model.specs.Builder.{longestKey, deepest, mostTables}
-use Rattle.memory.specs.Memory.{links, tableTotal, itemTotal, roomUsed, tablePlaced, tableHeight, itemTable, itemHash, keyStart, keySize, itemParent, itemKind, valueStart, valueSize, itemGuest, keyOf, valueKind, tableKind, containerKind, sound}
-use Rattle.memory.specs.Find.{findKey}
+use Rattle.build_memory.specs.Memory.{links, tableTotal, itemTotal, roomUsed, tablePlaced, tableHeight, itemTable, itemHash, keyStart, keySize, itemParent, itemKind, valueStart, valueSize, itemGuest, keyOf, valueKind, tableKind, containerKind, sound}
+use Rattle.build_memory.specs.Find.{findKey}
 use Rattle.whole.specs.Whole.{tableKnown, keyPlaced, keyShort, kindRight, valuePlaced, placeRight, keyUtf8, hashRight, keyFound, keyRight, begunBy, parentRight, heightLimit, guestPlaced, guestRight, holdsTable, heldOnce, itemRight, linkEmpty, wholeSound, GuestsFew}
 
 -- ---- stretches

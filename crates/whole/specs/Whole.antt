@@ -13,8 +13,8 @@ use Rattle.text.specs.Compare.{sameBytes}
 use Rattle.text.specs.Utf8.{isUtf8}
 use Rattle.layout.specs.Kind.{kindKnown}
 use Rattle.model.specs.Builder.{longestKey, deepest, mostTables}
-use Rattle.memory.specs.Memory.{word, links, linkAt, emptyMark, tableTotal, itemTotal, roomUsed, tablePlaced, tableHeight, itemTable, itemHash, keyStart, keySize, itemParent, itemKind, valueStart, valueSize, itemGuest, keyOf, valueKind, tableKind, sound}
-use Rattle.memory.specs.Find.{findKey}
+use Rattle.build_memory.specs.Memory.{word, links, linkAt, emptyMark, tableTotal, itemTotal, roomUsed, tablePlaced, tableHeight, itemTable, itemHash, keyStart, keySize, itemParent, itemKind, valueStart, valueSize, itemGuest, keyOf, valueKind, tableKind, sound}
+use Rattle.build_memory.specs.Find.{findKey}
 
 -- ---- the place of an item
 

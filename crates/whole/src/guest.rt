@@ -1,22 +1,22 @@
 // The tables that items hold: specs/Whole.antt names each rule.
-use memory::place::DEEPEST;
-use memory::place::GUEST;
-use memory::place::HEIGHT;
-use memory::place::ITEMS;
-use memory::place::KIND;
-use memory::place::MOST_TABLES;
-use memory::place::PLACED;
-use memory::place::TABLE;
-use memory::place::TABLE_KIND;
-use memory::place::TABLES;
-use memory::place::item_word;
-use memory::place::table_word;
+use build_memory::place::DEEPEST;
+use build_memory::place::GUEST;
+use build_memory::place::HEIGHT;
+use build_memory::place::ITEMS;
+use build_memory::place::KIND;
+use build_memory::place::MOST_TABLES;
+use build_memory::place::PLACED;
+use build_memory::place::TABLE;
+use build_memory::place::TABLE_KIND;
+use build_memory::place::TABLES;
+use build_memory::place::item_word;
+use build_memory::place::table_word;
 ghost use mathlib.Core.Path.{_≡_};
 ghost use Prim.Native.Nat.{_<_, _≤_};
 ghost use lib.ListN.{length};
 ghost use Rattle.words.specs.Below.{allBelow};
 ghost use Rattle.model.specs.Builder.{mostItems, mostTables};
-ghost use Rattle.memory.specs.Memory.{leastWords, itemTotal, tableTotal, itemTable};
+ghost use Rattle.build_memory.specs.Memory.{leastWords, itemTotal, tableTotal, itemTable};
 ghost use Rattle.whole.specs.Whole.{heightLimit, guestPlaced, guestRight, heldOnce, GuestsFew};
 
 // What a table that table t holds must be lower than.

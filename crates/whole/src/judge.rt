@@ -4,16 +4,16 @@ use crate::guest::held_once;
 use crate::item::key_right;
 use crate::item::parent_right;
 use crate::item::place_right;
-use memory::place::EMPTY;
-use memory::place::ITEMS;
-use memory::place::LINKS;
-use memory::place::LINKS_FROM;
-use memory::rules::judge;
+use build_memory::place::EMPTY;
+use build_memory::place::ITEMS;
+use build_memory::place::LINKS;
+use build_memory::place::LINKS_FROM;
+use build_memory::rules::judge;
 ghost use mathlib.Core.Path.{_≡_};
 ghost use Prim.Native.Nat.{_<_, _≤_};
 ghost use lib.ListN.{length};
 ghost use Rattle.words.specs.Below.{allBelow};
-ghost use Rattle.memory.specs.Memory.{leastWords, links, itemTotal, Sound};
+ghost use Rattle.build_memory.specs.Memory.{leastWords, links, itemTotal, Sound};
 ghost use Rattle.whole.specs.Whole.{itemRight, linkEmpty, wholeSound};
 
 // Whether item i keeps the rules that do not ask what other items hold.

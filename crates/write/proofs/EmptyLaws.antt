@@ -13,7 +13,7 @@ use Rattle.words.specs.Hash.{plain}
 use Rattle.words.specs.Store.{part}
 use Rattle.words.proofs.BelowLaws.{below-some, some-turn}
 use Rattle.model.specs.Table.{Content}
-use Rattle.memory.specs.Memory.{itemTotal, keySize, itemKind, itemGuest, valueStart, valueSize, tableKind}
+use Rattle.build_memory.specs.Memory.{itemTotal, keySize, itemKind, itemGuest, valueStart, valueSize, tableKind}
 use Rattle.image.specs.Number.{itemOf}
 use Rattle.roster.specs.Roster.{stateOf, firstSlot, slotCount, slotItem, Rostered}
 use Rattle.write.specs.Write.{emptyHeld, hasEmpty}

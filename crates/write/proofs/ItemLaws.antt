@@ -15,8 +15,8 @@ use Rattle.words.specs.Hash.{plain, hashBy}
 use Rattle.words.proofs.ChoiceLaws.{pick-true, pick-false}
 use Rattle.layout.specs.Kind.{kindByte}
 use Rattle.model.specs.Table.{Content, Rows, kindOf, isContainer, isChild, fragmentAt, noItem}
-use Rattle.memory.specs.Memory.{itemTotal, itemTable, itemHash, keyStart, keySize, itemParent, itemKind, valueStart, valueSize, itemGuest, keyOf, valueKind, tableKind, containerKind, emptyMark}
-use Rattle.memory.specs.Meaning.{contentOf}
+use Rattle.build_memory.specs.Memory.{itemTotal, itemTable, itemHash, keyStart, keySize, itemParent, itemKind, valueStart, valueSize, itemGuest, keyOf, valueKind, tableKind, containerKind, emptyMark}
+use Rattle.build_memory.specs.Meaning.{contentOf}
 use Rattle.image.specs.Number.{numberOf}
 use Rattle.image.specs.Plan.{word, wordsOf}
 use Rattle.image.specs.Image.{parentNumber, childWords}

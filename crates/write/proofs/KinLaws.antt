@@ -14,7 +14,7 @@ use Rattle.words.specs.Choice.{pick}
 use Rattle.words.specs.Store.{putAt}
 use Rattle.words.proofs.StoreLaws.{length-put, get-put, get-after}
 use Rattle.model.specs.Table.{noItem}
-use Rattle.memory.specs.Memory.{itemTotal, itemTable, itemParent}
+use Rattle.build_memory.specs.Memory.{itemTotal, itemTable, itemParent}
 use Rattle.image.specs.Number.{bucketOf, run, numbered, bucketStart}
 use Rattle.image.specs.Image.{childrenIn, childrenOf}
 use Rattle.image.proofs.ChildLaws.{children-append}

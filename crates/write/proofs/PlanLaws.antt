@@ -9,7 +9,7 @@ use Rattle.words.specs.Store.{part}
 use Rattle.words.specs.Hash.{plain}
 use Rattle.words.proofs.StoreLaws.{length-part}
 use Rattle.model.specs.Table.{Content}
-use Rattle.memory.specs.Memory.{itemTotal, itemTable, itemHash, keyStart, keySize, itemKind, valueStart, valueSize, itemGuest, containerKind}
+use Rattle.build_memory.specs.Memory.{itemTotal, itemTable, itemHash, keyStart, keySize, itemKind, valueStart, valueSize, itemGuest, containerKind}
 use Rattle.image.specs.Number.{itemOf, numberOf}
 use Rattle.image.specs.Plan.{wordsOf, chunkSize}
 use Rattle.image.specs.Fits.{SamePlan}

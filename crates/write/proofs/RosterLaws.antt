@@ -9,7 +9,7 @@ use lib.ListN.{length}
 use Rattle.words.specs.Hash.{plain}
 use Rattle.words.proofs.ChoiceLaws.{pick-true, pick-false}
 use Rattle.model.specs.Table.{Has}
-use Rattle.memory.specs.Memory.{itemTotal, itemTable, itemParent, keySize, emptyMark}
+use Rattle.build_memory.specs.Memory.{itemTotal, itemTable, itemParent, keySize, emptyMark}
 use Rattle.image.specs.Number.{itemOf, numberOf}
 use Rattle.image.proofs.TimesLaws.{eq-or-ne}
 use Rattle.image.proofs.NumberLaws.{number-within, item-number, number-item, item-within, first-most}

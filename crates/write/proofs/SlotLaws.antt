@@ -11,7 +11,7 @@ use lib.ListN.{length, getD, set}
 use lib.Seq.{getD-set-same, getD-set-other}
 use Rattle.words.specs.Store.{putAt}
 use Rattle.words.proofs.ChoiceLaws.{pick-true, pick-false, both}
-use Rattle.memory.specs.Memory.{emptyMark, itemTable, keySize, itemParent, itemKind, valueStart, valueSize, itemGuest, containerKind}
+use Rattle.build_memory.specs.Memory.{emptyMark, itemTable, keySize, itemParent, itemKind, valueStart, valueSize, itemGuest, containerKind}
 use Rattle.image.proofs.TimesLaws.{eq-or-ne}
 use Rattle.lay.proofs.KindLaws.{kind-value, kind-table, kind-container}
 use Rattle.roster.specs.Roster.{firstSlot, itemNumber}

@@ -12,7 +12,7 @@ use Rattle.words.specs.Hash.{plain}
 use Rattle.words.proofs.ChoiceLaws.{pick-true, pick-false}
 use Rattle.words.proofs.HashLaws.{hash-below}
 use Rattle.words.proofs.StoreLaws.{length-put, get-put, get-before, get-after, put-append}
-use Rattle.memory.specs.Memory.{itemTotal, itemHash, keyStart, keySize, itemKind, valueStart, valueSize, itemGuest, keyOf}
+use Rattle.build_memory.specs.Memory.{itemTotal, itemHash, keyStart, keySize, itemKind, valueStart, valueSize, itemGuest, keyOf}
 use Rattle.image.proofs.TimesLaws.{eq-or-ne, lt-or-ge}
 use Rattle.lay.specs.Sheet.{slotWord, SlotFits}
 use Rattle.roster.specs.Roster.{bucketWord, Rostered}

@@ -8,7 +8,7 @@ use lib.Dec.{eqb, ltb}
 use lib.ListN.{length, getD}
 use Rattle.words.specs.Choice.{pick}
 use Rattle.words.specs.Hash.{plain}
-use Rattle.memory.specs.Memory.{emptyMark, itemTotal, itemTable, itemHash, keyStart, keySize, itemParent, itemKind, valueStart, valueSize, itemGuest, containerKind}
+use Rattle.build_memory.specs.Memory.{emptyMark, itemTotal, itemTable, itemHash, keyStart, keySize, itemParent, itemKind, valueStart, valueSize, itemGuest, containerKind}
 use Rattle.image.specs.Fits.{SamePlan}
 use Rattle.image.specs.Image.{planOf}
 use Rattle.lay.specs.Sheet.{sheetTables, sheetSlots, slotsAt, childrenAt, sheetSize, slotWord, childWord, byKind, sheetPlan, SheetFits, SlotFits}

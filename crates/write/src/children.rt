@@ -1,15 +1,15 @@
 // The children of every container in order of creation: places in buckets by their parent words, the last item first.
-use memory::place::EMPTY;
-use memory::place::ITEMS;
-use memory::place::PARENT;
-use memory::place::item_word;
+use build_memory::place::EMPTY;
+use build_memory::place::ITEMS;
+use build_memory::place::PARENT;
+use build_memory::place::item_word;
 use order::number::number;
 ghost use mathlib.Core.Path.{_≡_};
 ghost use mathlib.Core.Bool.{true};
 ghost use Prim.Native.Nat.{ℕ, _<_, _≤_};
 ghost use lib.ListN.{length, getD};
 ghost use Rattle.model.specs.Builder.{mostItems};
-ghost use Rattle.memory.specs.Memory.{leastWords, itemTotal};
+ghost use Rattle.build_memory.specs.Memory.{leastWords, itemTotal};
 ghost use Rattle.whole.specs.Whole.{wholeSound};
 ghost use Rattle.write.specs.Sheeted.{Parents, Kin, ChildSheet};
 

@@ -1,13 +1,13 @@
 // The search for an empty key in a table and in those nested in it: a table and an item call each other, and the depth left falls.
-use memory::place::GUEST;
-use memory::place::KEY_SIZE;
-use memory::place::KIND;
-use memory::place::TABLE_KIND;
-use memory::place::item_word;
+use build_memory::place::GUEST;
+use build_memory::place::KEY_SIZE;
+use build_memory::place::KIND;
+use build_memory::place::TABLE_KIND;
+use build_memory::place::item_word;
 ghost use mathlib.Core.Path.{_≡_};
 ghost use mathlib.Core.Bool.{true};
 ghost use Prim.Native.Nat.{_<_};
-ghost use Rattle.memory.specs.Memory.{itemTotal};
+ghost use Rattle.build_memory.specs.Memory.{itemTotal};
 ghost use Rattle.whole.specs.Whole.{wholeSound};
 ghost use Rattle.roster.specs.Roster.{stateOf, Rostered};
 ghost use Rattle.write.specs.Write.{hasEmpty};

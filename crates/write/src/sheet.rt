@@ -2,12 +2,12 @@
 use crate::children::order_kin;
 use crate::children::put_children;
 use crate::slot::put_slot;
-use memory::place::ITEMS;
+use build_memory::place::ITEMS;
 ghost use mathlib.Core.Path.{_≡_};
 ghost use mathlib.Core.Bool.{true};
 ghost use Prim.Native.Nat.{ℕ, _<_};
 ghost use lib.ListN.{length};
-ghost use Rattle.memory.specs.Memory.{itemTotal};
+ghost use Rattle.build_memory.specs.Memory.{itemTotal};
 ghost use Rattle.whole.specs.Whole.{wholeSound};
 ghost use Rattle.lay.specs.Sheet.{SlotFits};
 ghost use Rattle.roster.specs.Roster.{Rostered};

@@ -1,23 +1,23 @@
 // The words of an item's slot.
-use memory::place::CONTAINER_KIND;
-use memory::place::GUEST;
-use memory::place::HASH;
-use memory::place::KEY;
-use memory::place::KEY_SIZE;
-use memory::place::KIND;
-use memory::place::PARENT;
-use memory::place::TABLE;
-use memory::place::TABLE_KIND;
-use memory::place::VALUE;
-use memory::place::VALUE_KIND;
-use memory::place::VALUE_SIZE;
-use memory::place::item_word;
+use build_memory::place::CONTAINER_KIND;
+use build_memory::place::GUEST;
+use build_memory::place::HASH;
+use build_memory::place::KEY;
+use build_memory::place::KEY_SIZE;
+use build_memory::place::KIND;
+use build_memory::place::PARENT;
+use build_memory::place::TABLE;
+use build_memory::place::TABLE_KIND;
+use build_memory::place::VALUE;
+use build_memory::place::VALUE_KIND;
+use build_memory::place::VALUE_SIZE;
+use build_memory::place::item_word;
 ghost use mathlib.Core.Path.{_≡_};
 ghost use mathlib.Core.List.{[], _∷_};
 ghost use Prim.Native.Nat.{ℕ, _+_, _*_, _-_, _<_, _≤_};
 ghost use lib.ListN.{length, getD};
 ghost use Rattle.words.specs.Store.{putAt};
-ghost use Rattle.memory.specs.Memory.{itemParent, itemTable};
+ghost use Rattle.build_memory.specs.Memory.{itemParent, itemTable};
 ghost use Rattle.write.specs.Sheeted.{childTest, skipped, parentWord, slotOf, startOf, sizeOf, frontWords, backWords, slotWords, Slotted, Firsts};
 
 // Whether an item is laid as a child: it has a parent, which is a container.

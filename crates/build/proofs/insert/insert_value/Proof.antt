@@ -1,7 +1,7 @@
 -- `build::insert::insert_value` meets its contract: 29, or what sound memory gives. Assumes nothing.
 use Rattle.build.proofs.InsertLaws.{value-unsound, value-sound}
 use Rattle.build.specs.Insert.{insertSound}
-use Rattle.memory.proofs.MemoryLaws.{sound-facts}
+use Rattle.build_memory.proofs.MemoryLaws.{sound-facts}
 use borrow.Author.Tests.{not-true, not-false}
 use Prim.Native.Nat.{ℕ}
 use mathlib.Core.Path.{sym, ap, _∙_}

@@ -3,9 +3,9 @@
 use Rattle.build.proofs.WalkLaws.{further, last, make-end, make-more}
 use Rattle.build.specs.Insert.{containers}
 use Rattle.build.specs.Walk.{sum}
-use Rattle.memory.proofs.MadeLaws.{made-all}
-use Rattle.memory.specs.Item.{stored}
-use Rattle.memory.specs.Memory.{itemTotal, roomUsed, containerKind, memory}
+use Rattle.build_memory.proofs.MadeLaws.{made-all}
+use Rattle.build_memory.specs.Item.{stored}
+use Rattle.build_memory.specs.Memory.{itemTotal, roomUsed, containerKind, memory}
 use Rattle.text.specs.Prefix.{endsPast}
 use Rattle.words.specs.Hash.{hashOf, plain}
 use Rattle.words.proofs.HashLaws.{hash-further}

@@ -1,6 +1,6 @@
 -- `gvdb::building::gvdb_fresh` meets its contract: the fresh start's answer as its number. Assumes nothing.
 use mathlib.Core.Path.{ap}
-use Rattle.memory.specs.Answer.{startedNumber}
+use Rattle.build_memory.specs.Answer.{startedNumber}
 use Rattle.gvdb.specs.Building.{told}
 use borrow.Author.Needs.{needs}
 use Rattle.gvdb.proofs.building.gvdb_fresh.Statement.{statement}

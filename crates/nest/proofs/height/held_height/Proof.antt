@@ -1,7 +1,7 @@
 -- `nest::height::held_height` meets its contract. The invariant: `most` is the greatest height among the items passed. Assumes nothing.
 use Rattle.nest.proofs.NestLaws.{most-none, most-step}
 use Rattle.nest.specs.Nest.{heldAt, heldHeight}
-use Rattle.memory.specs.Memory.{itemTotal}
+use Rattle.build_memory.specs.Memory.{itemTotal}
 use Rattle.model.specs.Builder as builder
 use native.Mathlib.Omega.{arith}
 use Prim.Native.Nat.{_-_, _≤_}

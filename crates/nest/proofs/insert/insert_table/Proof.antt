@@ -1,7 +1,7 @@
 -- `nest::insert::insert_table` meets its contract: 29, or what sound memory gives. Assumes nothing.
 use Rattle.nest.proofs.NestLaws.{table-unsound, table-sound}
 use Rattle.nest.specs.Nest.{tableSound}
-use Rattle.memory.proofs.MemoryLaws.{sound-facts}
+use Rattle.build_memory.proofs.MemoryLaws.{sound-facts}
 use borrow.Author.Tests.{not-true, not-false}
 use Prim.Native.Nat.{ℕ}
 use mathlib.Core.Path.{sym, ap, _∙_}

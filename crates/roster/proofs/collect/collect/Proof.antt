@@ -4,7 +4,7 @@ use Prim.Native.Nat.{ℕ, _-_, _≤_}
 use native.Mathlib.Omega.{arith}
 use lib.ListN.{length, length-set}
 use Rattle.words.specs.Store.{putAt}
-use Rattle.memory.specs.Memory.{itemTotal, itemTable}
+use Rattle.build_memory.specs.Memory.{itemTotal, itemTable}
 use Rattle.roster.specs.Fill.{own, owned}
 use Rattle.roster.proofs.OwnLaws.{own-none, own-start, own-count, own-put, own-count-pass, own-put-pass}
 use Rattle.roster.proofs.collect.collect.Statement.{statement}

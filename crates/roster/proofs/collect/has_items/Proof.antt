@@ -4,7 +4,7 @@ use mathlib.Core.Bool.{false}
 use Prim.Native.Nat.{_-_, _≤_}
 use native.Mathlib.Omega.{arith}
 use Rattle.words.specs.Below.{someBelow}
-use Rattle.memory.specs.Memory.{itemTotal}
+use Rattle.build_memory.specs.Memory.{itemTotal}
 use Rattle.roster.specs.Fill.{inTable}
 use Rattle.roster.proofs.BareLaws.{search-start, search-turn, search-hit, search-end, past-none}
 use Rattle.roster.proofs.collect.has_items.Statement.{statement}

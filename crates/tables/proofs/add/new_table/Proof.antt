@@ -1,6 +1,6 @@
 -- `tables::add::new_table` meets its contract: 29, 28, or what adding the table gives. Assumes nothing.
 use Rattle.tables.proofs.TableLaws.{table-unsound, table-outside, table-inside}
-use Rattle.memory.proofs.MemoryLaws.{sound-facts}
+use Rattle.build_memory.proofs.MemoryLaws.{sound-facts}
 use borrow.Author.Tests.{not-true, not-false}
 use mathlib.Core.Path.{sym, _∙_}
 use borrow.Author.Needs.{needs}

@@ -1,7 +1,7 @@
 -- `tables::count::count_of` meets its contract. The invariant: the count is that of the items passed. Assumes nothing.
 use Rattle.tables.proofs.TableLaws.{count-none, count-pass, count-one}
 use Rattle.tables.specs.Table.{countOf}
-use Rattle.memory.specs.Memory.{itemTotal}
+use Rattle.build_memory.specs.Memory.{itemTotal}
 use native.Mathlib.Omega.{arith}
 use Prim.Native.Nat.{_-_, _≤_}
 use mathlib.Core.Path.{_≡_, ap, _∙_}

@@ -1,8 +1,8 @@
 -- `tables::count::item_count` meets its contract: 29, 24, or the count. Assumes nothing.
 use Rattle.tables.proofs.TableLaws.{count-unsound, count-unknown, count-known}
 use Rattle.tables.specs.Table.{countOf}
-use Rattle.memory.proofs.MemoryLaws.{sound-facts}
-use Rattle.memory.specs.Memory.{itemTotal}
+use Rattle.build_memory.proofs.MemoryLaws.{sound-facts}
+use Rattle.build_memory.specs.Memory.{itemTotal}
 use borrow.Author.Tests.{not-true, not-false}
 use native.Mathlib.Omega.{arith}
 use Prim.Native.Nat.{ℕ}

@@ -1,7 +1,7 @@
 -- `whole::guest::held_once` meets its contract. The invariant: the marks are the tables that the items passed hold, and no item passed holds one twice. Assumes nothing.
 use Rattle.whole.proofs.WholeLaws.{guest-low, Met, met-none, met-pass, met-mark, once-pass, once-twice, once-first}
 use Rattle.whole.specs.Whole.{heldOnce}
-use Rattle.memory.specs.Memory.{itemTotal}
+use Rattle.build_memory.specs.Memory.{itemTotal}
 use Rattle.model.specs.Builder.{mostTables}
 use Rattle.words.proofs.BelowLaws.{all-fails, all-turn}
 use Rattle.words.specs.Below.{allBelow}

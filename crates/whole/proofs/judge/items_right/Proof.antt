@@ -1,6 +1,6 @@
 -- `whole::judge::items_right` meets its contract. The invariant: the items that were passed keep the rules. Assumes nothing.
 use Rattle.whole.specs.Whole.{itemRight}
-use Rattle.memory.specs.Memory.{itemTotal}
+use Rattle.build_memory.specs.Memory.{itemTotal}
 use Rattle.words.proofs.BelowLaws.{all-fails, all-turn}
 use Rattle.words.specs.Below.{allBelow}
 use borrow.Author.Tests.{not-true, not-false}

@@ -1,6 +1,6 @@
 -- `whole::judge::judge_whole` meets its contract, rule by rule. Assumes nothing.
 use Rattle.whole.proofs.WholeLaws.{guests-few, whole-unsound, whole-items, whole-twice, whole-links}
-use Rattle.memory.proofs.MemoryLaws.{sound-facts}
+use Rattle.build_memory.proofs.MemoryLaws.{sound-facts}
 use borrow.Author.Tests.{not-true, not-false}
 use mathlib.Core.Path.{sym, _∙_}
 use borrow.Author.Needs.{needs}

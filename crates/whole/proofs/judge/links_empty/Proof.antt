@@ -1,6 +1,6 @@
 -- `whole::judge::links_empty` meets its contract. The invariant: the links that were passed are empty. Assumes nothing.
 use Rattle.whole.specs.Whole.{linkEmpty}
-use Rattle.memory.specs.Memory.{links}
+use Rattle.build_memory.specs.Memory.{links}
 use Rattle.words.proofs.BelowLaws.{all-fails, all-turn}
 use Rattle.words.specs.Below.{allBelow}
 use borrow.Author.Tests.{eq-eqb, ne-eqb}

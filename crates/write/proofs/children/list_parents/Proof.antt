@@ -4,7 +4,7 @@ use Prim.Native.Nat.{ℕ, _≤_, _<_, _-_}
 use mathlib.Core.Path.{_≡_, refl}
 use native.Mathlib.Omega.{arith}
 use lib.ListN.{length, getD, length-set}
-use Rattle.memory.specs.Memory.{itemTotal, itemParent}
+use Rattle.build_memory.specs.Memory.{itemTotal, itemParent}
 use Rattle.write.specs.Sheeted.{fromLast}
 use Rattle.write.proofs.SlotLaws.{set-next}
 use Rattle.write.proofs.children.list_parents.Statement.{statement}

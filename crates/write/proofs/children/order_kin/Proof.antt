@@ -4,7 +4,7 @@ use mathlib.Core.Path.{sym, _∙_}
 use native.Mathlib.Omega.{arith}
 use lib.ListN.{take, length-replicate}
 use lib.Seq.{length-take-le, getD-take}
-use Rattle.memory.specs.Memory.{itemTotal}
+use Rattle.build_memory.specs.Memory.{itemTotal}
 use Rattle.order.proofs.ChainLaws.{empty-fresh}
 use Rattle.write.proofs.StateLaws.{whole-right}
 use Rattle.write.proofs.KinLaws.{kin-made}

@@ -15,7 +15,7 @@ use Rattle.write.proofs.empty.+has_empty+item_empty.Lts-has_empty as ha
 use Rattle.write.proofs.empty.item_empty.Reads as item-empty
 use Rattle.write.proofs.empty.item_empty.Kinds as item-empty-kinds
 use Rattle.write.proofs.empty.+has_empty+item_empty.Lts-item_empty as item-empty-lts
-use Rattle.memory.proofs.place.item_word.Reads as item-word-reads
+use Rattle.build_memory.proofs.place.item_word.Reads as item-word-reads
 use Rattle.write.proofs.empty.+has_empty+item_empty.{statement}
 use Rattle.write.proofs.empty.+has_empty+item_empty.Tie.{close}
 

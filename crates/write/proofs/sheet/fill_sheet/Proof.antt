@@ -2,7 +2,7 @@
 use Prim.Native.Nat.{ℕ}
 use native.Mathlib.Omega.{arith}
 use lib.ListN.{length-replicate, getD-replicate}
-use Rattle.memory.specs.Memory.{itemTotal}
+use Rattle.build_memory.specs.Memory.{itemTotal}
 use Rattle.write.proofs.StateLaws.{whole-right}
 use Rattle.write.proofs.TurnLaws.{start-fits}
 use Rattle.write.proofs.PlanLaws.{kin-firsts, sheeted}

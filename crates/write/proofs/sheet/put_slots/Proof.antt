@@ -3,7 +3,7 @@ use borrow.Author.Needs.{needs}
 use Prim.Native.Nat.{_≤_, _-_}
 use mathlib.Core.Path.{_≡_}
 use native.Mathlib.Omega.{arith}
-use Rattle.memory.specs.Memory.{itemTotal}
+use Rattle.build_memory.specs.Memory.{itemTotal}
 use Rattle.write.specs.Sheeted.{SlotSheet}
 use Rattle.write.proofs.StateLaws.{whole-right}
 use Rattle.write.proofs.RosterLaws.{slotted}

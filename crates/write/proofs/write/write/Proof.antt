@@ -3,7 +3,7 @@ use Rattle.write.specs.Write.{isRoot}
 use mathlib.Core.Path.{refl, ap, _∙_}
 use Prim.Native.Nat.{_<_}
 use native.Mathlib.Omega.{arith}
-use Rattle.memory.specs.Memory.{tableTotal}
+use Rattle.build_memory.specs.Memory.{tableTotal}
 use Rattle.write.proofs.StateLaws.{whole-right}
 use Rattle.write.proofs.SlotLaws.{turned-on, turned-off}
 use Rattle.write.proofs.AnswerLaws.{root-below, write-broken, write-unknown, write-root, image-after}

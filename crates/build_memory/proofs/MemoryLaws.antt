@@ -1,0 +1,122 @@
+-- The laws of the memory's layout, of total reads, of the rules that every call judges, and of the fresh start. Assumes nothing.
+use Prim.Native.Nat.{ℕ, _+_, _-_, _*_, _≤_, _<_}
+use native.Mathlib.Nat.{add-sub-cancel-left}
+use native.Mathlib.Omega.{arith}
+use mathlib.Core.Path.{_≡_, refl, sym, ap, _∙_}
+use mathlib.Core.Bool.{Bool, true, false, _&&_}
+use mathlib.Core.List.{List, [], _∷_}
+use borrow.Author.Tests.{eqb-true, leb-true, le-leb, lt-leb, eq-eqb, ne-eqb}
+use lib.Dec.{leb}
+use lib.ListN.{length, getD, take, drop, set, length-drop, drop-of-length-le, length-replicate, getD-replicate}
+use lib.Seq.{take-all, take-nil}
+use Rattle.words.specs.Choice.{pick}
+use Rattle.words.specs.Store.{part, putAt}
+use Rattle.words.proofs.ChoiceLaws.{both}
+use Rattle.words.proofs.StoreLaws.{copy-turn, copy-end}
+use Rattle.layout.specs.declared.refusal.Refusal.the-variants.{MemoryBroken}
+use Rattle.model.specs.Builder.{mostTables, mostItems}
+use Rattle.build_memory.specs.declared.fresh.Started.{Started}
+use Rattle.build_memory.specs.Memory.{tablesFrom, tableSize, headsFrom, buckets, itemsFrom, itemSize, linksFrom, links, leastWords, emptyMark, word, tableTotal, itemTotal, roomUsed, all, rules, sound, Sound, memory, outcome, copies, freshWords, freshStart}
+
+-- the parts of the words lie one behind the other, and fill the least length
+pub parts-meet : (tablesFrom + tableSize * mostTables ≡ headsFrom) × (headsFrom + buckets ≡ itemsFrom) × (itemsFrom + itemSize * mostItems ≡ linksFrom) × (linksFrom + links ≡ leastWords)
+parts-meet = (refl, refl, refl, refl)
+
+-- ---- a total read
+
+pub part-none : (l : List ℕ) (at size : ℕ) → length l ≤ at → [] ≡ part l at size
+part-none l at size h = sym (ap (take size) (drop-of-length-le l h) ∙ take-nil size)
+
+pub part-rest : (l : List ℕ) (at size : ℕ) → length l - at ≤ size → take (length l - at) (drop at l) ≡ part l at size
+part-rest l at size h =
+    let n : length (drop at l) ≡ length l - at = length-drop at l in
+    take-all (length l - at) (drop at l) (omega arith) ∙ sym (take-all size (drop at l) (omega arith))
+
+pub part-mid : (l : List ℕ) (at size : ℕ) → take (at + size - at) (drop at l) ≡ part l at size
+part-mid l at size = ap (λ (n : ℕ). take n (drop at l)) (add-sub-cancel-left at size)
+
+-- ---- the rules, as facts
+
+abbrev Each : List Bool → Type 0
+Each [] = Unit {0}
+Each (test ∷ tests) = (test ≡ true) × Each tests
+
+all-each : (tests : List Bool) → all tests ≡ true → Each tests
+unfolding all
+all-each [] e = tt
+all-each (test ∷ tests) e = let h = both test (all tests) e in (h .0, all-each tests (h .1))
+
+pub sound-facts : (ws : List ℕ) (arena : ℕ) → sound ws arena ≡ true → Sound ws arena
+unfolding sound
+sound-facts ws arena e =
+    let h = all-each (rules ws arena) e in
+    record {
+      long = leb-true _ _ (h .0);
+      words = eqb-true _ _ (h .1 .0);
+      room = eqb-true _ _ (h .1 .1 .0);
+      tables = leb-true _ _ (h .1 .1 .1 .0);
+      items = leb-true _ _ (h .1 .1 .1 .1 .0);
+      used = leb-true _ _ (h .1 .1 .1 .1 .1 .0);
+    }
+
+pub sound-holds : (ws : List ℕ) (arena : ℕ) → Sound ws arena → sound ws arena ≡ true
+unfolding sound all
+sound-holds ws arena s =
+    simp (le-leb _ _ (s .long), eq-eqb _ _ (s .words), eq-eqb _ _ (s .room), le-leb _ _ (s .tables), le-leb _ _ (s .items), le-leb _ _ (s .used))
+
+-- the judgement, test by test
+module _ (ws : List ℕ) (arena : ℕ) where
+  pub judge-short : length ws < leastWords → false ≡ sound ws arena
+  unfolding sound all
+  judge-short h = simp (lt-leb _ _ h)
+
+  module _ (long : leastWords ≤ length ws) where
+    pub judge-words : (word ws 0 ≡ length ws → ⊥) → false ≡ sound ws arena
+    unfolding sound all
+    judge-words h = simp (le-leb _ _ long, ne-eqb _ _ h)
+
+    module _ (same : word ws 0 ≡ length ws) where
+      pub judge-room : (word ws 1 ≡ arena → ⊥) → false ≡ sound ws arena
+      unfolding sound all
+      judge-room h = simp (le-leb _ _ long, eq-eqb _ _ same, ne-eqb _ _ h)
+
+      pub judge-counts : word ws 1 ≡ arena
+          → (leb (tableTotal ws) mostTables && leb (itemTotal ws) mostItems) && leb (roomUsed ws) arena ≡ sound ws arena
+      unfolding sound all
+      judge-counts h = simp (le-leb _ _ long, eq-eqb _ _ same, eq-eqb _ _ h) (regroup (leb (tableTotal ws) mostTables) (leb (itemTotal ws) mostItems) (leb (roomUsed ws) arena))
+        where
+          regroup : (p q r : Bool) → (p && q) && r ≡ p && (q && (r && true))
+          regroup true true true = refl
+          regroup true true false = refl
+          regroup true false r = refl
+          regroup false q r = refl
+
+-- ---- copies of one word
+
+pub length-copies : (n v : ℕ) → length (copies n v) ≡ n
+unfolding copies
+length-copies n v = length-replicate n v
+
+pub get-copies : (n v i : ℕ) → i < n → getD (copies n v) i 0 ≡ v
+unfolding copies
+get-copies n v i h = getD-replicate n i v 0 h
+
+pub fill-turn : (l : List ℕ) (at n v i : ℕ) → i < n → set (putAt l at (take i (copies n v))) (at + i) v ≡ putAt l at (take (i + 1) (copies n v))
+fill-turn l at n v i h =
+    ap (set (putAt l at (take i (copies n v))) (at + i)) (sym (get-copies n v i h)) ∙ copy-turn l at (copies n v) i (omega (arith, length-copies n v))
+
+pub fill-end : (l : List ℕ) (at n v i : ℕ) → n ≤ i → putAt l at (take i (copies n v)) ≡ putAt l at (copies n v)
+fill-end l at n v i h = copy-end l at (copies n v) i (omega (arith, length-copies n v))
+
+-- ---- the fresh start
+
+module _ (ws ar : List ℕ) where
+  pub fresh-refused : length ws < leastWords → outcome (Started.Refused MemoryBroken) (memory ws ar) ≡ freshStart ws ar
+  unfolding freshStart pick
+  fresh-refused h = simp (lt-leb _ _ h)
+
+  pub fresh-ready : leastWords ≤ length ws → (w1 w2 w3 : List ℕ) → w1 ≡ putAt ws 0 (length ws ∷ length ar ∷ 0 ∷ 0 ∷ 0 ∷ [])
+      → w2 ≡ putAt w1 headsFrom (copies buckets emptyMark) → w3 ≡ putAt w2 linksFrom (copies links emptyMark)
+      → outcome Started.Ready (memory w3 ar) ≡ freshStart ws ar
+  unfolding freshStart freshWords pick
+  fresh-ready h w1 w2 w3 e1 e2 e3 = simp (le-leb _ _ h) (cc)

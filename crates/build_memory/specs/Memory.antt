@@ -1,0 +1,196 @@
+-- The lent memory of a builder: two buffers, the words and the arena. Where each word stands, the rules behind refusal 29 that every call
+-- judges, and the fresh start. Assumes nothing: these are definitions.
+--   word 0 length of the words, 1 length of the arena, 2 tables, 3 items, 4 room used of the arena, 5 to 7 unused
+--   8 + 4t     table t: separator (256: none), placed (0: no), height once it is placed, unused
+--   264 + b    head of bucket b: the last item made whose hash modulo 1,024 is b, or the empty mark
+--   1288 + 12i item i: table, hash, older (the item before it in its bucket, or the empty mark), key start, key length, parent (its
+--              index and 1; 0: none), kind ('v', 'H', 'L'), value start, value length, guest (the table it holds), two unused
+--   13576 + j  link j, which holds the empty mark between calls
+use Prim.Native.Nat.{ℕ, _+_, _*_, _≤_}
+use mathlib.Core.Path.{_≡_}
+use mathlib.Core.Bool.{Bool, true, _&&_}
+use mathlib.Core.List.{List, [], _∷_}
+use lib.ListN.{length, getD, replicate}
+use lib.Dec.{leb, eqb}
+use Rattle.words.specs.Choice.{pick}
+use Rattle.words.specs.Store.{part, putAt}
+use Rattle.layout.specs.declared.refusal.Refusal.the-variants.{MemoryBroken}
+use Rattle.model.specs.Builder.{mostTables, mostItems}
+use Rattle.build_memory.specs.declared.fresh.Started.{Started}
+
+-- ---- where each word stands
+
+abbrev pub tablesFrom : ℕ
+tablesFrom = 8
+
+abbrev pub tableSize : ℕ
+tableSize = 4
+
+abbrev pub headsFrom : ℕ
+headsFrom = 264
+
+-- the buckets of the index, each with its head
+abbrev pub buckets : ℕ
+buckets = 1024
+
+abbrev pub itemsFrom : ℕ
+itemsFrom = 1288
+
+abbrev pub itemSize : ℕ
+itemSize = 12
+
+abbrev pub linksFrom : ℕ
+linksFrom = 13576
+
+abbrev pub links : ℕ
+links = 1024
+
+-- words that are fewer are too short
+abbrev pub leastWords : ℕ
+leastWords = 14600
+
+-- no item
+abbrev pub emptyMark : ℕ
+emptyMark = 4294967295
+
+abbrev pub word : List ℕ → ℕ → ℕ
+word ws i = getD ws i 0
+
+abbrev pub tableTotal : List ℕ → ℕ
+tableTotal ws = word ws 2
+
+abbrev pub itemTotal : List ℕ → ℕ
+itemTotal ws = word ws 3
+
+abbrev pub roomUsed : List ℕ → ℕ
+roomUsed ws = word ws 4
+
+abbrev pub tableAt : ℕ → ℕ
+tableAt t = tablesFrom + tableSize * t
+
+abbrev pub headAt : ℕ → ℕ
+headAt b = headsFrom + b
+
+abbrev pub itemAt : ℕ → ℕ
+itemAt i = itemsFrom + itemSize * i
+
+abbrev pub linkAt : ℕ → ℕ
+linkAt j = linksFrom + j
+
+-- ---- the words of a table and of an item
+
+abbrev pub tableSeparator : List ℕ → ℕ → ℕ
+tableSeparator ws t = word ws (tableAt t + 0)
+
+abbrev pub tablePlaced : List ℕ → ℕ → ℕ
+tablePlaced ws t = word ws (tableAt t + 1)
+
+abbrev pub tableHeight : List ℕ → ℕ → ℕ
+tableHeight ws t = word ws (tableAt t + 2)
+
+abbrev pub itemTable : List ℕ → ℕ → ℕ
+itemTable ws i = word ws (itemAt i + 0)
+
+abbrev pub itemHash : List ℕ → ℕ → ℕ
+itemHash ws i = word ws (itemAt i + 1)
+
+abbrev pub itemOlder : List ℕ → ℕ → ℕ
+itemOlder ws i = word ws (itemAt i + 2)
+
+abbrev pub keyStart : List ℕ → ℕ → ℕ
+keyStart ws i = word ws (itemAt i + 3)
+
+abbrev pub keySize : List ℕ → ℕ → ℕ
+keySize ws i = word ws (itemAt i + 4)
+
+abbrev pub itemParent : List ℕ → ℕ → ℕ
+itemParent ws i = word ws (itemAt i + 5)
+
+abbrev pub itemKind : List ℕ → ℕ → ℕ
+itemKind ws i = word ws (itemAt i + 6)
+
+abbrev pub valueStart : List ℕ → ℕ → ℕ
+valueStart ws i = word ws (itemAt i + 7)
+
+abbrev pub valueSize : List ℕ → ℕ → ℕ
+valueSize ws i = word ws (itemAt i + 8)
+
+abbrev pub itemGuest : List ℕ → ℕ → ℕ
+itemGuest ws i = word ws (itemAt i + 9)
+
+-- the kinds as words
+abbrev pub valueKind : ℕ
+valueKind = 118
+
+abbrev pub tableKind : ℕ
+tableKind = 72
+
+abbrev pub containerKind : ℕ
+containerKind = 76
+
+-- the bytes of an item's key, as many of them as the arena has
+unfoldable pub keyOf : List ℕ → List ℕ → ℕ → List ℕ
+keyOf ws ar i = part ar (keyStart ws i) (keySize ws i)
+
+-- ---- the rules that every call judges
+
+-- every test of the list holds
+unfoldable pub all : List Bool → Bool
+all [] = true
+all (test ∷ tests) = test && all tests
+
+-- the words are not too short; both lengths are those of the fresh start; tables and items are not too many; the room used is in the arena
+abbrev pub rules : List ℕ → ℕ → List Bool
+rules ws room =
+    leb leastWords (length ws)
+    ∷ eqb (word ws 0) (length ws)
+    ∷ eqb (word ws 1) room
+    ∷ leb (tableTotal ws) mostTables
+    ∷ leb (itemTotal ws) mostItems
+    ∷ leb (roomUsed ws) room
+    ∷ []
+
+unfoldable pub sound : List ℕ → ℕ → Bool
+sound ws room = all (rules ws room)
+
+-- the same rules as facts, for what comes after the judgement
+pub record Sound (ws : List ℕ) (arena : ℕ) : Type 0 where
+  pub long : leastWords ≤ length ws
+  pub words : word ws 0 ≡ length ws
+  pub room : word ws 1 ≡ arena
+  pub tables : tableTotal ws ≤ mostTables
+  pub items : itemTotal ws ≤ mostItems
+  pub used : roomUsed ws ≤ arena
+
+-- ---- what a call leaves: its answer, and the content of both buffers
+
+pub record Memory : Type 0 where
+  pub words : List ℕ
+  pub arena : List ℕ
+
+abbrev pub memory : List ℕ → List ℕ → Memory
+memory ws ar = record { words = ws; arena = ar }
+
+pub record Outcome (A : Type 0) : Type 0 where
+  pub answer : A
+  pub after : Memory
+
+abbrev pub outcome : {A : Type 0} → A → Memory → Outcome A
+outcome answer after = record { answer = answer; after = after }
+
+-- ---- the fresh start
+
+-- n times the word v
+unfoldable pub copies : ℕ → ℕ → List ℕ
+copies n v = replicate n v
+
+-- both lengths, no table, no item, no room used; every head and every link holds the empty mark
+unfoldable pub freshWords : List ℕ → ℕ → List ℕ
+freshWords ws room =
+    putAt (putAt (putAt ws 0 (length ws ∷ room ∷ 0 ∷ 0 ∷ 0 ∷ [])) headsFrom (copies buckets emptyMark)) linksFrom (copies links emptyMark)
+
+-- 29 where the words are too short, else an empty builder, whatever the memory held
+unfoldable pub freshStart : List ℕ → List ℕ → Outcome Started
+freshStart ws ar =
+    pick (leb leastWords (length ws)) (outcome Started.Ready (memory (freshWords ws (length ar)) ar))
+    (outcome (Started.Refused MemoryBroken) (memory ws ar))

@@ -1,0 +1,65 @@
+// The search for a key, along the chain of its bucket.
+use crate::place::BUCKETS;
+use crate::place::HASH;
+use crate::place::HEADS_FROM;
+use crate::place::ITEMS;
+use crate::place::KEY_SIZE;
+use crate::place::OLDER;
+use crate::place::TABLE;
+use crate::place::item_word;
+use crate::place::key_of;
+use text::compare::same_bytes;
+use words::hash::djb_hash;
+use words::wide::word_size;
+ghost use mathlib.Core.Path.{_≡_};
+ghost use Prim.Native.Nat.{_<_, _≤_};
+ghost use lib.ListN.{length};
+ghost use Rattle.words.specs.Hash.{hashOf};
+ghost use Rattle.model.specs.Builder.{mostItems};
+ghost use Rattle.build_memory.specs.Memory.{leastWords, itemTotal};
+ghost use Rattle.build_memory.specs.Find.{isItem, findKey};
+
+// The hash of a key, as a word.
+pub fn hash_word(key: &[u8]) -> usize
+    ensures { λ r. ⌜ r ≡ hashOf (now (key .entry)) ⌝ }
+{
+    word_size(djb_hash(key))
+}
+
+// Whether item i is of the table and has the key, whose hash is given.
+fn is_item(words: &[usize], arena: &[u8], table: usize, hash: usize, key: &[u8], i: usize) -> bool
+    requires { ⌜ (leastWords ≤ length (now words)) × (i < mostItems) ⌝ }
+    ensures { λ r. ⌜ r ≡ isItem (now (words .entry)) (now (arena .entry)) table hash (now (key .entry)) i ⌝ }
+{
+    if item_word(words, i, TABLE) != table {
+        return false;
+    }
+    if item_word(words, i, HASH) != hash {
+        return false;
+    }
+    if item_word(words, i, KEY_SIZE) != key.len() {
+        return false;
+    }
+    same_bytes(key_of(words, arena, i), key)
+}
+
+// The index of the table's item with the key, whose hash is given, or the count of all items where there is none.
+pub fn find_hashed(words: &[usize], arena: &[u8], table: usize, key: &[u8], hash: usize) -> usize
+    requires { ⌜ (leastWords ≤ length (now words)) × (itemTotal (now words) ≤ mostItems) ⌝ }
+    requires { ⌜ hash ≡ hashOf (now key) ⌝ }
+    ensures { λ r. ⌜ r ≡ findKey (now (words .entry)) (now (arena .entry)) table (now (key .entry)) ⌝ }
+    ensures within { λ r. ⌜ r ≤ itemTotal (now (words .entry)) ⌝ }
+{
+    let n = words[ITEMS];
+    let bucket = hash % BUCKETS;
+    let mut limit = n;
+    let mut i = words[HEADS_FROM + bucket];
+    while i < limit {
+        if is_item(words, arena, table, hash, key, i) {
+            return i;
+        }
+        limit = i;
+        i = item_word(words, i, OLDER);
+    }
+    n
+}

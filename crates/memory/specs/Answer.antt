@@ -1,8 +1,0 @@
--- The number of document 01 that each answer stands for; 0 for a success. Assumes nothing: these are definitions.
-use Prim.Native.Nat.{ℕ}
-use Rattle.layout.specs.Refusal.{number}
-use Rattle.memory.specs.declared.fresh.Started.{Started}
-
-unfoldable pub startedNumber : Started → ℕ
-startedNumber Started.Ready = 0
-startedNumber (Started.Refused why) = number why
