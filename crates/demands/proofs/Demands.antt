@@ -19,8 +19,8 @@ use Rattle.model.specs.Builder as model
 use Rattle.build_memory.specs.Memory.{Memory, leastWords, tableTotal}
 use Rattle.build_memory.specs.Meaning.{meaning, shelfOf}
 use Rattle.tables.specs.Table.{itemCount}
-use Rattle.whole.specs.Whole.{wholeSound}
-use Rattle.whole.proofs.WholeFacts.{whole-facts}
+use Rattle.build_rules.specs.Whole.{wholeSound}
+use Rattle.build_rules.proofs.WholeFacts.{whole-facts}
 use Rattle.image.specs.Image.{headerSize, depth}
 use Rattle.image.specs.Fits.{openedAs}
 use Rattle.readback.specs.Back.{endOf, tableOpened}

@@ -20,7 +20,7 @@ use Rattle.tables.specs.Answer.{numberedNumber, countedNumber}
 use Rattle.build.specs.Insert.{keyed, insertWalked, insertAlong, insertNew, overwrite, insertSound, insertValue}
 use Rattle.build.specs.Answer.{insertedNumber}
 use Rattle.nest.specs.Nest.{settled, nested, tableSound, insertTable}
-use Rattle.whole.specs.Whole.{wholeSound}
+use Rattle.build_rules.specs.Whole.{wholeSound}
 use Rattle.write.specs.declared.Written.{Written}
 use Rattle.write.specs.Write.{writeAnswer, writtenNumber}
 use Rattle.history.proofs.History.{reached-sound, reached-whole}

@@ -13,8 +13,8 @@ use Rattle.model.specs.Table.{Rows, Has, isChild, isContainer, noItem}
 use Rattle.model.specs.Builder.{longestKey, mostItems}
 use Rattle.build_memory.specs.Memory.{itemTotal, itemParent, keyOf}
 use Rattle.build_memory.specs.Find.{findKey}
-use Rattle.whole.specs.Whole.{wholeSound}
-use Rattle.whole.proofs.WholeFacts.{WholeFacts, whole-facts}
+use Rattle.build_rules.specs.Whole.{wholeSound}
+use Rattle.build_rules.proofs.WholeFacts.{WholeFacts, whole-facts}
 use Rattle.image.specs.WellFormed.{ChildFits, WellFormed}
 use Rattle.image.proofs.TimesLaws.{eq-or-ne}
 use Rattle.roster.specs.Roster.{stateOf}

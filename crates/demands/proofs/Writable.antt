@@ -12,9 +12,9 @@ use Rattle.words.proofs.ChoiceLaws.{both}
 use Rattle.model.specs.Table.{Content}
 use Rattle.build_memory.specs.Memory.{tableTotal, itemKind, itemGuest, valueStart, valueSize, valueKind, tableKind}
 use Rattle.build_memory.specs.Meaning.{contentOf}
-use Rattle.whole.specs.Whole.{heightLimit, wholeSound}
-use Rattle.whole.proofs.WholeLaws.{limit-loose, limit-placed}
-use Rattle.whole.proofs.WholeFacts.{whole-facts}
+use Rattle.build_rules.specs.Whole.{heightLimit, wholeSound}
+use Rattle.build_rules.proofs.WholeLaws.{limit-loose, limit-placed}
+use Rattle.build_rules.proofs.WholeFacts.{whole-facts}
 use Rattle.image.specs.Image.{depth}
 use Rattle.image.specs.WellFormed.{Writable}
 use Rattle.roster.specs.Roster.{stateOf}

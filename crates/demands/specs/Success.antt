@@ -12,7 +12,7 @@ use Rattle.image.specs.WellFormed.{Writable}
 use Rattle.readback.specs.Back.{endOf}
 use Rattle.readback.specs.Told.{AllBack}
 use Rattle.passes.specs.Passing.{AllPass}
-use Rattle.whole.specs.Whole.{wholeSound}
+use Rattle.build_rules.specs.Whole.{wholeSound}
 use Rattle.roster.specs.Roster.{stateOf}
 use Rattle.write.specs.declared.Written.{Written}
 use Rattle.write.specs.Write.{hasEmpty, isRoot, imageFor, writeAnswer, imageAfter}

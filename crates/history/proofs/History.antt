@@ -22,7 +22,7 @@ use Rattle.model.specs.Builder.{longestKey, deepest}
 use Rattle.build_memory.specs.Memory.{word, links, linkAt, emptyMark, tableTotal, itemTotal, roomUsed, tablePlaced, tableHeight, itemTable, itemHash, keyStart, keySize, itemParent, itemKind, valueStart, valueSize, itemGuest, keyOf, valueKind, tableKind, sound}
 use Rattle.build_memory.specs.Find.{findKey}
 use Rattle.build_memory.proofs.MemoryLaws.{sound-holds}
-use Rattle.whole.specs.Whole.{tableKnown, keyPlaced, keyShort, kindRight, valuePlaced, placeRight, keyUtf8, hashRight, keyFound, keyRight, begunBy, parentRight, heightLimit, guestPlaced, guestRight, holdsTable, heldOnce, itemRight, linkEmpty, wholeSound}
+use Rattle.build_rules.specs.Whole.{tableKnown, keyPlaced, keyShort, kindRight, valuePlaced, placeRight, keyUtf8, hashRight, keyFound, keyRight, begunBy, parentRight, heightLimit, guestPlaced, guestRight, holdsTable, heldOnce, itemRight, linkEmpty, wholeSound}
 use Rattle.history.specs.Items.{Item, itemOf, tableOf}
 use Rattle.history.specs.Right.{Right, heldIn}
 use Rattle.history.specs.Honest.{Honest}

@@ -12,8 +12,8 @@ use Rattle.words.proofs.StoreLaws.{length-put, get-put, get-before}
 use Rattle.model.specs.Builder.{mostTables, mostItems}
 use Rattle.build_memory.specs.Memory.{itemTotal, itemTable}
 use Rattle.image.specs.Number.{hashesOf, bucketStart, itemOf, numberOf}
-use Rattle.whole.specs.Whole.{wholeSound}
-use Rattle.whole.proofs.WholeFacts.{whole-facts}
+use Rattle.build_rules.specs.Whole.{wholeSound}
+use Rattle.build_rules.proofs.WholeFacts.{whole-facts}
 use Rattle.roster.specs.Roster.{stateOf, firstSlot, slotCount, slotItem, itemNumber, bucketWord, Rostered}
 use Rattle.roster.specs.Fill.{slotOf, Fit, Judged, Sized, Filled}
 use Rattle.roster.proofs.OwnLaws.{slot-few}

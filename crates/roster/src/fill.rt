@@ -8,7 +8,7 @@ ghost use mathlib.Core.Bool.{true};
 ghost use lib.ListN.{length, take};
 ghost use Rattle.words.specs.Store.{putAt};
 ghost use Rattle.model.specs.Builder.{mostTables};
-ghost use Rattle.whole.specs.Whole.{wholeSound};
+ghost use Rattle.build_rules.specs.Whole.{wholeSound};
 ghost use Rattle.roster.specs.Roster.{rosterSize, Rostered};
 ghost use Rattle.roster.specs.Fill.{Judged, Fits, Sized, Put, Filled};
 

@@ -14,7 +14,7 @@ use Rattle.words.proofs.StoreLaws.{put-front}
 use Rattle.layout.specs.Table.{longestFile}
 use Rattle.layout.specs.declared.refusal.Refusal.the-variants.{MemoryBroken, TableUnknown, EmptyKey, ImageTooLong}
 use Rattle.build_memory.specs.Memory.{tableTotal, tablePlaced}
-use Rattle.whole.specs.Whole.{wholeSound}
+use Rattle.build_rules.specs.Whole.{wholeSound}
 use Rattle.image.specs.Plan.{chunkSize}
 use Rattle.image.specs.Image.{headerSize, depth}
 use Rattle.lay.specs.Sheet.{slotCount, sheetImage}

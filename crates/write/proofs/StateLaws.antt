@@ -21,8 +21,8 @@ use Rattle.model.specs.Table.{Content, Entry, Has, times, entryAt, noEntry, noI
 use Rattle.build_memory.specs.Memory.{tableTotal, itemTotal, roomUsed, itemTable, itemHash, keyStart, keySize, itemParent, itemKind, valueStart, valueSize, itemGuest, keyOf, valueKind, tableKind, containerKind, sound, Sound}
 use Rattle.build_memory.specs.Meaning.{contentOf, entryOf, listed, meaning}
 use Rattle.build_memory.proofs.MemoryLaws.{sound-facts}
-use Rattle.whole.specs.Whole.{tableKnown, keyPlaced, keyShort, kindRight, valuePlaced, placeRight, keyUtf8, hashRight, keyRight, begunBy, parentRight, itemRight, wholeSound}
-use Rattle.whole.proofs.WholeLaws.{right-guest, item-guest}
+use Rattle.build_rules.specs.Whole.{tableKnown, keyPlaced, keyShort, kindRight, valuePlaced, placeRight, keyUtf8, hashRight, keyRight, begunBy, parentRight, itemRight, wholeSound}
+use Rattle.build_rules.proofs.WholeLaws.{right-guest, item-guest}
 use Rattle.image.proofs.TimesLaws.{eq-or-ne, lt-or-ge, times-here, times-there, times-none, times-append}
 use Rattle.roster.specs.Roster.{stateOf}
 

@@ -14,7 +14,7 @@ use Rattle.layout.specs.Refusal.{number}
 use Rattle.layout.specs.declared.refusal.Refusal.the-variants.{MemoryBroken, TableUnknown, EmptyKey, ImageTooLong}
 use Rattle.model.specs.Table.{Content, State}
 use Rattle.build_memory.specs.Memory.{tableTotal, tablePlaced}
-use Rattle.whole.specs.Whole.{wholeSound}
+use Rattle.build_rules.specs.Whole.{wholeSound}
 use Rattle.image.specs.Number.{itemOf}
 use Rattle.image.specs.Plan.{chunkSize}
 use Rattle.image.specs.Image.{headerSize, depth, imageOf}

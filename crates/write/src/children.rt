@@ -10,7 +10,7 @@ ghost use Prim.Native.Nat.{ℕ, _<_, _≤_};
 ghost use lib.ListN.{length, getD};
 ghost use Rattle.model.specs.Builder.{mostItems};
 ghost use Rattle.build_memory.specs.Memory.{leastWords, itemTotal};
-ghost use Rattle.whole.specs.Whole.{wholeSound};
+ghost use Rattle.build_rules.specs.Whole.{wholeSound};
 ghost use Rattle.write.specs.Sheeted.{Parents, Kin, ChildSheet};
 
 // The parent words, the last item's first.

@@ -8,7 +8,7 @@ ghost use mathlib.Core.Bool.{true};
 ghost use Prim.Native.Nat.{ℕ, _<_};
 ghost use lib.ListN.{length};
 ghost use Rattle.build_memory.specs.Memory.{itemTotal};
-ghost use Rattle.whole.specs.Whole.{wholeSound};
+ghost use Rattle.build_rules.specs.Whole.{wholeSound};
 ghost use Rattle.lay.specs.Sheet.{SlotFits};
 ghost use Rattle.roster.specs.Roster.{Rostered};
 ghost use Rattle.write.specs.Sheeted.{Clear, StartSheet, SlotSheet, Firsts, Sheeted};
