@@ -19,7 +19,7 @@ use Rattle.model.specs.Builder.{longestKey, mostItems}
 use Rattle.build_memory.specs.Memory.{itemTotal, roomUsed, tableSeparator, itemKind, valueKind, sound, Memory, memory, Outcome, outcome}
 use Rattle.build_memory.specs.Find.{findKey}
 use Rattle.build_memory.specs.Item.{Stored, stored, kindOf}
-use Rattle.tables.specs.Table.{takes}
+use Rattle.build_tables.specs.Table.{takes}
 use Rattle.build.specs.Walk.{wayOf, sum}
 use Rattle.build.specs.Insert.{refused, insertNew, overwrite, insertAlong, insertWalked, keyed, insertSound, insertValue}
 use Rattle.build.specs.Answer.{insertedNumber}

@@ -16,7 +16,7 @@ use Rattle.build_memory.specs.Memory.{itemTotal, roomUsed, tableSeparator, item
 use Rattle.build_memory.specs.Find.{findKey}
 use Rattle.build_memory.specs.Item.{Stored, stored, kindOf, makeItem, replaceItem}
 use Rattle.build.specs.declared.walk.Way.{Way}
-use Rattle.tables.specs.Table.{takes}
+use Rattle.build_tables.specs.Table.{takes}
 use Rattle.build.specs.Walk.{descend, wayOf, sum}
 use Rattle.build.specs.Insert.{refused, Laid, laid, containers, added, insertNew, overwrite, insertAlong, insertWalked, keyed, insertSound, insertValue}
 

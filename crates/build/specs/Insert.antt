@@ -15,7 +15,7 @@ use Rattle.model.specs.Builder.{longestKey, mostItems}
 use Rattle.build_memory.specs.Memory.{tableTotal, itemTotal, roomUsed, tableSeparator, itemKind, valueKind, containerKind, sound, Sound, Memory, memory, Outcome, outcome}
 use Rattle.build_memory.specs.Find.{findKey}
 use Rattle.build_memory.specs.Item.{Stored, stored, kindOf, makeItem, replaceItem}
-use Rattle.tables.specs.Table.{takes}
+use Rattle.build_tables.specs.Table.{takes}
 use Rattle.build.specs.Walk.{wayOf, sum}
 
 abbrev pub refused : Refusal → List ℕ → List ℕ → Outcome Inserted

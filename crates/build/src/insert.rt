@@ -20,7 +20,7 @@ use build_memory::place::item_word;
 use build_memory::place::table_word;
 use build_memory::rules::judge;
 use model::Inserted;
-use tables::add::takes_items;
+use build_tables::add::takes_items;
 use text::prefix::next_end;
 use text::utf8::is_utf8;
 use words::hash::hash_on;

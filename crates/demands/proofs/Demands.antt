@@ -18,7 +18,7 @@ use Rattle.model.specs.Table.{Content, Has, rowsOf}
 use Rattle.model.specs.Builder as model
 use Rattle.build_memory.specs.Memory.{Memory, leastWords, tableTotal}
 use Rattle.build_memory.specs.Meaning.{meaning, shelfOf}
-use Rattle.tables.specs.Table.{itemCount}
+use Rattle.build_tables.specs.Table.{itemCount}
 use Rattle.build_rules.specs.Whole.{wholeSound}
 use Rattle.build_rules.proofs.WholeFacts.{whole-facts}
 use Rattle.image.specs.Image.{headerSize, depth}

@@ -15,8 +15,8 @@ use Rattle.model.specs.declared.Numbered.{Numbered}
 use Rattle.model.specs.declared.Counted.{Counted}
 use Rattle.build_memory.specs.Memory.{Memory, sound, Outcome}
 use Rattle.build_memory.specs.Item.{Stored}
-use Rattle.tables.specs.Table.{addTable, newTable, itemCount}
-use Rattle.tables.specs.Answer.{numberedNumber, countedNumber}
+use Rattle.build_tables.specs.Table.{addTable, newTable, itemCount}
+use Rattle.build_tables.specs.Answer.{numberedNumber, countedNumber}
 use Rattle.build.specs.Insert.{keyed, insertWalked, insertAlong, insertNew, overwrite, insertSound, insertValue}
 use Rattle.build.specs.Answer.{insertedNumber}
 use Rattle.nest.specs.Nest.{settled, nested, tableSound, insertTable}

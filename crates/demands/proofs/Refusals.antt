@@ -13,8 +13,8 @@ use Rattle.model.specs.declared.Inserted.{Inserted}
 use Rattle.model.specs.declared.Numbered.{Numbered}
 use Rattle.build_memory.specs.Memory.{leastWords, Memory, memory, Outcome, freshStart}
 use Rattle.build_memory.specs.Answer.{startedNumber}
-use Rattle.tables.specs.Table.{unnumbered, addTable, newTable}
-use Rattle.tables.specs.Answer.{numberedNumber}
+use Rattle.build_tables.specs.Table.{unnumbered, addTable, newTable}
+use Rattle.build_tables.specs.Answer.{numberedNumber}
 use Rattle.build.specs.Insert.{insertValue}
 use Rattle.build.specs.Answer.{insertedNumber}
 use Rattle.build.proofs.AnswerLaws.{Still, value-still}

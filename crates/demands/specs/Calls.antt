@@ -6,8 +6,8 @@ use mathlib.Core.List.{List, [], _∷_}
 use lib.Dec.{eqb}
 use lib.ListN.{length}
 use Rattle.build_memory.specs.Memory.{Memory, memory, freshWords}
-use Rattle.tables.specs.Table.{newTable, itemCount}
-use Rattle.tables.specs.Answer.{numberedNumber, countedNumber}
+use Rattle.build_tables.specs.Table.{newTable, itemCount}
+use Rattle.build_tables.specs.Answer.{numberedNumber, countedNumber}
 use Rattle.build.specs.Insert.{insertValue}
 use Rattle.build.specs.Answer.{insertedNumber}
 use Rattle.nest.specs.Nest.{insertTable}

@@ -18,7 +18,7 @@ use Rattle.read.specs.Answer.{lookedNumber}
 use Rattle.model.specs.declared.Counted.{Counted}
 use Rattle.model.specs.Table.{Content}
 use Rattle.build_memory.specs.Memory.{Memory, leastWords}
-use Rattle.tables.specs.Table.{itemCount}
+use Rattle.build_tables.specs.Table.{itemCount}
 use Rattle.image.specs.Image.{depth}
 use Rattle.readback.specs.Told.{Views, Both}
 use Rattle.write.specs.declared.Written.{Written}

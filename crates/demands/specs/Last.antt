@@ -11,7 +11,7 @@ use Rattle.model.specs.declared.Numbered.{Numbered}
 use Rattle.model.specs.Table.{Content}
 use Rattle.model.specs.Builder.{noSeparator, separatorOf}
 use Rattle.build_memory.specs.Memory.{Memory}
-use Rattle.tables.specs.Table.{newTable}
+use Rattle.build_tables.specs.Table.{newTable}
 use Rattle.demands.specs.Calls.{Call, accepted, after}
 
 pub data Held : Type 0 where

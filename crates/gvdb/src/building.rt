@@ -9,7 +9,7 @@ use words::wide::byte_word;
 ghost use mathlib.Core.Path.{_≡_};
 ghost use Rattle.build_memory.specs.Memory.{leastWords, memory, outcome, freshStart};
 ghost use Rattle.build_memory.specs.Answer.{startedNumber};
-ghost use Rattle.tables.specs.Table.{newTable, itemCount};
+ghost use Rattle.build_tables.specs.Table.{newTable, itemCount};
 ghost use Rattle.build.specs.Insert.{insertValue};
 ghost use Rattle.nest.specs.Nest.{insertTable};
 ghost use Rattle.gvdb.specs.Building.{told, numberedAnswer, countedAnswer, insertedAnswer};
@@ -58,7 +58,7 @@ pub extern "C" fn gvdb_fresh(words: &mut [usize], arena: &[u8]) -> u32
 pub extern "C" fn gvdb_new_table(words: &mut [usize], arena: &[u8], separator: &[u8]) -> GvdbTable
     ensures { λ r. ⌜ outcome r (memory (now (words .exit)) (now (arena .entry))) ≡ told numberedAnswer (newTable (now (words .entry)) (now (arena .entry)) (now (separator .entry))) ⌝ }
 {
-    match tables::add::new_table(words, arena, separator) {
+    match build_tables::add::new_table(words, arena, separator) {
         Numbered::Table(table) => GvdbTable { number: 0, table },
         Numbered::Refused(why) => GvdbTable {
             number: number_of(why),
@@ -119,7 +119,7 @@ pub extern "C" fn gvdb_insert_table(
 pub extern "C" fn gvdb_item_count(words: &[usize], arena: &[u8], table: u32) -> GvdbCount
     ensures { λ r. ⌜ r ≡ countedAnswer (itemCount (now (words .entry)) (now (arena .entry)) table) ⌝ }
 {
-    match tables::count::item_count(words, arena, table) {
+    match build_tables::count::item_count(words, arena, table) {
         Counted::Items(count) => GvdbCount { number: 0, count },
         Counted::Refused(why) => GvdbCount {
             number: number_of(why),

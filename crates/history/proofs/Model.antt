@@ -12,8 +12,8 @@ use Rattle.model.specs.declared.Inserted.{Inserted}
 use Rattle.model.specs.Builder.{mostTables, longestKey, separatorOf}
 use Rattle.build_memory.specs.Memory.{leastWords, freshWords, tableTotal, itemTotal, roomUsed, tableSeparator, tablePlaced, itemTable, valueKind, Outcome}
 use Rattle.build_memory.specs.Item.{stored}
-use Rattle.tables.specs.Table.{takes, addTable, newTable, unnumbered}
-use Rattle.tables.proofs.TableLaws.{takes-facts}
+use Rattle.build_tables.specs.Table.{takes, addTable, newTable, unnumbered}
+use Rattle.build_tables.proofs.TableLaws.{takes-facts}
 use Rattle.build.specs.Insert.{refused, insertWalked, keyed, insertSound, insertValue}
 use mathlib.Core.List.{List, [], _∷_, _++_}
 use lib.ListN.{length, length-append}
@@ -25,7 +25,7 @@ use Rattle.model.specs.declared.Numbered.{Numbered}
 use Rattle.model.specs.Table.{Content, Entry, entryAt, membersBelow}
 use Rattle.model.specs.Builder as told
 use Rattle.model.specs.Builder.{Shelf, shelfAt, Result, result, put}
-use Rattle.tables.specs.Table as tables
+use Rattle.build_tables.specs.Table as tables
 use Rattle.build_memory.specs.Meaning.{entryOf, shelfOf, listed, meaning}
 use Rattle.history.specs.Items.{itemOf, Table, tableOf}
 use Rattle.history.specs.Honest.{Honest}

@@ -18,8 +18,8 @@ use Rattle.model.specs.declared.Inserted.{Inserted}
 use Rattle.model.specs.Builder.{most, longestKey, deepest}
 use Rattle.build_memory.specs.Memory.{word, tableAt, tableTotal, itemTotal, tableSeparator, tablePlaced, tableHeight, itemTable, itemKind, itemGuest, tableKind, sound, Memory, memory, Outcome, outcome}
 use Rattle.build_memory.specs.Item.{stored}
-use Rattle.tables.specs.Table.{takes}
-use Rattle.tables.proofs.TableLaws.{takes-facts}
+use Rattle.build_tables.specs.Table.{takes}
+use Rattle.build_tables.proofs.TableLaws.{takes-facts}
 use Rattle.build.specs.Walk.{wayOf}
 use Rattle.build.specs.Insert.{refused, insertWalked, keyed}
 use Rattle.nest.specs.Nest.{heldAt, heldHeight, placeTable, whenAccepted, settled, nested, tableSound, insertTable}

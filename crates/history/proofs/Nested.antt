@@ -15,8 +15,8 @@ use Rattle.model.specs.Builder.{longestKey, deepest}
 use Rattle.build_memory.specs.Memory.{word, tableAt, tableTotal, itemTotal, tableSeparator, tablePlaced, valueKind, tableKind, Outcome}
 use Rattle.build_memory.specs.Find.{findKey}
 use Rattle.build_memory.specs.Item.{Stored, stored}
-use Rattle.tables.specs.Table.{takes}
-use Rattle.tables.proofs.TableLaws.{takes-facts}
+use Rattle.build_tables.specs.Table.{takes}
+use Rattle.build_tables.proofs.TableLaws.{takes-facts}
 use Rattle.build.specs.Walk.{wayOf}
 use Rattle.build.specs.Insert.{refused, insertWalked, keyed}
 use Rattle.nest.specs.Nest.{heldHeight, placeTable, whenAccepted, settled, nested, tableSound, insertTable}

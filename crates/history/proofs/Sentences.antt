@@ -12,7 +12,7 @@ use mathlib.Core.Bool.{and-false}
 use Rattle.build_memory.specs.Memory.{tableTotal, itemTotal, tableSeparator, tablePlaced, itemTable, itemKind, itemGuest, keyOf}
 use Rattle.build_memory.specs.Meaning.{meaning}
 use Rattle.model.specs.Builder.{deepest, height}
-use Rattle.tables.specs.Table.{takes}
+use Rattle.build_tables.specs.Table.{takes}
 use Rattle.nest.specs.Nest.{heldHeight}
 use Rattle.build.specs.Insert.{insertValue}
 use Rattle.build.specs.Answer.{insertedNumber}

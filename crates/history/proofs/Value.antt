@@ -18,8 +18,8 @@ use Rattle.model.specs.declared.Numbered.{Numbered}
 use Rattle.model.specs.Builder.{mostTables, longestKey, separatorOf}
 use Rattle.build_memory.specs.Memory.{word, leastWords, tableAt, tableTotal, itemTotal, tableSeparator, tablePlaced, tableHeight, valueKind, sound, freshWords, Memory, Outcome}
 use Rattle.build_memory.specs.Item.{Stored, stored}
-use Rattle.tables.specs.Table.{takes, addTable, newTable}
-use Rattle.tables.proofs.TableLaws.{takes-facts}
+use Rattle.build_tables.specs.Table.{takes, addTable, newTable}
+use Rattle.build_tables.proofs.TableLaws.{takes-facts}
 use Rattle.build.specs.Insert.{keyed, insertSound, insertValue}
 use Rattle.history.specs.Items.{Item, itemOf, Table, tableOf}
 use Rattle.history.specs.Right.{Right}

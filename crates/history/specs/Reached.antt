@@ -4,7 +4,7 @@ use Prim.Native.Nat.{ℕ, _≤_}
 use mathlib.Core.List.{List}
 use lib.ListN.{length}
 use Rattle.build_memory.specs.Memory.{leastWords, freshWords}
-use Rattle.tables.specs.Table.{newTable}
+use Rattle.build_tables.specs.Table.{newTable}
 use Rattle.build.specs.Insert.{insertValue}
 use Rattle.nest.specs.Nest.{insertTable}
 

@@ -14,7 +14,7 @@ use Rattle.model.specs.declared.Inserted.{Inserted}
 use Rattle.model.specs.Builder.{longestKey, deepest}
 use Rattle.build_memory.specs.Memory.{tableKind, sound, Memory, Outcome, outcome}
 use Rattle.build_memory.specs.Item.{stored}
-use Rattle.tables.specs.Table.{takes}
+use Rattle.build_tables.specs.Table.{takes}
 use Rattle.build.specs.Insert.{insertWalked, keyed}
 use Rattle.nest.specs.Nest.{heldHeight, whenAccepted, settled, nested, tableSound, insertTable}
 use Rattle.build.specs.Answer.{insertedNumber}

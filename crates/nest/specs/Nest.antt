@@ -12,7 +12,7 @@ use Rattle.model.specs.declared.Inserted.{Inserted}
 use Rattle.model.specs.Builder.{mostTables, deepest, most}
 use Rattle.build_memory.specs.Memory.{tableAt, itemTotal, tableHeight, itemTable, itemKind, itemGuest, tableKind, sound, memory, Outcome, outcome}
 use Rattle.build_memory.specs.Item.{stored}
-use Rattle.tables.specs.Table.{takes}
+use Rattle.build_tables.specs.Table.{takes}
 use Rattle.build.specs.Insert.{refused, keyed, insertWalked}
 
 -- the height of the table that item i holds, as that table's record says, where i is an item of table t that holds one; else 0

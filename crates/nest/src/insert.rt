@@ -11,7 +11,7 @@ use build_memory::place::TABLE_SIZE;
 use build_memory::place::TABLES_FROM;
 use build_memory::rules::judge;
 use model::Inserted;
-use tables::add::takes_items;
+use build_tables::add::takes_items;
 use text::utf8::is_utf8;
 use words::wide::word_size;
 ghost use mathlib.Core.Path.{_≡_};

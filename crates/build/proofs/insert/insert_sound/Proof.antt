@@ -1,6 +1,6 @@
 -- `build::insert::insert_sound` meets its contract: 24, 8, 20, or on to the way. Assumes nothing.
 use Rattle.build.proofs.InsertLaws.{keyed-bad, keyed-long, keyed-good, sound-unknown, sound-known}
-use Rattle.tables.proofs.TableLaws.{takes-facts}
+use Rattle.build_tables.proofs.TableLaws.{takes-facts}
 use borrow.Author.Tests.{not-true, not-false}
 use mathlib.Core.Path.{sym, _∙_}
 use borrow.Author.Needs.{needs}

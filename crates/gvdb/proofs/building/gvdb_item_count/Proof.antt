@@ -1,6 +1,6 @@
 -- `gvdb::building::gvdb_item_count` meets its contract: the count's answer as numbers. Assumes nothing.
 use mathlib.Core.Path.{sym, ap, _∙_}
-use Rattle.tables.specs.Answer.{countedNumber, countedItems}
+use Rattle.build_tables.specs.Answer.{countedNumber, countedItems}
 use Rattle.gvdb.specs.Building.{countedAnswer}
 use borrow.Author.Needs.{needs}
 use Rattle.gvdb.proofs.building.gvdb_item_count.Statement.{statement}

@@ -1,6 +1,6 @@
 -- `gvdb::building::gvdb_new_table` meets its contract: the answer as numbers. Assumes nothing.
 use mathlib.Core.Path.{ap}
-use Rattle.tables.specs.Answer.{numberedNumber, numberedTable}
+use Rattle.build_tables.specs.Answer.{numberedNumber, numberedTable}
 use Rattle.gvdb.specs.Building.{told, numberedAnswer}
 use borrow.Author.Needs.{needs}
 use Rattle.gvdb.proofs.building.gvdb_new_table.Statement.{statement}

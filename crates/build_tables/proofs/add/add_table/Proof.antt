@@ -1,10 +1,10 @@
--- `tables::add::add_table` meets its contract: 27, or a row for the table and one table more. Assumes nothing.
-use Rattle.tables.proofs.TableLaws.{tables-many, table-added}
+-- `build_tables::add::add_table` meets its contract: 27, or a row for the table and one table more. Assumes nothing.
+use Rattle.build_tables.proofs.TableLaws.{tables-many, table-added}
 use lib.ListN.{length-set}
 use native.Mathlib.Omega.{arith}
 use borrow.Author.Needs.{needs}
-use Rattle.tables.proofs.add.add_table.Statement.{statement}
-use Rattle.tables.proofs.add.add_table.Tie as tie
+use Rattle.build_tables.proofs.add.add_table.Statement.{statement}
+use Rattle.build_tables.proofs.add.add_table.Tie as tie
 
 slice-read-t : tie.Need-slice-read-t
 slice-read-t c = search needs

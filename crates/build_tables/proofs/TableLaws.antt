@@ -16,7 +16,7 @@ use Rattle.model.specs.declared.Numbered.{Numbered}
 use Rattle.model.specs.declared.Counted.{Counted}
 use Rattle.model.specs.Builder.{mostTables, separatorOf}
 use Rattle.build_memory.specs.Memory.{tableAt, tableTotal, itemTotal, tablePlaced, itemTable, sound, memory, outcome}
-use Rattle.tables.specs.Table.{takes, unnumbered, addTable, newTable, countOf, itemCount}
+use Rattle.build_tables.specs.Table.{takes, unnumbered, addTable, newTable, countOf, itemCount}
 
 -- ---- a separator, by its length
 

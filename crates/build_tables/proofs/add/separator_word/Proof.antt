@@ -1,8 +1,8 @@
--- `tables::add::separator_word` meets its contract, by the separator's length. Assumes nothing.
-use Rattle.tables.proofs.TableLaws.{separator-none, separator-long, separator-low, separator-high}
+-- `build_tables::add::separator_word` meets its contract, by the separator's length. Assumes nothing.
+use Rattle.build_tables.proofs.TableLaws.{separator-none, separator-long, separator-low, separator-high}
 use borrow.Author.Needs.{needs}
-use Rattle.tables.proofs.add.separator_word.Statement.{statement}
-use Rattle.tables.proofs.add.separator_word.Tie as tie
+use Rattle.build_tables.proofs.add.separator_word.Statement.{statement}
+use Rattle.build_tables.proofs.add.separator_word.Tie as tie
 
 returns : tie.Need-returns
 returns c = separator-none _ (c .if1 .taken)

@@ -1,8 +1,8 @@
--- `tables::add::takes_items` meets its contract. Assumes nothing.
-use Rattle.tables.proofs.TableLaws.{takes-unknown, takes-known}
+-- `build_tables::add::takes_items` meets its contract. Assumes nothing.
+use Rattle.build_tables.proofs.TableLaws.{takes-unknown, takes-known}
 use borrow.Author.Needs.{needs}
-use Rattle.tables.proofs.add.takes_items.Statement.{statement}
-use Rattle.tables.proofs.add.takes_items.Tie as tie
+use Rattle.build_tables.proofs.add.takes_items.Statement.{statement}
+use Rattle.build_tables.proofs.add.takes_items.Tie as tie
 
 shared-slice-read-if1 : tie.Need-shared-slice-read-if1
 shared-slice-read-if1 c = search needs

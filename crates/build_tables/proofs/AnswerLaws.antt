@@ -9,8 +9,8 @@ use borrow.Author.Tests.{lt-ltb, le-ltb, le-leb, eq-eqb, ne-eqb}
 use Rattle.words.specs.Choice.{pick}
 use Rattle.model.specs.Builder.{mostTables, separatorOf}
 use Rattle.build_memory.specs.Memory.{itemTotal, tableTotal, sound}
-use Rattle.tables.specs.Table.{addTable, newTable, countOf, itemCount}
-use Rattle.tables.specs.Answer.{numberedNumber, countedNumber, countedItems}
+use Rattle.build_tables.specs.Table.{addTable, newTable, countOf, itemCount}
+use Rattle.build_tables.specs.Answer.{numberedNumber, countedNumber, countedItems}
 
 -- ---- a new table: 29, 28, 27
 

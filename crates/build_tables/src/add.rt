@@ -16,7 +16,7 @@ ghost use Prim.Native.Nat.{_<_, _^_};
 ghost use lib.ListN.{length};
 ghost use Rattle.model.specs.Builder.{separatorOf};
 ghost use Rattle.build_memory.specs.Memory.{Sound, memory, outcome};
-ghost use Rattle.tables.specs.Table.{takes, addTable, newTable};
+ghost use Rattle.build_tables.specs.Table.{takes, addTable, newTable};
 
 // A number that fits the answers' width.
 pub fn narrow(n: usize) -> u32

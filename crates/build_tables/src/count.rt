@@ -13,7 +13,7 @@ ghost use Prim.Native.Nat.{_≤_};
 ghost use lib.ListN.{length};
 ghost use Rattle.model.specs.Builder.{mostItems};
 ghost use Rattle.build_memory.specs.Memory.{leastWords, itemTotal};
-ghost use Rattle.tables.specs.Table.{countOf, itemCount};
+ghost use Rattle.build_tables.specs.Table.{countOf, itemCount};
 
 // How many items are of the table.
 fn count_of(words: &[usize], table: usize) -> usize

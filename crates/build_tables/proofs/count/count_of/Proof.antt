@@ -1,12 +1,12 @@
--- `tables::count::count_of` meets its contract. The invariant: the count is that of the items passed. Assumes nothing.
-use Rattle.tables.proofs.TableLaws.{count-none, count-pass, count-one}
-use Rattle.tables.specs.Table.{countOf}
+-- `build_tables::count::count_of` meets its contract. The invariant: the count is that of the items passed. Assumes nothing.
+use Rattle.build_tables.proofs.TableLaws.{count-none, count-pass, count-one}
+use Rattle.build_tables.specs.Table.{countOf}
 use Rattle.build_memory.specs.Memory.{itemTotal}
 use native.Mathlib.Omega.{arith}
 use Prim.Native.Nat.{_-_, _≤_}
 use mathlib.Core.Path.{_≡_, ap, _∙_}
-use Rattle.tables.proofs.count.count_of.Statement.{statement}
-use Rattle.tables.proofs.count.count_of.Tie as tie
+use Rattle.build_tables.proofs.count.count_of.Statement.{statement}
+use Rattle.build_tables.proofs.count.count_of.Tie as tie
 
 abbrev Inv-loop : tie.InvT-loop
 Inv-loop words table n count₀ i₀ count i = (i ≤ itemTotal words) × (count ≤ i) × (count ≡ countOf words table i)

@@ -1,11 +1,11 @@
--- `tables::add::new_table` meets its contract: 29, 28, or what adding the table gives. Assumes nothing.
-use Rattle.tables.proofs.TableLaws.{table-unsound, table-outside, table-inside}
+-- `build_tables::add::new_table` meets its contract: 29, 28, or what adding the table gives. Assumes nothing.
+use Rattle.build_tables.proofs.TableLaws.{table-unsound, table-outside, table-inside}
 use Rattle.build_memory.proofs.MemoryLaws.{sound-facts}
 use borrow.Author.Tests.{not-true, not-false}
 use mathlib.Core.Path.{sym, _∙_}
 use borrow.Author.Needs.{needs}
-use Rattle.tables.proofs.add.new_table.Statement.{statement}
-use Rattle.tables.proofs.add.new_table.Tie as tie
+use Rattle.build_tables.proofs.add.new_table.Statement.{statement}
+use Rattle.build_tables.proofs.add.new_table.Tie as tie
 
 judge-requires : tie.Need-judge-requires
 judge-requires c κs = search needs

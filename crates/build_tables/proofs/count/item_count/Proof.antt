@@ -1,6 +1,6 @@
--- `tables::count::item_count` meets its contract: 29, 24, or the count. Assumes nothing.
-use Rattle.tables.proofs.TableLaws.{count-unsound, count-unknown, count-known}
-use Rattle.tables.specs.Table.{countOf}
+-- `build_tables::count::item_count` meets its contract: 29, 24, or the count. Assumes nothing.
+use Rattle.build_tables.proofs.TableLaws.{count-unsound, count-unknown, count-known}
+use Rattle.build_tables.specs.Table.{countOf}
 use Rattle.build_memory.proofs.MemoryLaws.{sound-facts}
 use Rattle.build_memory.specs.Memory.{itemTotal}
 use borrow.Author.Tests.{not-true, not-false}
@@ -8,8 +8,8 @@ use native.Mathlib.Omega.{arith}
 use Prim.Native.Nat.{ℕ}
 use mathlib.Core.Path.{sym, ap, _∙_}
 use borrow.Author.Needs.{needs}
-use Rattle.tables.proofs.count.item_count.Statement.{statement}
-use Rattle.tables.proofs.count.item_count.Tie as tie
+use Rattle.build_tables.proofs.count.item_count.Statement.{statement}
+use Rattle.build_tables.proofs.count.item_count.Tie as tie
 
 judge-requires : tie.Need-judge-requires
 judge-requires c κs = search needs

@@ -7,7 +7,7 @@ use Rattle.model.specs.declared.Numbered.{Numbered}
 use Rattle.model.specs.declared.Counted.{Counted}
 use Rattle.build_memory.specs.Memory.{Memory, outcome}
 use Rattle.build_memory.proofs.Unique.{outcome-unique}
-use Rattle.tables.specs.Table.{takes, newTable, itemCount}
+use Rattle.build_tables.specs.Table.{takes, newTable, itemCount}
 
 module _ (ws ar : List ℕ) where
   pub takes-items-unique : (t : ℕ) (r s : Bool) → r ≡ takes ws t → s ≡ takes ws t → r ≡ s
