@@ -20,7 +20,7 @@ use Rattle.model.specs.Builder as model
 use Rattle.build_memory.specs.Memory.{Memory, leastWords}
 use Rattle.build_memory.specs.Meaning.{meaning}
 use Rattle.build_tables.specs.Table.{newTable}
-use Rattle.build.specs.Answer.{insertedNumber}
+use Rattle.build_values.specs.Answer.{insertedNumber}
 use Rattle.history.specs.Honest.{Honest}
 use Rattle.history.specs.Reached.{Reached}
 use Rattle.history.proofs.History.{reached-honest}

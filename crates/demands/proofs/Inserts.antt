@@ -16,7 +16,7 @@ use Rattle.model.specs.declared.Inserted.{Inserted}
 use Rattle.model.specs.Table.{Content, Entry, noItem}
 use Rattle.model.specs.Walk.{Walked, walk}
 use Rattle.model.specs.Builder.{Builder, Shelf, noShelf, shelfAt, Result, result, refused, counted, atWalked, put, keyed, insertValue, place, whenAccepted, settled, insertTable, height, deepest}
-use Rattle.build.specs.Answer.{insertedNumber}
+use Rattle.build_values.specs.Answer.{insertedNumber}
 use Rattle.demands.specs.Last.{Held, orElse, among}
 use Rattle.demands.proofs.HeldLaws.{heldIn, hit}
 use Rattle.demands.proofs.WalkHeld.{walk-held}

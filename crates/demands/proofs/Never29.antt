@@ -17,8 +17,8 @@ use Rattle.build_memory.specs.Memory.{Memory, sound, Outcome}
 use Rattle.build_memory.specs.Item.{Stored}
 use Rattle.build_tables.specs.Table.{addTable, newTable, itemCount}
 use Rattle.build_tables.specs.Answer.{numberedNumber, countedNumber}
-use Rattle.build.specs.Insert.{keyed, insertWalked, insertAlong, insertNew, overwrite, insertSound, insertValue}
-use Rattle.build.specs.Answer.{insertedNumber}
+use Rattle.build_values.specs.Insert.{keyed, insertWalked, insertAlong, insertNew, overwrite, insertSound, insertValue}
+use Rattle.build_values.specs.Answer.{insertedNumber}
 use Rattle.nest.specs.Nest.{settled, nested, tableSound, insertTable}
 use Rattle.build_rules.specs.Whole.{wholeSound}
 use Rattle.write.specs.declared.Written.{Written}

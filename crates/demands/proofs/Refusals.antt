@@ -15,9 +15,9 @@ use Rattle.build_memory.specs.Memory.{leastWords, Memory, memory, Outcome, fres
 use Rattle.build_memory.specs.Answer.{startedNumber}
 use Rattle.build_tables.specs.Table.{unnumbered, addTable, newTable}
 use Rattle.build_tables.specs.Answer.{numberedNumber}
-use Rattle.build.specs.Insert.{insertValue}
-use Rattle.build.specs.Answer.{insertedNumber}
-use Rattle.build.proofs.AnswerLaws.{Still, value-still}
+use Rattle.build_values.specs.Insert.{insertValue}
+use Rattle.build_values.specs.Answer.{insertedNumber}
+use Rattle.build_values.proofs.AnswerLaws.{Still, value-still}
 use Rattle.nest.specs.Nest.{insertTable}
 use Rattle.nest.proofs.AnswerLaws.{table-still}
 use Rattle.write.specs.declared.Written.{Written}

@@ -8,8 +8,8 @@ use lib.ListN.{length}
 use Rattle.build_memory.specs.Memory.{Memory, memory, freshWords}
 use Rattle.build_tables.specs.Table.{newTable, itemCount}
 use Rattle.build_tables.specs.Answer.{numberedNumber, countedNumber}
-use Rattle.build.specs.Insert.{insertValue}
-use Rattle.build.specs.Answer.{insertedNumber}
+use Rattle.build_values.specs.Insert.{insertValue}
+use Rattle.build_values.specs.Answer.{insertedNumber}
 use Rattle.nest.specs.Nest.{insertTable}
 use Rattle.write.specs.Write.{writeAnswer, writtenNumber, imageAfter}
 

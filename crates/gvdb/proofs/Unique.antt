@@ -12,7 +12,7 @@ use Rattle.build_memory.specs.Memory.{Memory, leastWords, outcome, freshStart}
 use Rattle.build_memory.specs.Answer.{startedNumber}
 use Rattle.build_memory.proofs.Unique.{outcome-unique}
 use Rattle.build_tables.specs.Table.{newTable, itemCount}
-use Rattle.build.specs.Insert.{insertValue}
+use Rattle.build_values.specs.Insert.{insertValue}
 use Rattle.nest.specs.Nest.{insertTable}
 use Rattle.write.specs.Write.{writeAnswer, imageAfter}
 use Rattle.gvdb.specs.declared.reading.GvdbOpened.{GvdbOpened}

@@ -4,7 +4,7 @@ use Rattle.model.specs.declared.Numbered.{Numbered}
 use Rattle.model.specs.declared.Counted.{Counted}
 use Rattle.build_memory.specs.Memory.{Outcome, outcome}
 use Rattle.build_tables.specs.Answer.{numberedNumber, numberedTable, countedNumber, countedItems}
-use Rattle.build.specs.Answer.{insertedNumber, insertedKind}
+use Rattle.build_values.specs.Answer.{insertedNumber, insertedKind}
 use Rattle.gvdb.specs.declared.building.GvdbTable.{GvdbTable}
 use Rattle.gvdb.specs.declared.building.GvdbInserted.{GvdbInserted}
 use Rattle.gvdb.specs.declared.building.GvdbCount.{GvdbCount}

@@ -10,7 +10,7 @@ ghost use mathlib.Core.Path.{_≡_};
 ghost use Rattle.build_memory.specs.Memory.{leastWords, memory, outcome, freshStart};
 ghost use Rattle.build_memory.specs.Answer.{startedNumber};
 ghost use Rattle.build_tables.specs.Table.{newTable, itemCount};
-ghost use Rattle.build.specs.Insert.{insertValue};
+ghost use Rattle.build_values.specs.Insert.{insertValue};
 ghost use Rattle.nest.specs.Nest.{insertTable};
 ghost use Rattle.gvdb.specs.Building.{told, numberedAnswer, countedAnswer, insertedAnswer};
 
@@ -97,7 +97,7 @@ pub extern "C" fn gvdb_insert(
 ) -> GvdbInserted
     ensures { λ r. ⌜ outcome r (memory (now (words .exit)) (now (arena .exit))) ≡ told insertedAnswer (insertValue (now (words .entry)) (now (arena .entry)) table (now (key .entry)) (now (value .entry))) ⌝ }
 {
-    let inserted = build::insert::insert_value(words, arena, table, key, value);
+    let inserted = build_values::insert::insert_value(words, arena, table, key, value);
     inserted_of(inserted)
 }
 

@@ -15,9 +15,9 @@ use Rattle.model.specs.Builder.{mostItems, longestKey}
 use Rattle.build_memory.specs.Memory.{tableTotal, itemTotal, roomUsed, tableSeparator, itemTable, itemParent, itemKind, valueStart, valueSize, itemGuest, keyOf, memory, Outcome, outcome}
 use Rattle.build_memory.specs.Find.{findKey}
 use Rattle.build_memory.specs.Item.{Stored, kindOf, replaceItem}
-use Rattle.build.specs.declared.walk.Way.{Way}
-use Rattle.build.specs.Walk.{way, descend, wayOf, sum}
-use Rattle.build.specs.Insert.{containers, refused, added, insertNew, overwrite, insertAlong, insertWalked}
+use Rattle.build_values.specs.declared.walk.Way.{Way}
+use Rattle.build_values.specs.Walk.{way, descend, wayOf, sum}
+use Rattle.build_values.specs.Insert.{containers, refused, added, insertNew, overwrite, insertAlong, insertWalked}
 use mathlib.Core.List.{List, [], _∷_, _++_}
 use lib.ListN.{length, take, getD, set, length-set, length-append, drop-of-length-le}
 use lib.Seq.{drop-append-seam}

@@ -19,10 +19,10 @@ use Rattle.model.specs.declared.Inserted.{Inserted}
 use Rattle.build_memory.specs.Memory.{tableTotal, itemTotal, roomUsed, tableSeparator, itemKind, memory, Outcome, outcome}
 use Rattle.build_memory.specs.Find.{findKey}
 use Rattle.build_memory.specs.Item.{Stored, kindOf, replaceItem}
-use Rattle.build.specs.declared.walk.Way.{Way}
-use Rattle.build.specs.Walk.{wayOf, sum}
-use Rattle.build.specs.Insert.{containers, refused, added, insertNew, overwrite, insertAlong, insertWalked}
-use Rattle.build.proofs.WalkLaws.{last}
+use Rattle.build_values.specs.declared.walk.Way.{Way}
+use Rattle.build_values.specs.Walk.{wayOf, sum}
+use Rattle.build_values.specs.Insert.{containers, refused, added, insertNew, overwrite, insertAlong, insertWalked}
+use Rattle.build_values.proofs.WalkLaws.{last}
 use Rattle.history.specs.Items.{item, itemOf, Table}
 use Rattle.history.specs.Right.{Right}
 use Rattle.history.specs.Honest.{Good}

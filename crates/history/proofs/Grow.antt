@@ -17,9 +17,9 @@ use Rattle.layout.specs.Kind.{kindKnown}
 use Rattle.build_memory.specs.Memory.{word, tableTotal, itemTotal, roomUsed, containerKind, Memory, memory}
 use Rattle.build_memory.specs.Item.{Stored, stored, makeItem}
 use Rattle.build_memory.proofs.MadeLaws.{made-arena}
-use Rattle.build.specs.Walk.{sum}
-use Rattle.build.specs.Insert.{Laid, containers}
-use Rattle.build.proofs.WalkLaws.{further, last, make-end, make-more}
+use Rattle.build_values.specs.Walk.{sum}
+use Rattle.build_values.specs.Insert.{Laid, containers}
+use Rattle.build_values.proofs.WalkLaws.{further, last, make-end, make-more}
 use Rattle.history.specs.Items.{Item, item, itemOf, Table}
 use Rattle.history.specs.Right.{There, Above, Right}
 use Rattle.history.specs.Honest.{Good}

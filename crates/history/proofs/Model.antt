@@ -14,7 +14,7 @@ use Rattle.build_memory.specs.Memory.{leastWords, freshWords, tableTotal, itemT
 use Rattle.build_memory.specs.Item.{stored}
 use Rattle.build_tables.specs.Table.{takes, addTable, newTable, unnumbered}
 use Rattle.build_tables.proofs.TableLaws.{takes-facts}
-use Rattle.build.specs.Insert.{refused, insertWalked, keyed, insertSound, insertValue}
+use Rattle.build_values.specs.Insert.{refused, insertWalked, keyed, insertSound, insertValue}
 use mathlib.Core.List.{List, [], _∷_, _++_}
 use lib.ListN.{length, length-append}
 use Rattle.words.specs.Choice.{pick}

@@ -20,8 +20,8 @@ use Rattle.build_memory.specs.Memory.{word, tableAt, tableTotal, itemTotal, tab
 use Rattle.build_memory.specs.Item.{stored}
 use Rattle.build_tables.specs.Table.{takes}
 use Rattle.build_tables.proofs.TableLaws.{takes-facts}
-use Rattle.build.specs.Walk.{wayOf}
-use Rattle.build.specs.Insert.{refused, insertWalked, keyed}
+use Rattle.build_values.specs.Walk.{wayOf}
+use Rattle.build_values.specs.Insert.{refused, insertWalked, keyed}
 use Rattle.nest.specs.Nest.{heldAt, heldHeight, placeTable, whenAccepted, settled, nested, tableSound, insertTable}
 use Rattle.history.specs.Items.{Item, itemOf, Table, tableOf}
 use Rattle.history.specs.Right.{heldItem, heldIn, Right}

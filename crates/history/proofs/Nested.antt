@@ -17,8 +17,8 @@ use Rattle.build_memory.specs.Find.{findKey}
 use Rattle.build_memory.specs.Item.{Stored, stored}
 use Rattle.build_tables.specs.Table.{takes}
 use Rattle.build_tables.proofs.TableLaws.{takes-facts}
-use Rattle.build.specs.Walk.{wayOf}
-use Rattle.build.specs.Insert.{refused, insertWalked, keyed}
+use Rattle.build_values.specs.Walk.{wayOf}
+use Rattle.build_values.specs.Insert.{refused, insertWalked, keyed}
 use Rattle.nest.specs.Nest.{heldHeight, placeTable, whenAccepted, settled, nested, tableSound, insertTable}
 use mathlib.Core.List.{List, [], _∷_, _++_}
 use lib.ListN.{length, set}

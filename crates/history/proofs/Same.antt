@@ -16,16 +16,16 @@ use Rattle.build_memory.specs.Memory.{itemTotal, roomUsed, itemKind, valueKind,
 use Rattle.build_memory.specs.Find.{findKey}
 use Rattle.build_memory.specs.Item.{stored, kindOf, makeItem}
 use Rattle.build_memory.proofs.MadeLaws.{made-arena}
-use Rattle.build.specs.declared.walk.Way.{Way}
-use Rattle.build.specs.Walk.{way, descend, sum}
-use Rattle.build.specs.Insert.{Laid, containers}
+use Rattle.build_values.specs.declared.walk.Way.{Way}
+use Rattle.build_values.specs.Walk.{way, descend, sum}
+use Rattle.build_values.specs.Insert.{Laid, containers}
 use Rattle.nest.specs.Nest.{nested}
 use mathlib.Core.List.{List, [], _∷_, _++_, append-assoc}
 use lib.ListN.{length, take}
 use lib.Seq.{length-take-le, take-length}
 use Rattle.words.specs.Choice.{pick}
 use Rattle.words.proofs.ChoiceLaws.{pick-false}
-use Rattle.build.proofs.WalkLaws.{further, walk-end, walk-miss, walk-block, walk-pass, make-end, make-more}
+use Rattle.build_values.proofs.WalkLaws.{further, walk-end, walk-miss, walk-block, walk-pass, make-end, make-more}
 use Rattle.model.specs.Table.{Content, Entry, entryAt, isContainer, noItem}
 use Rattle.model.specs.Table as model
 use Rattle.model.specs.Walk as seen

@@ -14,9 +14,9 @@ use Rattle.build_memory.specs.Meaning.{meaning}
 use Rattle.model.specs.Builder.{deepest, height}
 use Rattle.build_tables.specs.Table.{takes}
 use Rattle.nest.specs.Nest.{heldHeight}
-use Rattle.build.specs.Insert.{insertValue}
-use Rattle.build.specs.Answer.{insertedNumber}
-use Rattle.build.proofs.AnswerLaws.{value-24}
+use Rattle.build_values.specs.Insert.{insertValue}
+use Rattle.build_values.specs.Answer.{insertedNumber}
+use Rattle.build_values.proofs.AnswerLaws.{value-24}
 use Rattle.history.specs.Items.{itemOf, tableOf}
 use Rattle.history.specs.Right.{There, Parent}
 use Rattle.history.specs.Reached.{Reached}

@@ -20,7 +20,7 @@ use Rattle.build_memory.specs.Memory.{word, leastWords, tableAt, tableTotal, it
 use Rattle.build_memory.specs.Item.{Stored, stored}
 use Rattle.build_tables.specs.Table.{takes, addTable, newTable}
 use Rattle.build_tables.proofs.TableLaws.{takes-facts}
-use Rattle.build.specs.Insert.{keyed, insertSound, insertValue}
+use Rattle.build_values.specs.Insert.{keyed, insertSound, insertValue}
 use Rattle.history.specs.Items.{Item, itemOf, Table, tableOf}
 use Rattle.history.specs.Right.{Right}
 use Rattle.layout.specs.declared.refusal.Refusal.the-variants.{MemoryBroken, TableUnknown, KeyNotUtf8, KeyTooLong}

@@ -17,8 +17,8 @@ use Rattle.text.specs.Prefix.{prefixes, endsPast, nextEnd}
 use Rattle.text.proofs.PrefixLaws.{past-last, next-within, next-rises}
 use Rattle.model.specs.Table.{Content, Entry, entryAt, isContainer}
 use Rattle.model.specs.Walk.{findKey, isThere, entry, putKey, Walked, walk, keyRoom}
-use Rattle.build.specs.Walk.{sum}
-use Rattle.build.proofs.WalkLaws.{further, last}
+use Rattle.build_values.specs.Walk.{sum}
+use Rattle.build_values.proofs.WalkLaws.{further, last}
 use Rattle.history.proofs.Found.{hits-not, find-snoc}
 
 -- the entries that the missing ends of a key become: a container for each but the last; n is the number of the first

@@ -14,9 +14,9 @@ use Rattle.text.specs.Prefix.{endsPast, nextFrom, nextEnd}
 use Rattle.text.proofs.PrefixLaws.{next-low, next-past}
 use Rattle.build_memory.specs.Memory.{itemTotal, itemKind}
 use Rattle.build_memory.specs.Find.{findKey}
-use Rattle.build.specs.declared.walk.Way.{Way}
-use Rattle.build.specs.Walk.{way, descend}
-use Rattle.build.proofs.WalkLaws.{further, walk-end, walk-miss, walk-block, walk-pass}
+use Rattle.build_values.specs.declared.walk.Way.{Way}
+use Rattle.build_values.specs.Walk.{way, descend}
+use Rattle.build_values.proofs.WalkLaws.{further, walk-end, walk-miss, walk-block, walk-pass}
 use Rattle.history.specs.Items.{Item, itemOf}
 use Rattle.history.specs.Tidy.{Tidy}
 use Rattle.history.specs.Right.{There, Above}

@@ -5,7 +5,7 @@ use mathlib.Core.List.{List}
 use lib.ListN.{length}
 use Rattle.build_memory.specs.Memory.{leastWords, freshWords}
 use Rattle.build_tables.specs.Table.{newTable}
-use Rattle.build.specs.Insert.{insertValue}
+use Rattle.build_values.specs.Insert.{insertValue}
 use Rattle.nest.specs.Nest.{insertTable}
 
 pub data Reached : List ℕ → List ℕ → Type 0 where

@@ -15,10 +15,10 @@ use Rattle.model.specs.Builder.{longestKey, deepest}
 use Rattle.build_memory.specs.Memory.{tableKind, sound, Memory, Outcome, outcome}
 use Rattle.build_memory.specs.Item.{stored}
 use Rattle.build_tables.specs.Table.{takes}
-use Rattle.build.specs.Insert.{insertWalked, keyed}
+use Rattle.build_values.specs.Insert.{insertWalked, keyed}
 use Rattle.nest.specs.Nest.{heldHeight, whenAccepted, settled, nested, tableSound, insertTable}
-use Rattle.build.specs.Answer.{insertedNumber}
-use Rattle.build.proofs.AnswerLaws.{Still, refused-still, new-still, old-still, still, keyed-still, walked-still}
+use Rattle.build_values.specs.Answer.{insertedNumber}
+use Rattle.build_values.proofs.AnswerLaws.{Still, refused-still, new-still, old-still, still, keyed-still, walked-still}
 
 abbrev numberOf : Outcome Inserted → ℕ
 numberOf o = insertedNumber (o .answer)

@@ -18,8 +18,8 @@ use Rattle.model.specs.Builder.{mostTables, deepest, most}
 use Rattle.build_memory.specs.Memory.{tableAt, tableHeight, itemTable, itemKind, itemGuest, tableKind, sound, Memory, memory, Outcome, outcome}
 use Rattle.build_memory.specs.Item.{stored}
 use Rattle.build_tables.specs.Table.{takes}
-use Rattle.build.specs.Walk.{wayOf}
-use Rattle.build.specs.Insert.{refused, keyed, insertAlong, insertWalked}
+use Rattle.build_values.specs.Walk.{wayOf}
+use Rattle.build_values.specs.Insert.{refused, keyed, insertAlong, insertWalked}
 use Rattle.nest.specs.Nest.{heldAt, heldHeight, placeTable, whenAccepted, settled, nested, tableSound, insertTable}
 
 -- ---- the heights that a table holds

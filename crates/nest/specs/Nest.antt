@@ -13,7 +13,7 @@ use Rattle.model.specs.Builder.{mostTables, deepest, most}
 use Rattle.build_memory.specs.Memory.{tableAt, itemTotal, tableHeight, itemTable, itemKind, itemGuest, tableKind, sound, memory, Outcome, outcome}
 use Rattle.build_memory.specs.Item.{stored}
 use Rattle.build_tables.specs.Table.{takes}
-use Rattle.build.specs.Insert.{refused, keyed, insertWalked}
+use Rattle.build_values.specs.Insert.{refused, keyed, insertWalked}
 
 -- the height of the table that item i holds, as that table's record says, where i is an item of table t that holds one; else 0
 unfoldable pub heldAt : List ℕ → ℕ → ℕ → ℕ

@@ -1,7 +1,7 @@
 // The insert of a table into another.
 use crate::height::held_height;
-use build::insert::Job;
-use build::insert::insert_walked;
+use build_values::insert::Job;
+use build_values::insert::insert_walked;
 use layout::refusal::Refusal;
 use build_memory::place::DEEPEST;
 use build_memory::place::LONGEST_KEY;
@@ -19,7 +19,7 @@ ghost use Prim.Native.Nat.{_≤_, _<_};
 ghost use lib.ListN.{length};
 ghost use Rattle.model.specs.Builder.{mostTables};
 ghost use Rattle.build_memory.specs.Memory.{leastWords, tableTotal, Sound, memory, outcome};
-ghost use Rattle.build.specs.Insert.{Ready};
+ghost use Rattle.build_values.specs.Insert.{Ready};
 ghost use Rattle.nest.specs.Nest.{placeTable, nested, tableSound, insertTable};
 
 // Marks a table as placed, with its height.

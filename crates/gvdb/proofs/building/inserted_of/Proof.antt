@@ -1,6 +1,6 @@
 -- `gvdb::building::inserted_of` meets its contract: each arm by the variant that it matched. Assumes nothing.
 use mathlib.Core.Path.{sym, ap}
-use Rattle.build.specs.Answer.{insertedNumber, insertedKind}
+use Rattle.build_values.specs.Answer.{insertedNumber, insertedKind}
 use Rattle.gvdb.specs.Building.{insertedAnswer}
 use borrow.Author.Needs.{needs}
 use Rattle.gvdb.proofs.building.inserted_of.Statement.{statement}

@@ -1,6 +1,6 @@
 -- `nest::insert::table_sound` meets its contract: 24, 24, 25, 8, 20, or on to the insert. Assumes nothing.
 use Rattle.nest.proofs.NestLaws.{table-unknown, guest-unknown, in-itself, two-tables}
-use Rattle.build.proofs.InsertLaws.{keyed-bad, keyed-long, keyed-good}
+use Rattle.build_values.proofs.InsertLaws.{keyed-bad, keyed-long, keyed-good}
 use Rattle.build_tables.proofs.TableLaws.{takes-facts}
 use borrow.Author.Tests.{not-true, not-false}
 use mathlib.Core.Path.{sym, _∙_}

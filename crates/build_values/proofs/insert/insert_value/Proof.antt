@@ -1,0 +1,54 @@
+-- `build_values::insert::insert_value` meets its contract: 29, or what sound memory gives. Assumes nothing.
+use Rattle.build_values.proofs.InsertLaws.{value-unsound, value-sound}
+use Rattle.build_values.specs.Insert.{insertSound}
+use Rattle.build_memory.proofs.MemoryLaws.{sound-facts}
+use borrow.Author.Tests.{not-true, not-false}
+use Prim.Native.Nat.{ℕ}
+use mathlib.Core.Path.{sym, ap, _∙_}
+use borrow.Author.Needs.{needs}
+use Rattle.build_values.proofs.insert.insert_value.Statement.{statement}
+use Rattle.build_values.proofs.insert.insert_value.Tie as tie
+
+judge-requires : tie.Need-judge-requires
+judge-requires c κs = search needs
+
+same-length : tie.Need-same-length
+same-length c = search needs
+
+same-length-2 : tie.Need-same-length-2
+same-length-2 c = search needs
+
+returns : tie.Need-returns
+returns c = value-unsound _ _ _ _ _ (sym (c .before .judge .ensures) ∙ not-true _ (c .if1 .taken))
+
+word-size-requires : tie.Need-word-size-requires
+word-size-requires c κs = search needs
+
+insert-sound-requires : tie.Need-insert-sound-requires
+insert-sound-requires c κs = sound-facts _ _ (sym (c .before .before .before .before .judge .ensures) ∙ not-false _ (c .before .before .before .if1 .left))
+
+same-length-3 : tie.Need-same-length-3
+same-length-3 c = search needs
+
+same-length-4 : tie.Need-same-length-4
+same-length-4 c = search needs
+
+returns-2 : tie.Need-returns-2
+returns-2 c = let a = c .before .before .before .before .before .before .before .before .before .before .before .before .before .before .before .before .args in
+    c .before .before .before .before .insert-sound .ensures
+    ∙ ap (λ (t : ℕ). insertSound (a .words .now) (a .arena .now) t (a .key .now) (a .value .now)) (c .before .before .before .before .before .before .before .word-size .ensures .0)
+    ∙ value-sound _ _ _ _ _ (sym (c .before .before .before .before .before .before .before .before .before .judge .ensures) ∙ not-false _ (c .before .before .before .before .before .before .before .before .if1 .left))
+
+pub insert-value-spec : {M : Type 1} → statement M
+insert-value-spec =
+    tie.close
+    (tie.spec
+    judge-requires
+    same-length
+    same-length-2
+    returns
+    word-size-requires
+    insert-sound-requires
+    same-length-3
+    same-length-4
+    returns-2)

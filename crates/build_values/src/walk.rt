@@ -1,0 +1,101 @@
+// The dry walk of an insert: it reads and counts, and writes nothing.
+use build_memory::find::find_hashed;
+use build_memory::place::CONTAINER_KIND;
+use build_memory::place::ITEMS;
+use build_memory::place::KIND;
+use build_memory::place::item_word;
+use text::prefix::next_end;
+use words::hash::HASH_START;
+use words::hash::hash_on;
+use words::wide::word_size;
+ghost use mathlib.Core.Path.{_≡_};
+ghost use Prim.Native.Nat.{_≤_};
+ghost use lib.ListN.{length, take};
+ghost use Rattle.words.specs.Hash.{hashOf};
+ghost use Rattle.text.specs.Prefix.{endsPast};
+ghost use Rattle.model.specs.Builder.{longestKey, mostItems};
+ghost use Rattle.build_memory.specs.Memory.{Sound};
+ghost use Rattle.build_values.specs.Walk.{way, descend, sum};
+
+// How far the containers of a key are there: clear where nothing else stands in the way, from where the last one ends, parent its index
+// and one, or 0.
+pub struct Way {
+    pub clear: bool,
+    pub from: usize,
+    pub parent: usize,
+}
+
+// A way, and the hash of the key up to where it ends: hashes go on from there.
+pub struct Walked {
+    pub way: Way,
+    pub hash: u32,
+}
+
+// What the rest of a key costs: items, and bytes of their keys.
+pub struct Cost {
+    pub items: usize,
+    pub room: usize,
+}
+
+// A walk that ends here.
+fn ended(clear: bool, from: usize, parent: usize, hash: u32) -> Walked
+    ensures { λ r. ⌜ (r .way ≡ way clear from parent) × (r .hash ≡ hash) ⌝ }
+{
+    Walked {
+        way: Way {
+            clear,
+            from,
+            parent,
+        },
+        hash,
+    }
+}
+
+// Goes down the containers of the key that are there.
+pub fn descend_to(words: &[usize], arena: &[u8], table: usize, key: &[u8], sep: usize) -> Walked
+    requires { ⌜ Sound (now words) (length (now arena)) ⌝ }
+    ensures { λ r. ⌜ r .way ≡ descend (now (words .entry)) (now (arena .entry)) table (now (key .entry)) (endsPast sep (now (key .entry)) 0) 0 0 ⌝ }
+    ensures within { λ r. ⌜ (r .way .from ≤ length (now (key .entry))) × (r .way .parent ≤ mostItems) ⌝ }
+    ensures hashed { λ r. ⌜ r .hash ≡ hashOf (take (r .way .from) (now (key .entry))) ⌝ }
+{
+    let n = words[ITEMS];
+    let mut from = 0;
+    let mut parent = 0;
+    let mut hash = HASH_START;
+    loop {
+        let e = next_end(key, from, sep);
+        if key.len() <= e {
+            return ended(true, from, parent, hash);
+        }
+        let further = hash_on(hash, &key[from..e]);
+        let i = find_hashed(words, arena, table, &key[..e], word_size(further));
+        if n <= i {
+            return ended(true, from, parent, hash);
+        }
+        if item_word(words, i, KIND) != CONTAINER_KIND {
+            return ended(false, from, parent, hash);
+        }
+        from = e;
+        parent = i + 1;
+        hash = further;
+    }
+}
+
+// What the ends of the key past `from` cost.
+pub fn cost_of(key: &[u8], from: usize, sep: usize) -> Cost
+    requires { ⌜ (from ≤ length (now key)) × (length (now key) ≤ longestKey) ⌝ }
+    ensures { λ r. ⌜ (r .items ≡ length (endsPast sep (now (key .entry)) from)) × (r .room ≡ sum (endsPast sep (now (key .entry)) from)) ⌝ }
+{
+    let mut at = from;
+    let mut items = 0;
+    let mut room = 0;
+    loop {
+        let e = next_end(key, at, sep);
+        items += 1;
+        room += e;
+        if key.len() <= e {
+            return Cost { items, room };
+        }
+        at = e;
+    }
+}
