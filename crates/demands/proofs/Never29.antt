@@ -19,7 +19,7 @@ use Rattle.build_tables.specs.Table.{addTable, newTable, itemCount}
 use Rattle.build_tables.specs.Answer.{numberedNumber, countedNumber}
 use Rattle.build_values.specs.Insert.{keyed, insertWalked, insertAlong, insertNew, overwrite, insertSound, insertValue}
 use Rattle.build_values.specs.Answer.{insertedNumber}
-use Rattle.nest.specs.Nest.{settled, nested, tableSound, insertTable}
+use Rattle.build_nested.specs.Nest.{settled, nested, tableSound, insertTable}
 use Rattle.build_rules.specs.Whole.{wholeSound}
 use Rattle.write.specs.declared.Written.{Written}
 use Rattle.write.specs.Write.{writeAnswer, writtenNumber}

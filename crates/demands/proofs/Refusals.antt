@@ -18,8 +18,8 @@ use Rattle.build_tables.specs.Answer.{numberedNumber}
 use Rattle.build_values.specs.Insert.{insertValue}
 use Rattle.build_values.specs.Answer.{insertedNumber}
 use Rattle.build_values.proofs.AnswerLaws.{Still, value-still}
-use Rattle.nest.specs.Nest.{insertTable}
-use Rattle.nest.proofs.AnswerLaws.{table-still}
+use Rattle.build_nested.specs.Nest.{insertTable}
+use Rattle.build_nested.proofs.AnswerLaws.{table-still}
 use Rattle.write.specs.declared.Written.{Written}
 use Rattle.write.specs.Write.{writeAnswer, writtenNumber, imageFor, laidBy, imageAfter}
 use Rattle.demands.specs.Calls.{Call, answered, accepted, leaves, lent, leavesLent}

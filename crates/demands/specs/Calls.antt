@@ -10,7 +10,7 @@ use Rattle.build_tables.specs.Table.{newTable, itemCount}
 use Rattle.build_tables.specs.Answer.{numberedNumber, countedNumber}
 use Rattle.build_values.specs.Insert.{insertValue}
 use Rattle.build_values.specs.Answer.{insertedNumber}
-use Rattle.nest.specs.Nest.{insertTable}
+use Rattle.build_nested.specs.Nest.{insertTable}
 use Rattle.write.specs.Write.{writeAnswer, writtenNumber, imageAfter}
 
 -- a call with its arguments; a write with the bytes that its lent buffer held

@@ -13,7 +13,7 @@ use Rattle.build_memory.specs.Answer.{startedNumber}
 use Rattle.build_memory.proofs.Unique.{outcome-unique}
 use Rattle.build_tables.specs.Table.{newTable, itemCount}
 use Rattle.build_values.specs.Insert.{insertValue}
-use Rattle.nest.specs.Nest.{insertTable}
+use Rattle.build_nested.specs.Nest.{insertTable}
 use Rattle.write.specs.Write.{writeAnswer, imageAfter}
 use Rattle.gvdb.specs.declared.reading.GvdbOpened.{GvdbOpened}
 use Rattle.gvdb.specs.declared.reading.GvdbPlace.{GvdbPlace}

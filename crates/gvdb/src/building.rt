@@ -11,7 +11,7 @@ ghost use Rattle.build_memory.specs.Memory.{leastWords, memory, outcome, freshS
 ghost use Rattle.build_memory.specs.Answer.{startedNumber};
 ghost use Rattle.build_tables.specs.Table.{newTable, itemCount};
 ghost use Rattle.build_values.specs.Insert.{insertValue};
-ghost use Rattle.nest.specs.Nest.{insertTable};
+ghost use Rattle.build_nested.specs.Nest.{insertTable};
 ghost use Rattle.gvdb.specs.Building.{told, numberedAnswer, countedAnswer, insertedAnswer};
 
 // A new table's number.
@@ -111,7 +111,7 @@ pub extern "C" fn gvdb_insert_table(
 ) -> GvdbInserted
     ensures { λ r. ⌜ outcome r (memory (now (words .exit)) (now (arena .exit))) ≡ told insertedAnswer (insertTable (now (words .entry)) (now (arena .entry)) table (now (key .entry)) guest) ⌝ }
 {
-    let inserted = nest::insert::insert_table(words, arena, table, key, guest);
+    let inserted = build_nested::insert::insert_table(words, arena, table, key, guest);
     inserted_of(inserted)
 }
 

@@ -15,7 +15,7 @@ use Rattle.model.specs.Builder.{most, heldBy}
 use Rattle.model.specs.Builder as told
 use Rattle.build_memory.specs.Memory.{tableTotal, itemTotal, valueKind, tableKind}
 use Rattle.build_memory.specs.Meaning.{meaning}
-use Rattle.nest.specs.Nest.{heldHeight}
+use Rattle.build_nested.specs.Nest.{heldHeight}
 use Rattle.history.specs.Items.{Item, itemOf, tableOf}
 use Rattle.history.specs.Right.{heldItem, heldIn}
 use Rattle.history.specs.Honest.{Honest}

@@ -22,11 +22,11 @@ use Rattle.build_tables.specs.Table.{takes}
 use Rattle.build_tables.proofs.TableLaws.{takes-facts}
 use Rattle.build_values.specs.Walk.{wayOf}
 use Rattle.build_values.specs.Insert.{refused, insertWalked, keyed}
-use Rattle.nest.specs.Nest.{heldAt, heldHeight, placeTable, whenAccepted, settled, nested, tableSound, insertTable}
+use Rattle.build_nested.specs.Nest.{heldAt, heldHeight, placeTable, whenAccepted, settled, nested, tableSound, insertTable}
 use Rattle.history.specs.Items.{Item, itemOf, Table, tableOf}
 use Rattle.history.specs.Right.{heldItem, heldIn, Right}
 use Rattle.layout.specs.declared.refusal.Refusal.the-variants.{MemoryBroken, TableUnknown, TableInItself, KeyNotUtf8, KeyTooLong, NotContainer, NestedTooDeep}
-use Rattle.nest.proofs.NestLaws.{held-other, held-kind, held-guest}
+use Rattle.build_nested.proofs.NestLaws.{held-other, held-kind, held-guest}
 use Rattle.history.specs.Honest.{Good, Honest}
 use Rattle.history.proofs.Low as low
 use Rattle.history.proofs.Index.{false-true}

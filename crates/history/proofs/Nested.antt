@@ -19,7 +19,7 @@ use Rattle.build_tables.specs.Table.{takes}
 use Rattle.build_tables.proofs.TableLaws.{takes-facts}
 use Rattle.build_values.specs.Walk.{wayOf}
 use Rattle.build_values.specs.Insert.{refused, insertWalked, keyed}
-use Rattle.nest.specs.Nest.{heldHeight, placeTable, whenAccepted, settled, nested, tableSound, insertTable}
+use Rattle.build_nested.specs.Nest.{heldHeight, placeTable, whenAccepted, settled, nested, tableSound, insertTable}
 use mathlib.Core.List.{List, [], _∷_, _++_}
 use lib.ListN.{length, set}
 use Rattle.words.specs.Choice.{pick}

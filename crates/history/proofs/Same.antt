@@ -19,7 +19,7 @@ use Rattle.build_memory.proofs.MadeLaws.{made-arena}
 use Rattle.build_values.specs.declared.walk.Way.{Way}
 use Rattle.build_values.specs.Walk.{way, descend, sum}
 use Rattle.build_values.specs.Insert.{Laid, containers}
-use Rattle.nest.specs.Nest.{nested}
+use Rattle.build_nested.specs.Nest.{nested}
 use mathlib.Core.List.{List, [], _∷_, _++_, append-assoc}
 use lib.ListN.{length, take}
 use lib.Seq.{length-take-le, take-length}

@@ -13,7 +13,7 @@ use Rattle.build_memory.specs.Memory.{tableTotal, itemTotal, tableSeparator, ta
 use Rattle.build_memory.specs.Meaning.{meaning}
 use Rattle.model.specs.Builder.{deepest, height}
 use Rattle.build_tables.specs.Table.{takes}
-use Rattle.nest.specs.Nest.{heldHeight}
+use Rattle.build_nested.specs.Nest.{heldHeight}
 use Rattle.build_values.specs.Insert.{insertValue}
 use Rattle.build_values.specs.Answer.{insertedNumber}
 use Rattle.build_values.proofs.AnswerLaws.{value-24}

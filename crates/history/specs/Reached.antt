@@ -6,7 +6,7 @@ use lib.ListN.{length}
 use Rattle.build_memory.specs.Memory.{leastWords, freshWords}
 use Rattle.build_tables.specs.Table.{newTable}
 use Rattle.build_values.specs.Insert.{insertValue}
-use Rattle.nest.specs.Nest.{insertTable}
+use Rattle.build_nested.specs.Nest.{insertTable}
 
 pub data Reached : List ℕ → List ℕ → Type 0 where
   fresh : (ws ar : List ℕ) → leastWords ≤ length ws → Reached (freshWords ws (length ar)) ar

@@ -1,13 +1,13 @@
--- `nest::height::held_height` meets its contract. The invariant: `most` is the greatest height among the items passed. Assumes nothing.
-use Rattle.nest.proofs.NestLaws.{most-none, most-step}
-use Rattle.nest.specs.Nest.{heldAt, heldHeight}
+-- `build_nested::height::held_height` meets its contract. The invariant: `most` is the greatest height among the items passed. Assumes nothing.
+use Rattle.build_nested.proofs.NestLaws.{most-none, most-step}
+use Rattle.build_nested.specs.Nest.{heldAt, heldHeight}
 use Rattle.build_memory.specs.Memory.{itemTotal}
 use Rattle.model.specs.Builder as builder
 use native.Mathlib.Omega.{arith}
 use Prim.Native.Nat.{_-_, _≤_}
 use mathlib.Core.Path.{_≡_, ap, _∙_}
-use Rattle.nest.proofs.height.held_height.Statement.{statement}
-use Rattle.nest.proofs.height.held_height.Tie as tie
+use Rattle.build_nested.proofs.height.held_height.Statement.{statement}
+use Rattle.build_nested.proofs.height.held_height.Tie as tie
 
 abbrev Inv-loop : tie.InvT-loop
 Inv-loop words table n most₀ i₀ most i = (i ≤ itemTotal words) × (most ≡ builder.most (heldAt words table) i)

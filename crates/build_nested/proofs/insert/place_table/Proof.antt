@@ -1,10 +1,10 @@
--- `nest::insert::place_table` meets its contract: two stores are one. Assumes nothing.
-use Rattle.nest.proofs.NestLaws.{placed-stores}
+-- `build_nested::insert::place_table` meets its contract: two stores are one. Assumes nothing.
+use Rattle.build_nested.proofs.NestLaws.{placed-stores}
 use lib.ListN.{length-set}
 use native.Mathlib.Omega.{arith}
 use borrow.Author.Needs.{needs}
-use Rattle.nest.proofs.insert.place_table.Statement.{statement}
-use Rattle.nest.proofs.insert.place_table.Tie as tie
+use Rattle.build_nested.proofs.insert.place_table.Statement.{statement}
+use Rattle.build_nested.proofs.insert.place_table.Tie as tie
 
 mul-at : tie.Need-mul-at
 mul-at c = search needs

@@ -1,9 +1,9 @@
--- `nest::height::held_at` meets its contract, test by test. Assumes nothing.
-use Rattle.nest.proofs.NestLaws.{held-other, held-kind, held-far, held-guest}
+-- `build_nested::height::held_at` meets its contract, test by test. Assumes nothing.
+use Rattle.build_nested.proofs.NestLaws.{held-other, held-kind, held-far, held-guest}
 use mathlib.Core.Path.{_∙_}
 use borrow.Author.Needs.{needs}
-use Rattle.nest.proofs.height.held_at.Statement.{statement}
-use Rattle.nest.proofs.height.held_at.Tie as tie
+use Rattle.build_nested.proofs.height.held_at.Statement.{statement}
+use Rattle.build_nested.proofs.height.held_at.Tie as tie
 
 item-word-requires : tie.Need-item-word-requires
 item-word-requires c κs = search needs

@@ -5,7 +5,7 @@ use mathlib.Core.List.{List}
 use Rattle.model.specs.declared.Inserted.{Inserted}
 use Rattle.build_memory.specs.Memory.{Memory, outcome}
 use Rattle.build_memory.proofs.Unique.{outcome-unique}
-use Rattle.nest.specs.Nest.{insertTable}
+use Rattle.build_nested.specs.Nest.{insertTable}
 
 module _ (ws ar : List ℕ) (t : ℕ) (key : List ℕ) where
   pub insert-table-unique : (guest : ℕ) (r s : Inserted) (m n : Memory) → outcome r m ≡ insertTable ws ar t key guest

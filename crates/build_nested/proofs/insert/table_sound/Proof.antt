@@ -1,12 +1,12 @@
--- `nest::insert::table_sound` meets its contract: 24, 24, 25, 8, 20, or on to the insert. Assumes nothing.
-use Rattle.nest.proofs.NestLaws.{table-unknown, guest-unknown, in-itself, two-tables}
+-- `build_nested::insert::table_sound` meets its contract: 24, 24, 25, 8, 20, or on to the insert. Assumes nothing.
+use Rattle.build_nested.proofs.NestLaws.{table-unknown, guest-unknown, in-itself, two-tables}
 use Rattle.build_values.proofs.InsertLaws.{keyed-bad, keyed-long, keyed-good}
 use Rattle.build_tables.proofs.TableLaws.{takes-facts}
 use borrow.Author.Tests.{not-true, not-false}
 use mathlib.Core.Path.{sym, _∙_}
 use borrow.Author.Needs.{needs}
-use Rattle.nest.proofs.insert.table_sound.Statement.{statement}
-use Rattle.nest.proofs.insert.table_sound.Tie as tie
+use Rattle.build_nested.proofs.insert.table_sound.Statement.{statement}
+use Rattle.build_nested.proofs.insert.table_sound.Tie as tie
 
 takes-items-requires : tie.Need-takes-items-requires
 takes-items-requires c κs = search needs

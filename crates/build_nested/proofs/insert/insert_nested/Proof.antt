@@ -1,9 +1,9 @@
--- `nest::insert::insert_nested` meets its contract: the insert, and the guest placed where it is accepted. Assumes nothing.
-use Rattle.nest.proofs.NestLaws.{accepted-low, nested-refused, nested-new, nested-old}
+-- `build_nested::insert::insert_nested` meets its contract: the insert, and the guest placed where it is accepted. Assumes nothing.
+use Rattle.build_nested.proofs.NestLaws.{accepted-low, nested-refused, nested-new, nested-old}
 use native.Mathlib.Omega.{arith}
 use borrow.Author.Needs.{needs}
-use Rattle.nest.proofs.insert.insert_nested.Statement.{statement}
-use Rattle.nest.proofs.insert.insert_nested.Tie as tie
+use Rattle.build_nested.proofs.insert.insert_nested.Statement.{statement}
+use Rattle.build_nested.proofs.insert.insert_nested.Tie as tie
 
 held-height-requires : tie.Need-held-height-requires
 held-height-requires c κs = search needs

@@ -1,8 +1,8 @@
--- `nest::height::larger` meets its contract. Assumes nothing.
+-- `build_nested::height::larger` meets its contract. Assumes nothing.
 use Rattle.words.specs.Choice.{pick}
 use borrow.Author.Tests.{lt-ltb, le-ltb}
-use Rattle.nest.proofs.height.larger.Statement.{statement}
-use Rattle.nest.proofs.height.larger.Tie as tie
+use Rattle.build_nested.proofs.height.larger.Statement.{statement}
+use Rattle.build_nested.proofs.height.larger.Tie as tie
 
 returns : tie.Need-returns
 unfolding pick

@@ -15,7 +15,7 @@ ghost use lib.Dec.{ltb};
 ghost use Rattle.words.specs.Choice.{pick};
 ghost use Rattle.model.specs.Builder.{mostItems};
 ghost use Rattle.build_memory.specs.Memory.{leastWords, itemTotal};
-ghost use Rattle.nest.specs.Nest.{heldAt, heldHeight};
+ghost use Rattle.build_nested.specs.Nest.{heldAt, heldHeight};
 
 // The height of the table that item i holds, where it is an item of the table that holds one; else 0.
 fn held_at(words: &[usize], table: usize, i: usize) -> usize

@@ -16,7 +16,7 @@ use Rattle.build_memory.specs.Memory.{tableKind, sound, Memory, Outcome, outcom
 use Rattle.build_memory.specs.Item.{stored}
 use Rattle.build_tables.specs.Table.{takes}
 use Rattle.build_values.specs.Insert.{insertWalked, keyed}
-use Rattle.nest.specs.Nest.{heldHeight, whenAccepted, settled, nested, tableSound, insertTable}
+use Rattle.build_nested.specs.Nest.{heldHeight, whenAccepted, settled, nested, tableSound, insertTable}
 use Rattle.build_values.specs.Answer.{insertedNumber}
 use Rattle.build_values.proofs.AnswerLaws.{Still, refused-still, new-still, old-still, still, keyed-still, walked-still}
 

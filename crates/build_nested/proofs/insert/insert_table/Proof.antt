@@ -1,13 +1,13 @@
--- `nest::insert::insert_table` meets its contract: 29, or what sound memory gives. Assumes nothing.
-use Rattle.nest.proofs.NestLaws.{table-unsound, table-sound}
-use Rattle.nest.specs.Nest.{tableSound}
+-- `build_nested::insert::insert_table` meets its contract: 29, or what sound memory gives. Assumes nothing.
+use Rattle.build_nested.proofs.NestLaws.{table-unsound, table-sound}
+use Rattle.build_nested.specs.Nest.{tableSound}
 use Rattle.build_memory.proofs.MemoryLaws.{sound-facts}
 use borrow.Author.Tests.{not-true, not-false}
 use Prim.Native.Nat.{ℕ}
 use mathlib.Core.Path.{sym, ap, _∙_}
 use borrow.Author.Needs.{needs}
-use Rattle.nest.proofs.insert.insert_table.Statement.{statement}
-use Rattle.nest.proofs.insert.insert_table.Tie as tie
+use Rattle.build_nested.proofs.insert.insert_table.Statement.{statement}
+use Rattle.build_nested.proofs.insert.insert_table.Tie as tie
 
 judge-requires : tie.Need-judge-requires
 judge-requires c κs = search needs

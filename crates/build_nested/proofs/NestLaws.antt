@@ -20,7 +20,7 @@ use Rattle.build_memory.specs.Item.{stored}
 use Rattle.build_tables.specs.Table.{takes}
 use Rattle.build_values.specs.Walk.{wayOf}
 use Rattle.build_values.specs.Insert.{refused, keyed, insertAlong, insertWalked}
-use Rattle.nest.specs.Nest.{heldAt, heldHeight, placeTable, whenAccepted, settled, nested, tableSound, insertTable}
+use Rattle.build_nested.specs.Nest.{heldAt, heldHeight, placeTable, whenAccepted, settled, nested, tableSound, insertTable}
 
 -- ---- the heights that a table holds
 

@@ -20,7 +20,7 @@ ghost use lib.ListN.{length};
 ghost use Rattle.model.specs.Builder.{mostTables};
 ghost use Rattle.build_memory.specs.Memory.{leastWords, tableTotal, Sound, memory, outcome};
 ghost use Rattle.build_values.specs.Insert.{Ready};
-ghost use Rattle.nest.specs.Nest.{placeTable, nested, tableSound, insertTable};
+ghost use Rattle.build_nested.specs.Nest.{placeTable, nested, tableSound, insertTable};
 
 // Marks a table as placed, with its height.
 fn place_table(words: &mut [usize], table: usize, height: usize)
