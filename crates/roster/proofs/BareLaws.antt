@@ -14,10 +14,10 @@ use Rattle.words.proofs.StoreLaws.{put-none}
 use Rattle.build_memory.specs.Memory.{tableTotal, itemTotal, itemTable}
 use Rattle.image.specs.Number.{hashesOf, byNumber}
 use Rattle.image.proofs.NumberLaws.{length-hashes, length-by-number}
-use Rattle.order.specs.Chain.{starts}
-use Rattle.order.specs.Items.{numbersPut}
-use Rattle.order.proofs.ChainLaws.{length-starts}
-use Rattle.order.proofs.ItemLaws.{numbers-start}
+use Rattle.write_order.specs.Chain.{starts}
+use Rattle.write_order.specs.Items.{numbersPut}
+use Rattle.write_order.proofs.ChainLaws.{length-starts}
+use Rattle.write_order.proofs.ItemLaws.{numbers-start}
 use Rattle.roster.specs.Roster.{stateOf}
 use Rattle.roster.specs.Fill.{own, owned, inTable, hasItems, Fit, Put}
 use Rattle.roster.proofs.OwnLaws.{own-pass}

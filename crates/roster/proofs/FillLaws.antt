@@ -16,10 +16,10 @@ use Rattle.model.specs.Builder.{mostItems}
 use Rattle.build_memory.specs.Memory.{itemTotal, itemTable}
 use Rattle.image.specs.Number.{hashesOf, bucketStart, byNumber, itemOf, numberOf}
 use Rattle.image.proofs.NumberLaws.{length-hashes, length-by-number, numbering}
-use Rattle.order.specs.Chain.{starts}
-use Rattle.order.specs.Items.{AllBelow, numbersPut}
-use Rattle.order.proofs.ChainLaws.{length-starts, starts-at}
-use Rattle.order.proofs.ItemLaws.{numbers-of}
+use Rattle.write_order.specs.Chain.{starts}
+use Rattle.write_order.specs.Items.{AllBelow, numbersPut}
+use Rattle.write_order.proofs.ChainLaws.{length-starts, starts-at}
+use Rattle.write_order.proofs.ItemLaws.{numbers-of}
 use Rattle.roster.specs.Roster.{stateOf}
 use Rattle.roster.specs.Fill.{owned, slotOf, Fit, Laid, Put, Sized, Filled}
 use Rattle.roster.proofs.OwnLaws.{own-here, own-table, slot-next, slot-apart, slot-few}

@@ -14,7 +14,7 @@ use Rattle.words.specs.Hash.{hashOf}
 use Rattle.model.specs.Table.{Entry, Has, times, entryAt, membersBelow, rowsOf}
 use Rattle.build_memory.specs.Memory.{itemTotal, itemTable, keyOf}
 use Rattle.build_memory.specs.Meaning.{entryOf, listed, meaning}
-use Rattle.order.specs.Key.{keyAt, hashAt, Known}
+use Rattle.write_order.specs.Key.{keyAt, hashAt, Known}
 use Rattle.roster.specs.Roster.{stateOf}
 use Rattle.roster.specs.Fill.{own, owned, Fit, Judged}
 use Rattle.roster.proofs.OwnLaws.{length-own, own-below, own-once}

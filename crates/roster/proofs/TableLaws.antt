@@ -11,12 +11,12 @@ use Rattle.words.proofs.StoreLaws.{part-put, length-put}
 use Rattle.image.specs.Number.{keyOrder, hashesOf, numbered, byNumber}
 use Rattle.image.proofs.OrderLaws.{length-order, times-order}
 use Rattle.image.proofs.NumberLaws.{length-hashes, places-each, length-by-number}
-use Rattle.order.specs.Key.{keyed, hashAt, Known}
-use Rattle.order.specs.Chain.{Empty, starts}
-use Rattle.order.specs.Items.{AllBelow, hashesIn, itemsAt}
-use Rattle.order.proofs.KeyLaws.{order-keyed}
-use Rattle.order.proofs.ChainLaws.{length-starts}
-use Rattle.order.proofs.ItemLaws.{hashes-order, items-number, numbered-below}
+use Rattle.write_order.specs.Key.{keyed, hashAt, Known}
+use Rattle.write_order.specs.Chain.{Empty, starts}
+use Rattle.write_order.specs.Items.{AllBelow, hashesIn, itemsAt}
+use Rattle.write_order.proofs.KeyLaws.{order-keyed}
+use Rattle.write_order.proofs.ChainLaws.{length-starts}
+use Rattle.write_order.proofs.ItemLaws.{hashes-order, items-number, numbered-below}
 use Rattle.roster.specs.Roster.{stateOf}
 use Rattle.roster.specs.Fill.{owned, Fit, Judged, Collected, Ordered, Laid}
 use Rattle.roster.proofs.StateLaws.{state-members, state-same, state-hash, state-below, owned-known, owned-few}

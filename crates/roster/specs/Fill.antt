@@ -13,8 +13,8 @@ use Rattle.words.specs.Store.{putAt}
 use Rattle.model.specs.Builder.{mostItems}
 use Rattle.build_memory.specs.Memory.{word, leastWords, links, linkAt, emptyMark, tableTotal, itemTotal, itemTable, itemHash, keyOf}
 use Rattle.image.specs.Number.{keyOrder, hashesOf, bucketStart, byNumber, itemOf, numberOf}
-use Rattle.order.specs.Chain.{starts}
-use Rattle.order.specs.Items.{numbersPut}
+use Rattle.write_order.specs.Chain.{starts}
+use Rattle.write_order.specs.Items.{numbersPut}
 use Rattle.roster.specs.Roster.{stateOf}
 
 -- the items of table t among the first n

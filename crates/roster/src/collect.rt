@@ -3,13 +3,13 @@ use build_memory::place::ITEMS;
 use build_memory::place::TABLE;
 use build_memory::place::TABLES;
 use build_memory::place::item_word;
-use order::sort::sort;
+use write_order::sort::sort;
 ghost use mathlib.Core.Path.{_≡_};
 ghost use Prim.Native.Nat.{_≤_};
 ghost use lib.ListN.{length, take};
 ghost use Rattle.model.specs.Builder.{mostItems};
 ghost use Rattle.image.specs.Number.{keyOrder};
-ghost use Rattle.order.specs.Key.{keyed, Known};
+ghost use Rattle.write_order.specs.Key.{keyed, Known};
 ghost use Rattle.roster.specs.Fill.{Fit, hasItems, Collected, Ordered};
 
 // Whether table t has an item. A table past the last has none.

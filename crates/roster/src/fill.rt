@@ -1,7 +1,7 @@
 // All tables, one behind the other.
 use crate::collect::has_items;
 use crate::table::number_table;
-use order::items::number_items;
+use write_order::items::number_items;
 ghost use mathlib.Core.Path.{_≡_};
 ghost use Prim.Native.Nat.{_+_, _≤_};
 ghost use mathlib.Core.Bool.{true};

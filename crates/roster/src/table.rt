@@ -2,18 +2,18 @@
 use crate::collect::in_order;
 use build_memory::place::LEAST_WORDS;
 use build_memory::place::LINKS_FROM;
-use order::items::hash_all;
-use order::items::items_at;
-use order::number::number;
+use write_order::items::hash_all;
+use write_order::items::items_at;
+use write_order::number::number;
 ghost use mathlib.Core.Path.{_≡_};
 ghost use Prim.Native.Nat.{_≤_};
 ghost use lib.ListN.{length};
 ghost use Rattle.words.specs.Store.{putAt};
 ghost use Rattle.model.specs.Builder.{mostItems};
 ghost use Rattle.image.specs.Number.{numbered};
-ghost use Rattle.order.specs.Key.{Known};
-ghost use Rattle.order.specs.Chain.{starts};
-ghost use Rattle.order.specs.Items.{hashesIn};
+ghost use Rattle.write_order.specs.Key.{Known};
+ghost use Rattle.write_order.specs.Chain.{starts};
+ghost use Rattle.write_order.specs.Items.{hashesIn};
 ghost use Rattle.roster.specs.Fill.{Fit, Judged, Laid};
 
 // Numbers places by their hashes. The chains run through the links of the words, which hold the empty mark before and after.

@@ -3,7 +3,7 @@ use build_memory::place::EMPTY;
 use build_memory::place::ITEMS;
 use build_memory::place::PARENT;
 use build_memory::place::item_word;
-use order::number::number;
+use write_order::number::number;
 ghost use mathlib.Core.Path.{_≡_};
 ghost use mathlib.Core.Bool.{true};
 ghost use Prim.Native.Nat.{ℕ, _<_, _≤_};

@@ -7,7 +7,7 @@ use lib.ListN.{length, replicate}
 use lib.Seq.{length-take-le}
 use Rattle.words.specs.Store.{putAt}
 use Rattle.image.specs.Number.{numbered}
-use Rattle.order.specs.Chain.{starts}
+use Rattle.write_order.specs.Chain.{starts}
 use Rattle.roster.proofs.TableLaws.{hashes-front}
 use borrow.Author.Needs.{needs}
 use Rattle.roster.proofs.table.number_run.Statement.{statement}

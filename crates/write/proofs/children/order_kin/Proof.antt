@@ -5,7 +5,7 @@ use native.Mathlib.Omega.{arith}
 use lib.ListN.{take, length-replicate}
 use lib.Seq.{length-take-le, getD-take}
 use Rattle.build_memory.specs.Memory.{itemTotal}
-use Rattle.order.proofs.ChainLaws.{empty-fresh}
+use Rattle.write_order.proofs.ChainLaws.{empty-fresh}
 use Rattle.write.proofs.StateLaws.{whole-right}
 use Rattle.write.proofs.KinLaws.{kin-made}
 use borrow.Author.Needs.{needs}

@@ -1,0 +1,107 @@
+-- Laws of the lists that the writer works with: they are the hashes, the items by number and the numbers of the table's definition, and
+-- the turns of the loops that make them. Assumes nothing.
+use mathlib.Core.Path.{_≡_, refl, sym, ap, _∙_}
+use mathlib.Core.Logic.{⊎-elim}
+use mathlib.Core.List.{List, [], _∷_, _++_, map}
+use Prim.Native.Nat.{ℕ, zero, suc, _+_, _≤_, _<_}
+use native.Mathlib.Nat.{eq-or-lt-of-le, le-of-suc-le-suc}
+use native.Mathlib.Numerals.{add-one}
+use native.Mathlib.Omega.{arith}
+use lib.ListN.{length, take, getD, set, length-set, length-map}
+use lib.Seq.{length-take-le, take-all, getD-set-same, getD-set-other}
+use Rattle.words.specs.Store.{putAt}
+use Rattle.words.specs.Hash.{hashOf, hashBy, plain}
+use Rattle.words.proofs.StoreLaws.{put-none, put-snoc}
+use Rattle.model.specs.Table.{Rows, times, Has}
+use Rattle.image.specs.Number.{keyOrder, hashesOf, numbered, byNumber, indexIn, numberOf}
+use Rattle.image.proofs.TimesLaws.{times-here, times-cons, index-stands}
+use Rattle.image.proofs.OrderLaws.{length-order, times-order}
+use Rattle.image.proofs.NumberLaws.{places-each, numbering}
+use Rattle.write_order.specs.Key.{hashAt}
+use Rattle.write_order.specs.Items.{AllBelow, hashesIn, itemsAt, numbersPut}
+
+-- ---- lists made one by one
+
+map-same : (f g : ℕ → ℕ) (l : List ℕ) → ((x : ℕ) → Has l x → f x ≡ g x) → map f l ≡ map g l
+map-same f g [] same = refl
+map-same f g (x ∷ l) same =
+    let head : f x ≡ g x = same x (omega (arith, times-here x x l refl)) in
+    let rest : map f l ≡ map g l = map-same f g l (λ y h. same y (omega (arith, times-cons y x l))) in
+    cc
+
+-- one turn of a loop that stores f of each element of l from the front on
+map-take : (f : ℕ → ℕ) (l : List ℕ) (k : ℕ) → k < length l → map f (take (suc k) l) ≡ map f (take k l) ++ (f (getD l k 0) ∷ [])
+map-take f [] k h = absurd (omega arith)
+map-take f (x ∷ l) zero h = refl
+map-take f (x ∷ l) (suc k) h = ap (λ (m : List ℕ). f x ∷ m) (map-take f l k (omega arith))
+
+module _ (f : ℕ → ℕ) (l out : List ℕ) where
+  pub made-start : out ≡ putAt out 0 (map f (take 0 l))
+  made-start = sym (put-none out 0)
+
+  pub made-turn : (k : ℕ) → k < length l → {v : ℕ} → v ≡ f (getD l k 0) → set (putAt out 0 (map f (take k l))) k v ≡ putAt out 0 (map f (take (k + 1) l))
+  made-turn k h {v} e =
+      let size : length (map f (take k l)) ≡ k = length-map (take k l) f ∙ length-take-le k l (omega arith) in
+      let at : 0 + length (map f (take k l)) ≡ k = omega arith in
+      rw (e, add-one, map-take f l k h, put-snoc, at)
+
+  pub made-end : (k : ℕ) → length l ≤ k → putAt out 0 (map f (take k l)) ≡ putAt out 0 (map f l)
+  made-end k h = rw (take-all k l h)
+
+-- ---- hashes and items of the table's definition
+
+pub hashes-order : (words : List ℕ) (table : Rows) → ((i : ℕ) → Has (table .members) i → hashAt words i ≡ hashOf (table .key i))
+    → hashesIn words (keyOrder table) ≡ hashesOf plain table
+unfolding hashesIn hashesOf
+hashes-order words table same =
+    map-same (hashAt words) (λ (i : ℕ). hashBy plain (table .key i)) (keyOrder table) (λ x h. same x (rw (times-order table x) at h))
+
+pub items-number : (rule : ℕ → ℕ) (table : Rows) → itemsAt (keyOrder table) (numbered (hashesOf rule table)) ≡ byNumber rule table
+unfolding itemsAt byNumber
+items-number rule table = refl
+
+-- the places of the numbers are places of the key order
+pub numbered-below : (rule : ℕ → ℕ) (table : Rows) → AllBelow (length (keyOrder table)) (numbered (hashesOf rule table))
+unfolding AllBelow
+numbered-below rule table k h =
+    let each = places-each rule table in
+    omega (arith, each .within k (omega (arith, each .size)), length-order table)
+
+-- ---- numbers of items
+
+module _ (numbers items : List ℕ) where
+  pub length-numbers : (k : ℕ) → length (numbersPut numbers items k) ≡ length numbers
+  unfolding numbersPut
+  length-numbers zero = refl
+  length-numbers (suc k) = length-set (numbersPut numbers items k) (getD items k 0) k ∙ length-numbers k
+
+  pub numbers-start : numbers ≡ numbersPut numbers items 0
+  unfolding numbersPut
+  numbers-start = refl
+
+  pub numbers-turn : (k : ℕ) → set (numbersPut numbers items k) (getD items k 0) k ≡ numbersPut numbers items (k + 1)
+  unfolding numbersPut
+  numbers-turn k = rw add-one
+
+  -- an item that stands once gets its number
+  numbers-at : ((j k : ℕ) → j < length items → k < length items → getD items j 0 ≡ getD items k 0 → j ≡ k) → AllBelow (length numbers) items
+      → (n k : ℕ) → n ≤ length items → k < n → getD (numbersPut numbers items n) (getD items k 0) 0 ≡ k
+  unfolding numbersPut AllBelow
+  numbers-at once below zero k h l = absurd (omega arith)
+  numbers-at once below (suc n) k h l =
+      ⊎-elim
+      (λ e. rw e (getD-set-same (numbersPut numbers items n) (getD items n 0) n 0 (omega (arith, below n (omega arith), length-numbers n))))
+      (λ less. getD-set-other (numbersPut numbers items n) (getD items n 0) (getD items k 0) n 0
+      (λ q. let e : k ≡ n = once k n (omega arith) (omega arith) q in omega arith)
+      ∙ numbers-at once below n k (omega arith) less)
+      (eq-or-lt-of-le (le-of-suc-le-suc l))
+
+-- every member's number is that of the definition
+pub numbers-of : (rule : ℕ → ℕ) (table : Rows) (numbers : List ℕ) → ((x : ℕ) → times x (table .members) ≤ 1) → AllBelow (length numbers) (byNumber rule table)
+    → (i : ℕ) → Has (table .members) i → getD (numbersPut numbers (byNumber rule table) (length (byNumber rule table))) i 0 ≡ numberOf rule table i
+unfolding numberOf
+numbers-of rule table numbers one below i h =
+    let n = numbering rule table one in
+    let s = index-stands (byNumber rule table) i (n .all i h) in
+    let at = numbers-at numbers (byNumber rule table) (λ j k a b e. n .once j k (omega (arith, n .size)) (omega (arith, n .size)) e) below (length (byNumber rule table)) (indexIn (byNumber rule table) i) (omega arith) (s .within) in
+    ap (λ (x : ℕ). getD (numbersPut numbers (byNumber rule table) (length (byNumber rule table))) x 0) (sym (s .is)) ∙ at

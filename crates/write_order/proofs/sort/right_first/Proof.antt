@@ -1,0 +1,60 @@
+-- `write_order::sort::right_first` meets its contract: the right run has ended, the left one has, or both have an item. Assumes nothing.
+use mathlib.Core.Path.{_≡_, sym, _∙_}
+use Prim.Native.Nat.{_<_}
+use native.Mathlib.Omega.{arith}
+use lib.ListN.{length, take}
+use lib.Seq.{length-take-le, getD-take}
+use Rattle.write_order.specs.Key.{keyAt}
+use Rattle.write_order.proofs.KeyLaws.{known-at}
+use Rattle.write_order.proofs.MergeLaws.{right-ended, left-ended, neither-ended}
+use borrow.Author.Needs.{needs}
+use Rattle.write_order.proofs.sort.right_first.Statement.{statement}
+use Rattle.write_order.proofs.sort.right_first.Tie as tie
+
+-- the left run's length
+left-long : (s : tie.Start) → length (take (s .args .mid) (s .args .run .now)) ≡ s .args .mid
+left-long s = length-take-le (s .args .mid) (s .args .run .now) (s .pre .1 .0)
+
+returns : tie.Need-returns
+returns c = let s = c .before .before .before .before in sym (right-ended (keyAt (s .args .words .now) (s .args .arena .now)) (take (s .args .mid) (s .args .run .now)) (s .args .run .now) (s .args .i) (s .args .j) (omega (arith, c .if1 .taken)))
+
+returns-2 : tie.Need-returns-2
+returns-2 c = let s = c .before .before .before .before .before in sym (left-ended (keyAt (s .args .words .now) (s .args .arena .now)) (take (s .args .mid) (s .args .run .now)) (s .args .run .now) (s .args .i) (s .args .j) (omega (arith, left-long s, c .if2 .taken)) (omega (arith, s .pre, c .before .if1 .left)))
+
+mul-comes-before : tie.Need-mul-comes-before
+mul-comes-before c = search needs
+
+shared-slice-read-comes-before : tie.Need-shared-slice-read-comes-before
+shared-slice-read-comes-before c = search needs
+
+mul-comes-before-2 : tie.Need-mul-comes-before-2
+mul-comes-before-2 c = search needs
+
+shared-slice-read-comes-before-2 : tie.Need-shared-slice-read-comes-before-2
+shared-slice-read-comes-before-2 c = search needs
+
+comes-before-requires : tie.Need-comes-before-requires
+comes-before-requires c κs =
+    let s = c .before .before .before .before .before .before .before in
+    (known-at (s .args .words .now) (s .args .run .now) (s .pre .0) (s .args .j) (omega (arith, s .pre .1, c .before .before .before .if1 .left)), known-at (s .args .words .now) (s .args .run .now) (s .pre .0) (s .args .i) (omega (arith, s .pre .1, c .before .before .if2 .left)))
+
+returns-3 : tie.Need-returns-3
+returns-3 c =
+    let s = c .before .before .before .before .before .before .before .before in
+    let i-in : s .args .i < s .args .mid = omega (arith, s .pre .1, c .before .before .before .if2 .left) in
+    c .comes-before .ensures
+    ∙ sym (neither-ended (keyAt (s .args .words .now) (s .args .arena .now)) (take (s .args .mid) (s .args .run .now)) (s .args .run .now) (s .args .i) (s .args .j) (omega (arith, left-long s)) (omega (arith, s .pre .1, c .before .before .before .before .if1 .left))
+    ∙ rw (getD-take (s .args .mid) (s .args .run .now) (s .args .i) 0))
+
+pub right-first-spec : {M : Type 1} → statement M
+right-first-spec =
+    tie.close
+    (tie.spec
+    returns
+    returns-2
+    mul-comes-before
+    shared-slice-read-comes-before
+    mul-comes-before-2
+    shared-slice-read-comes-before-2
+    comes-before-requires
+    returns-3)

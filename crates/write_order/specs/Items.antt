@@ -1,0 +1,22 @@
+-- The hashes of items, the items of places, and the numbers of items, as lists. Assumes nothing: these are definitions.
+use Prim.Native.Nat.{ℕ, zero, suc, _<_}
+use mathlib.Core.List.{List, map}
+use lib.ListN.{length, getD, set}
+use Rattle.write_order.specs.Key.{hashAt}
+
+-- every element is below n
+unfoldable pub AllBelow : ℕ → List ℕ → Type 0
+AllBelow n l = (k : ℕ) → k < length l → getD l k 0 < n
+
+-- the hashes of some items
+unfoldable pub hashesIn : List ℕ → List ℕ → List ℕ
+hashesIn words run = map (hashAt words) run
+
+-- the items that stand at some places
+unfoldable pub itemsAt : List ℕ → List ℕ → List ℕ
+itemsAt run places = map (λ (place : ℕ). getD run place 0) places
+
+-- the numbers 0, 1, .. of the first k items, each stored at its item
+unfoldable pub numbersPut : List ℕ → List ℕ → ℕ → List ℕ
+numbersPut numbers items zero = numbers
+numbersPut numbers items (suc k) = set (numbersPut numbers items k) (getD items k 0) k

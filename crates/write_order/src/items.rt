@@ -1,0 +1,46 @@
+// From places to items and numbers: the hash of each place, the item of each number, the number of each item.
+use crate::key::hash_of;
+ghost use mathlib.Core.Path.{_≡_};
+ghost use Prim.Native.Nat.{_≤_};
+ghost use lib.ListN.{length};
+ghost use Rattle.words.specs.Store.{putAt};
+ghost use Rattle.write_order.specs.Key.{Known};
+ghost use Rattle.write_order.specs.Items.{AllBelow, hashesIn, itemsAt, numbersPut};
+
+// The hashes of the items of `run`, in its order.
+pub fn hash_all(words: &[usize], run: &[usize], hashes: &mut [usize])
+    requires { ⌜ Known (now words) (now run) × (length (now run) ≤ length (now hashes)) ⌝ }
+    ensures { λ _. ⌜ now (hashes .exit) ≡ putAt (now (hashes .entry)) 0 (hashesIn (now (words .entry)) (now (run .entry))) ⌝ }
+{
+    let mut k = 0;
+    while k < run.len() {
+        hashes[k] = hash_of(words, run[k]);
+        k += 1;
+    }
+}
+
+// The items of the places in `order`; `run` has the item of each place.
+pub fn items_at(run: &[usize], order: &[usize], items: &mut [usize])
+    requires { ⌜ AllBelow (length (now run)) (now order) × (length (now order) ≤ length (now items)) ⌝ }
+    ensures { λ _. ⌜ now (items .exit) ≡ putAt (now (items .entry)) 0 (itemsAt (now (run .entry)) (now (order .entry))) ⌝ }
+{
+    let mut k = 0;
+    while k < order.len() {
+        let place = order[k];
+        items[k] = run[place];
+        k += 1;
+    }
+}
+
+// Stores the number of each item of `items` at the item's place in `numbers`.
+pub fn number_items(items: &[usize], numbers: &mut [usize])
+    requires { ⌜ AllBelow (length (now numbers)) (now items) ⌝ }
+    ensures { λ _. ⌜ now (numbers .exit) ≡ numbersPut (now (numbers .entry)) (now (items .entry)) (length (now (items .entry))) ⌝ }
+{
+    let mut k = 0;
+    while k < items.len() {
+        let item = items[k];
+        numbers[item] = k;
+        k += 1;
+    }
+}

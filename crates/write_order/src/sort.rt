@@ -1,0 +1,95 @@
+// Items sorted by their keys, in a merge sort over lent words. Of equal keys the earlier item stays first.
+use crate::key::comes_before;
+ghost use mathlib.Core.Path.{_≡_};
+ghost use Prim.Native.Nat.{_≤_};
+ghost use lib.ListN.{length, take, drop};
+ghost use Rattle.words.specs.Store.{putAt};
+ghost use Rattle.image.specs.Number.{keyOrder};
+ghost use Rattle.write_order.specs.Key.{keyAt, keyed, Known};
+ghost use Rattle.write_order.specs.Merge.{rightFirst, merged};
+
+// Whether the next item is that of the right run, run[j..], and not of the left, run[i..mid].
+fn right_first(words: &[usize], arena: &[u8], run: &[usize], mid: usize, i: usize, j: usize) -> bool
+    requires { ⌜ Known (now words) (now run) ⌝ }
+    requires { ⌜ (mid ≤ length (now run)) × (i ≤ mid) × (j ≤ length (now run)) ⌝ }
+    ensures { λ r. ⌜ r ≡ rightFirst (keyAt (now (words .entry)) (now (arena .entry))) (drop i (take mid (now (run .entry)))) (drop j (now (run .entry))) ⌝ }
+{
+    if j == run.len() {
+        return false;
+    }
+    if i == mid {
+        return true;
+    }
+    comes_before(words, arena, run[j], run[i])
+}
+
+// Merges the runs run[..mid] and run[mid..] into `out`.
+fn merge(words: &[usize], arena: &[u8], run: &[usize], mid: usize, out: &mut [usize])
+    requires { ⌜ Known (now words) (now run) ⌝ }
+    requires { ⌜ (mid ≤ length (now run)) × (length (now run) ≤ length (now out)) ⌝ }
+    ensures { λ _. ⌜ now (out .exit) ≡ putAt (now (out .entry)) 0 (merged (keyAt (now (words .entry)) (now (arena .entry))) (take mid (now (run .entry))) (drop mid (now (run .entry)))) ⌝ }
+{
+    let mut i = 0;
+    let mut j = mid;
+    let mut k = 0;
+    while k < run.len() {
+        if right_first(words, arena, run, mid, i, j) {
+            out[k] = run[j];
+            j += 1;
+            k += 1;
+            continue;
+        }
+        out[k] = run[i];
+        i += 1;
+        k += 1;
+    }
+}
+
+// Copies the first words of `src` over all of `dst`.
+fn copy_over(src: &[usize], dst: &mut [usize])
+    requires { ⌜ length (now dst) ≤ length (now src) ⌝ }
+    ensures { λ _. ⌜ now (dst .exit) ≡ take (length (now (dst .entry))) (now (src .entry)) ⌝ }
+{
+    let mut i = 0;
+    while i < dst.len() {
+        dst[i] = src[i];
+        i += 1;
+    }
+}
+
+// Sorts the items of `run` in place. What `scratch` then holds is not said.
+pub fn sort(words: &[usize], arena: &[u8], run: &mut [usize], scratch: &mut [usize])
+    requires { ⌜ Known (now words) (now run) ⌝ }
+    requires { ⌜ length (now run) ≤ length (now scratch) ⌝ }
+    ensures { λ _. ⌜ now (run .exit) ≡ keyOrder (keyed (now (words .entry)) (now (arena .entry)) (now (run .entry))) ⌝ }
+{
+    let n = run.len();
+    if n < 2 {
+        return;
+    }
+    let mid = n / 2;
+    sort_front(words, arena, run, mid, scratch);
+    sort_back(words, arena, run, mid, scratch);
+    merge(words, arena, run, mid, scratch);
+    copy_over(scratch, run);
+}
+
+// Sorts the items before `mid` in place.
+fn sort_front(words: &[usize], arena: &[u8], run: &mut [usize], mid: usize, scratch: &mut [usize])
+    requires { ⌜ Known (now words) (now run) ⌝ }
+    requires { ⌜ (mid ≤ length (now run)) × (length (now run) ≤ length (now scratch)) ⌝ }
+    ensures { λ _. ⌜ take mid (now (run .exit)) ≡ keyOrder (keyed (now (words .entry)) (now (arena .entry)) (take mid (now (run .entry)))) ⌝ }
+    ensures { λ _. ⌜ drop mid (now (run .exit)) ≡ drop mid (now (run .entry)) ⌝ }
+{
+    sort(words, arena, &mut run[..mid], scratch);
+}
+
+// Sorts the items from `mid` on in place.
+fn sort_back(words: &[usize], arena: &[u8], run: &mut [usize], mid: usize, scratch: &mut [usize])
+    requires { ⌜ Known (now words) (now run) ⌝ }
+    requires { ⌜ (mid ≤ length (now run)) × (length (now run) ≤ length (now scratch)) ⌝ }
+    ensures { λ _. ⌜ drop mid (now (run .exit)) ≡ keyOrder (keyed (now (words .entry)) (now (arena .entry)) (drop mid (now (run .entry)))) ⌝ }
+    ensures { λ _. ⌜ take mid (now (run .exit)) ≡ take mid (now (run .entry)) ⌝ }
+{
+    sort(words, arena, &mut run[mid..], scratch);
+}
