@@ -26,7 +26,7 @@ use Rattle.image.specs.Fits.{openedAs}
 use Rattle.readback.specs.Back.{endOf, tableOpened}
 use Rattle.readback.specs.Told.{TableBack, AllBack}
 use Rattle.passes.specs.Passing.{AllPass}
-use Rattle.roster.specs.Roster.{stateOf}
+use Rattle.write_numbers.specs.Roster.{stateOf}
 use Rattle.write.specs.Write.{isRoot, imageAfter}
 use Rattle.write.proofs.StateLaws.{content-is, item-below}
 use Rattle.history.specs.Honest.{Honest}

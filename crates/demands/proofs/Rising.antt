@@ -10,7 +10,7 @@ use Rattle.model.specs.Table.{Has}
 use Rattle.build_memory.specs.Memory.{itemTotal, itemTable}
 use Rattle.image.specs.Number.{indexIn}
 use Rattle.image.proofs.TimesLaws.{eq-or-ne, lt-or-ge, index-stands}
-use Rattle.roster.specs.Roster.{stateOf}
+use Rattle.write_numbers.specs.Roster.{stateOf}
 use Rattle.write.proofs.StateLaws.{among, among-hit, among-miss, among-none, members-are}
 
 -- numbers below n that rise

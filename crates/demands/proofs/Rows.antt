@@ -9,7 +9,7 @@ use Rattle.words.specs.Choice.{pick}
 use Rattle.model.specs.Table.{Content, Entry, entryAt, Has, rowsOf}
 use Rattle.build_memory.specs.Memory.{itemTotal}
 use Rattle.build_memory.specs.Meaning.{meaning}
-use Rattle.roster.specs.Roster.{stateOf}
+use Rattle.write_numbers.specs.Roster.{stateOf}
 use Rattle.write.proofs.StateLaws.{table-is, total-is, has-item, item-below, item-table}
 use Rattle.demands.specs.Last.{Held}
 use Rattle.demands.proofs.HeldLaws.{heldIn, hit, hit-same, hit-is}

@@ -17,9 +17,9 @@ use Rattle.build_rules.specs.Whole.{wholeSound}
 use Rattle.build_rules.proofs.WholeFacts.{WholeFacts, whole-facts}
 use Rattle.image.specs.WellFormed.{ChildFits, WellFormed}
 use Rattle.image.proofs.TimesLaws.{eq-or-ne}
-use Rattle.roster.specs.Roster.{stateOf}
-use Rattle.roster.proofs.StateLaws.{state-members, owned-few}
-use Rattle.roster.proofs.RosterLaws.{whole-fit}
+use Rattle.write_numbers.specs.Roster.{stateOf}
+use Rattle.write_numbers.proofs.StateLaws.{state-members, owned-few}
+use Rattle.write_numbers.proofs.RosterLaws.{whole-fit}
 use Rattle.write.proofs.StateLaws.{key-length, key-is, above-is, content-past, member-once, has-item, item-below, item-table}
 use Rattle.demands.proofs.Rising.{member-earlier}
 

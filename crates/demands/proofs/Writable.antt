@@ -17,7 +17,7 @@ use Rattle.build_rules.proofs.WholeLaws.{limit-loose, limit-placed}
 use Rattle.build_rules.proofs.WholeFacts.{whole-facts}
 use Rattle.image.specs.Image.{depth}
 use Rattle.image.specs.WellFormed.{Writable}
-use Rattle.roster.specs.Roster.{stateOf}
+use Rattle.write_numbers.specs.Roster.{stateOf}
 use Rattle.write.specs.Write.{isRoot}
 use Rattle.write.proofs.StateLaws.{content-is, item-below, item-table}
 use Rattle.demands.specs.Success.{RootsWritable}

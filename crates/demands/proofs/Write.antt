@@ -19,7 +19,7 @@ use Rattle.image.specs.WellFormed.{Writable}
 use Rattle.readback.proofs.ImageBack.{alone-back}
 use Rattle.passes.proofs.Passes.{alone-passes}
 use Rattle.build_rules.specs.Whole.{wholeSound}
-use Rattle.roster.specs.Roster.{stateOf}
+use Rattle.write_numbers.specs.Roster.{stateOf}
 use Rattle.write.specs.declared.Written.{Written}
 use Rattle.write.specs.Write.{hasEmpty, isRoot, imageFor, tooLong, writeAnswer, laidBy, imageAfter}
 use Rattle.demands.specs.Success.{Success, SuccessSays, SuccessLays, SuccessReadsBack, SuccessPasses}

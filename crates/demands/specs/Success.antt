@@ -13,7 +13,7 @@ use Rattle.readback.specs.Back.{endOf}
 use Rattle.readback.specs.Told.{AllBack}
 use Rattle.passes.specs.Passing.{AllPass}
 use Rattle.build_rules.specs.Whole.{wholeSound}
-use Rattle.roster.specs.Roster.{stateOf}
+use Rattle.write_numbers.specs.Roster.{stateOf}
 use Rattle.write.specs.declared.Written.{Written}
 use Rattle.write.specs.Write.{hasEmpty, isRoot, imageFor, writeAnswer, imageAfter}
 

@@ -18,7 +18,7 @@ use Rattle.build_rules.specs.Whole.{wholeSound}
 use Rattle.image.specs.Plan.{chunkSize}
 use Rattle.image.specs.Image.{headerSize, depth}
 use Rattle.lay.specs.Sheet.{slotCount, sheetImage}
-use Rattle.roster.specs.Roster.{stateOf}
+use Rattle.write_numbers.specs.Roster.{stateOf}
 use Rattle.write.specs.declared.Written.{Written}
 use Rattle.write.specs.Write.{hasEmpty, isRoot, tooLong, imageFor, writeAnswer, laidBy, imageAfter}
 use Rattle.write.specs.Answer.{sizeAnswer, sheetAnswer, rootAnswer}

@@ -15,7 +15,7 @@ use Rattle.words.proofs.BelowLaws.{below-some, some-turn}
 use Rattle.model.specs.Table.{Content}
 use Rattle.build_memory.specs.Memory.{itemTotal, keySize, itemKind, itemGuest, valueStart, valueSize, tableKind}
 use Rattle.image.specs.Number.{itemOf}
-use Rattle.roster.specs.Roster.{stateOf, firstSlot, slotCount, slotItem, Rostered}
+use Rattle.write_numbers.specs.Roster.{stateOf, firstSlot, slotCount, slotItem, Rostered}
 use Rattle.write.specs.Write.{emptyHeld, hasEmpty}
 use Rattle.write.specs.Empty.{itemEmpty}
 use Rattle.write.proofs.StateLaws.{Right, key-is, content-is, key-length}

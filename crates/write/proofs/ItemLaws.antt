@@ -24,7 +24,7 @@ use Rattle.image.proofs.ChildLaws.{words-append}
 use Rattle.image.proofs.TimesLaws.{eq-or-ne, lt-or-ge}
 use Rattle.lay.specs.Sheet.{byKind}
 use Rattle.lay.proofs.KindLaws.{kind-value, kind-table, kind-container}
-use Rattle.roster.specs.Roster.{stateOf, itemNumber, Rostered}
+use Rattle.write_numbers.specs.Roster.{stateOf, itemNumber, Rostered}
 use Rattle.write.specs.Sheeted.{kids, childTest, skipped, parentWord}
 use Rattle.write.proofs.StateLaws.{Right, key-is, content-is, above-is, content-past, key-length}
 use Rattle.write.proofs.SlotLaws.{child-none, child-own, child-some, skip-none, skip-own}

@@ -23,7 +23,7 @@ use Rattle.image.proofs.NumberLaws.{getD-made}
 use Rattle.image.proofs.RunLaws.{numbered-each, number-at, start-suc, start-most, start-all, length-numbered}
 use Rattle.write_order.specs.Chain.{starts}
 use Rattle.write_order.proofs.ChainLaws.{length-starts, starts-at}
-use Rattle.roster.specs.Roster.{stateOf}
+use Rattle.write_numbers.specs.Roster.{stateOf}
 use Rattle.write.specs.Sheeted.{kids, fromLast, Parents, Kin}
 use Rattle.write.proofs.StateLaws.{Right, among, among-hit, among-miss, among-none, members-are, above-is}
 

@@ -17,8 +17,8 @@ use Rattle.image.specs.Image.{alignOf, childrenOf, childWords, valueOf, coversO
 use Rattle.image.proofs.PlanLaws.{words-same}
 use Rattle.image.proofs.TimesLaws.{lt-or-ge}
 use Rattle.lay.specs.Sheet.{firstSlot, slotCount, slotWord, childWord, slotValue, slotCovers, sheetPlan, SheetFits}
-use Rattle.roster.specs.Roster as lists
-use Rattle.roster.specs.Roster.{stateOf, itemNumber, bucketWord, Rostered}
+use Rattle.write_numbers.specs.Roster as lists
+use Rattle.write_numbers.specs.Roster.{stateOf, itemNumber, bucketWord, Rostered}
 use Rattle.write.specs.Sheeted.{kids, fromLast, skipped, parentWord, slotOf, startOf, sizeOf, frontWords, backWords, slotWords, Kin, StartSheet, ChildSheet, SlotSheet, Firsts, Sheeted}
 use Rattle.write.proofs.StateLaws.{Right}
 use Rattle.write.proofs.SlotLaws.{start-value, start-guest, start-child, size-value, size-child}

@@ -13,7 +13,7 @@ use Rattle.build_memory.specs.Memory.{itemTotal, itemTable, itemParent, keySize
 use Rattle.image.specs.Number.{itemOf, numberOf}
 use Rattle.image.proofs.TimesLaws.{eq-or-ne}
 use Rattle.image.proofs.NumberLaws.{number-within, item-number, number-item, item-within, first-most}
-use Rattle.roster.specs.Roster.{stateOf, firstSlot, slotCount, slotItem, itemNumber, bucketWord, Rostered}
+use Rattle.write_numbers.specs.Roster.{stateOf, firstSlot, slotCount, slotItem, itemNumber, bucketWord, Rostered}
 use Rattle.write.specs.Sheeted.{childTest, skipped, parentWord, slotOf, Slotted}
 use Rattle.write.proofs.StateLaws.{Right, member-once, has-item, item-below, item-table}
 use Rattle.write.proofs.SlotLaws.{skip-none, skip-own, child-some}

@@ -24,7 +24,7 @@ use Rattle.build_memory.proofs.MemoryLaws.{sound-facts}
 use Rattle.build_rules.specs.Whole.{tableKnown, keyPlaced, keyShort, kindRight, valuePlaced, placeRight, keyUtf8, hashRight, keyRight, begunBy, parentRight, itemRight, wholeSound}
 use Rattle.build_rules.proofs.WholeLaws.{right-guest, item-guest}
 use Rattle.image.proofs.TimesLaws.{eq-or-ne, lt-or-ge, times-here, times-there, times-none, times-append}
-use Rattle.roster.specs.Roster.{stateOf}
+use Rattle.write_numbers.specs.Roster.{stateOf}
 
 -- ---- the rules, as facts
 

@@ -7,7 +7,7 @@ use Rattle.layout.specs.declared.refusal.Refusal.the-variants.{EmptyKey, ImageT
 use Rattle.image.specs.Plan.{chunkSize}
 use Rattle.image.specs.Image.{headerSize, depth}
 use Rattle.lay.specs.Sheet.{slotCount, sheetImage}
-use Rattle.roster.specs.Roster.{stateOf}
+use Rattle.write_numbers.specs.Roster.{stateOf}
 use Rattle.write.specs.Write.{hasEmpty, tooLong, imageFor}
 use Rattle.write.specs.declared.Written.{Written}
 

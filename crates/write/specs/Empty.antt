@@ -4,7 +4,7 @@ use mathlib.Core.Bool.{Bool, _&&_, _||_}
 use mathlib.Core.List.{List}
 use lib.Dec.{eqb}
 use Rattle.build_memory.specs.Memory.{keySize, itemKind, itemGuest, tableKind}
-use Rattle.roster.specs.Roster.{stateOf}
+use Rattle.write_numbers.specs.Roster.{stateOf}
 use Rattle.write.specs.Write.{hasEmpty}
 
 -- item i has the empty key, or holds a table with one, as deep as d goes

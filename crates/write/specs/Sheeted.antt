@@ -12,7 +12,7 @@ use Rattle.build_memory.specs.Memory.{emptyMark, itemTotal, itemTable, itemHash
 use Rattle.image.specs.Fits.{SamePlan}
 use Rattle.image.specs.Image.{planOf}
 use Rattle.lay.specs.Sheet.{sheetTables, sheetSlots, slotsAt, childrenAt, sheetSize, slotWord, childWord, byKind, sheetPlan, SheetFits, SlotFits}
-use Rattle.roster.specs.Roster.{stateOf, firstSlot, itemNumber, bucketWord}
+use Rattle.write_numbers.specs.Roster.{stateOf, firstSlot, itemNumber, bucketWord}
 
 -- every table of the sheet agrees with the table that the memory means, whatever nested tables are laid as
 pub record Sheeted (ws ar sheet : List ℕ) : Type 0 where

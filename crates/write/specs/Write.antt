@@ -18,7 +18,7 @@ use Rattle.build_rules.specs.Whole.{wholeSound}
 use Rattle.image.specs.Number.{itemOf}
 use Rattle.image.specs.Plan.{chunkSize}
 use Rattle.image.specs.Image.{headerSize, depth, imageOf}
-use Rattle.roster.specs.Roster.{stateOf}
+use Rattle.write_numbers.specs.Roster.{stateOf}
 use Rattle.write.specs.declared.Written.{Written}
 
 -- what an item holds, if it holds a table, has an empty key

@@ -9,7 +9,7 @@ ghost use mathlib.Core.Bool.{true};
 ghost use Prim.Native.Nat.{_<_};
 ghost use Rattle.build_memory.specs.Memory.{itemTotal};
 ghost use Rattle.build_rules.specs.Whole.{wholeSound};
-ghost use Rattle.roster.specs.Roster.{stateOf, Rostered};
+ghost use Rattle.write_numbers.specs.Roster.{stateOf, Rostered};
 ghost use Rattle.write.specs.Write.{hasEmpty};
 ghost use Rattle.write.specs.Empty.{itemEmpty};
 

@@ -10,7 +10,7 @@ ghost use lib.ListN.{length};
 ghost use Rattle.build_memory.specs.Memory.{itemTotal};
 ghost use Rattle.build_rules.specs.Whole.{wholeSound};
 ghost use Rattle.lay.specs.Sheet.{SlotFits};
-ghost use Rattle.roster.specs.Roster.{Rostered};
+ghost use Rattle.write_numbers.specs.Roster.{Rostered};
 ghost use Rattle.write.specs.Sheeted.{Clear, StartSheet, SlotSheet, Firsts, Sheeted};
 
 // Puts the head, which is the roster's, into a clear sheet.

@@ -10,7 +10,7 @@ use layout::refusal::Refusal;
 use build_memory::place::PLACED;
 use build_memory::place::TABLES;
 use build_memory::place::table_word;
-use roster::fill::roster_all;
+use write_numbers::fill::roster_all;
 use build_rules::judge::judge_whole;
 use words::wide::word_size;
 ghost use mathlib.Core.Path.{_≡_};
@@ -22,7 +22,7 @@ ghost use Rattle.model.specs.Builder.{mostTables};
 ghost use Rattle.build_memory.specs.Memory.{leastWords, tableTotal};
 ghost use Rattle.build_rules.specs.Whole.{wholeSound};
 ghost use Rattle.lay.specs.Sheet.{sheetTables, sheetImage, SheetFits};
-ghost use Rattle.roster.specs.Roster.{Rostered};
+ghost use Rattle.write_numbers.specs.Roster.{Rostered};
 ghost use Rattle.write.specs.Write.{isRoot, imageFor, writeAnswer, laidBy, imageAfter};
 ghost use Rattle.write.specs.Answer.{sheetAnswer, rootAnswer};
 

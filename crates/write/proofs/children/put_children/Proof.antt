@@ -5,7 +5,7 @@ use native.Mathlib.Omega.{arith}
 use lib.ListN.{length, getD, length-set}
 use Rattle.build_memory.specs.Memory.{itemTotal}
 use Rattle.lay.specs.Sheet.{childWord}
-use Rattle.roster.specs.Roster.{itemNumber}
+use Rattle.write_numbers.specs.Roster.{itemNumber}
 use Rattle.write.specs.Sheeted.{fromLast}
 use Rattle.write.proofs.SlotLaws.{number-read, set-behind, set-apart, set-past}
 use Rattle.write.proofs.children.put_children.Statement.{statement}

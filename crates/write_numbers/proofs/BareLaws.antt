@@ -1,0 +1,84 @@
+-- Laws of a table that has no item: a table past the last is one, and nothing is put for it. Assumes nothing.
+use Prim.Native.Nat.{ℕ, zero, suc, _+_, _≤_, _<_}
+use native.Mathlib.Omega.{arith}
+use mathlib.Core.Path.{_≡_, refl, sym, ap, _∙_}
+use mathlib.Core.Bool.{Bool, true, false}
+use mathlib.Core.List.{List, [], _∷_}
+use borrow.Author.Tests.{eqb-true, eq-eqb, ne-eqb}
+use lib.ListN.{length}
+use Rattle.words.specs.Hash.{plain}
+use Rattle.words.specs.Below.{someBelow}
+use Rattle.words.specs.Store.{putAt}
+use Rattle.words.proofs.BelowLaws.{some-below, below-some, some-turn}
+use Rattle.words.proofs.StoreLaws.{put-none}
+use Rattle.build_memory.specs.Memory.{tableTotal, itemTotal, itemTable}
+use Rattle.image.specs.Number.{hashesOf, byNumber}
+use Rattle.image.proofs.NumberLaws.{length-hashes, length-by-number}
+use Rattle.write_order.specs.Chain.{starts}
+use Rattle.write_order.specs.Items.{numbersPut}
+use Rattle.write_order.proofs.ChainLaws.{length-starts}
+use Rattle.write_order.proofs.ItemLaws.{numbers-start}
+use Rattle.write_numbers.specs.Roster.{stateOf}
+use Rattle.write_numbers.specs.Fill.{own, owned, inTable, hasItems, Fit, Put}
+use Rattle.write_numbers.proofs.OwnLaws.{own-pass}
+use Rattle.write_numbers.proofs.StateLaws.{state-members}
+
+-- ---- the search for an item
+
+module _ (ws : List ℕ) (t : ℕ) where
+  pub search-start : someBelow (inTable ws t) 0 ≡ false
+  unfolding someBelow
+  search-start = refl
+
+  pub search-turn : (i : ℕ) → someBelow (inTable ws t) i ≡ false → (itemTable ws i ≡ t → ⊥) → someBelow (inTable ws t) (i + 1) ≡ false
+  search-turn i none ne = some-turn (inTable ws t) i none (ne-eqb _ _ ne)
+
+  pub search-hit : (i : ℕ) → i < itemTotal ws → itemTable ws i ≡ t → true ≡ hasItems ws t
+  unfolding hasItems
+  search-hit i l e = sym (below-some (inTable ws t) (itemTotal ws) i l (eq-eqb _ _ e))
+
+  pub search-end : (i : ℕ) → i ≡ itemTotal ws → someBelow (inTable ws t) i ≡ false → false ≡ hasItems ws t
+  unfolding hasItems
+  search-end i e none = sym none ∙ ap (someBelow (inTable ws t)) e
+
+  pub past-none : Fit ws → tableTotal ws ≤ t → false ≡ hasItems ws t
+  unfolding hasItems
+  past-none fit past = by-case (someBelow (inTable ws t) (itemTotal ws)) refl
+    where
+      by-case : (b : Bool) → someBelow (inTable ws t) (itemTotal ws) ≡ b → false ≡ someBelow (inTable ws t) (itemTotal ws)
+      by-case true e = let (k, l, q) = some-below (inTable ws t) (itemTotal ws) e in let own : itemTable ws k ≡ t = eqb-true _ _ q in absurd (omega (arith, fit .known k l))
+      by-case false e = sym e
+
+-- ---- a table with none
+
+bare-own : (ws : List ℕ) (t n : ℕ) → ((i : ℕ) → i < n → itemTable ws i ≡ t → ⊥) → own ws t n ≡ []
+unfolding own
+bare-own ws t zero none = refl
+bare-own ws t (suc n) none = own-pass ws t n (none n (omega arith)) ∙ bare-own ws t n (λ i h. none i (omega arith))
+
+bare-owned : (ws : List ℕ) (t : ℕ) → hasItems ws t ≡ false → owned ws t ≡ []
+unfolding owned
+bare-owned ws t none = bare-own ws t (itemTotal ws) (λ i l e. let some : true ≡ hasItems ws t = search-hit ws t i l e in let z : _≡_ {A = ℕ} 0 1 = cc in omega arith)
+
+-- a list of no elements
+no-elements : (l : List ℕ) → length l ≡ 0 → l ≡ []
+no-elements [] e = refl
+no-elements (x ∷ l) e = absurd (omega arith)
+
+module _ (ws ar : List ℕ) (t : ℕ) (none : hasItems ws t ≡ false) where
+  no-members : length (stateOf ws ar t .members) ≡ 0
+  no-members = ap length (state-members ws ar t ∙ bare-owned ws t none)
+
+  no-numbers : byNumber plain (stateOf ws ar t) ≡ []
+  no-numbers = no-elements _ (length-by-number plain (stateOf ws ar t) ∙ no-members)
+
+  no-starts : starts (hashesOf plain (stateOf ws ar t)) ≡ []
+  no-starts = no-elements _ (length-starts (hashesOf plain (stateOf ws ar t)) ∙ length-hashes plain (stateOf ws ar t) ∙ no-members)
+
+  pub put-bare : (first : ℕ) (slots numbers buckets : List ℕ) → Put ws ar t first 0 slots slots numbers numbers buckets buckets
+  put-bare first slots numbers buckets = record {
+    count = sym no-members;
+    slots-are = sym (ap (putAt slots first) no-numbers ∙ put-none slots first);
+    buckets-are = sym (ap (putAt buckets first) no-starts ∙ put-none buckets first);
+    numbers-are = numbers-start numbers [] ∙ sym (ap (λ (m : List ℕ). numbersPut numbers m (length m)) no-numbers);
+  }

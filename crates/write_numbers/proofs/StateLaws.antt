@@ -1,0 +1,89 @@
+-- Laws of the tables that the words mean: a table's members are its items in the words, its keys those in the arena. Assumes nothing.
+use Prim.Native.Nat.{ℕ, zero, suc, _+_, _≤_, _<_}
+use native.Mathlib.Nat.{eq-or-lt-of-le, le-of-suc-le-suc}
+use native.Mathlib.Omega.{arith}
+use mathlib.Core.Path.{_≡_, refl, sym, ap, _∙_}
+use mathlib.Core.Bool.{Bool}
+use mathlib.Core.Logic.{⊎-elim}
+use mathlib.Core.List.{List, [], _∷_, _++_}
+use lib.Dec.{eqb}
+use lib.ListN.{length, getD, length-append, List·getD-append}
+use lib.Seq.{getD-at}
+use Rattle.words.specs.Choice.{pick}
+use Rattle.words.specs.Hash.{hashOf}
+use Rattle.model.specs.Table.{Entry, Has, times, entryAt, membersBelow, rowsOf}
+use Rattle.build_memory.specs.Memory.{itemTotal, itemTable, keyOf}
+use Rattle.build_memory.specs.Meaning.{entryOf, listed, meaning}
+use Rattle.write_order.specs.Key.{keyAt, hashAt, Known}
+use Rattle.write_numbers.specs.Roster.{stateOf}
+use Rattle.write_numbers.specs.Fill.{own, owned, Fit, Judged}
+use Rattle.write_numbers.proofs.OwnLaws.{length-own, own-below, own-once}
+
+length-listed : (f : ℕ → Entry) (n : ℕ) → length (listed f n) ≡ n
+unfolding listed
+length-listed f zero = refl
+length-listed f (suc n) = length-append (listed f n) (f n ∷ []) ∙ omega (arith, length-listed f n)
+
+get-listed : (f : ℕ → Entry) (d : Entry) (n i : ℕ) → i < n → getD (listed f n) i d ≡ f i
+unfolding listed
+get-listed f d zero i h = absurd (omega arith)
+get-listed f d (suc n) i h =
+    ⊎-elim
+    (λ e. rw e (getD-at (listed f n) (f n) [] d n (length-listed f n)))
+    (λ l. List·getD-append (listed f n) (f n ∷ []) d i (omega (arith, length-listed f n)) ∙ get-listed f d n i l)
+    (eq-or-lt-of-le (le-of-suc-le-suc h))
+
+module _ (ws ar : List ℕ) where
+  entry-at : (m i : ℕ) → i < m → entryAt (listed (entryOf ws ar) m) i ≡ entryOf ws ar i
+  unfolding entryAt
+  entry-at m i h = get-listed (entryOf ws ar) _ m i h
+
+  entry-table : (m i : ℕ) → i < m → entryAt (listed (entryOf ws ar) m) i .table ≡ itemTable ws i
+  unfolding entryOf
+  entry-table m i h = ap (λ (e : Entry). e .table) (entry-at m i h)
+
+  entry-key : (m i : ℕ) → i < m → entryAt (listed (entryOf ws ar) m) i .key ≡ keyAt ws ar i
+  unfolding entryOf keyOf keyAt
+  entry-key m i h = ap (λ (e : Entry). e .key) (entry-at m i h)
+
+  members-own : (m t n : ℕ) → n ≤ m → membersBelow (listed (entryOf ws ar) m) t n ≡ own ws t n
+  unfolding membersBelow own
+  members-own m t zero h = refl
+  members-own m t (suc n) h =
+      let test : eqb (entryAt (listed (entryOf ws ar) m) n .table) t ≡ eqb (itemTable ws n) t = ap (λ (x : ℕ). eqb x t) (entry-table m n (omega arith)) in
+      ap (λ (q : Bool). pick q (membersBelow (listed (entryOf ws ar) m) t n ++ (n ∷ [])) (membersBelow (listed (entryOf ws ar) m) t n)) test
+      ∙ ap (λ (l : List ℕ). pick (eqb (itemTable ws n) t) (l ++ (n ∷ [])) l) (members-own m t n (omega arith))
+
+  pub state-members : (t : ℕ) → stateOf ws ar t .members ≡ owned ws t
+  unfolding stateOf rowsOf meaning owned
+  state-members t =
+      ap (membersBelow (listed (entryOf ws ar) (itemTotal ws)) t) (length-listed (entryOf ws ar) (itemTotal ws))
+      ∙ members-own (itemTotal ws) t (itemTotal ws) (omega arith)
+
+  state-key : (t i : ℕ) → i < itemTotal ws → stateOf ws ar t .key i ≡ keyAt ws ar i
+  unfolding stateOf rowsOf meaning
+  state-key t i h = entry-key (itemTotal ws) i h
+
+  pub state-below : (t i : ℕ) → Has (stateOf ws ar t .members) i → i < itemTotal ws
+  unfolding owned
+  state-below t i h = own-below ws i t (itemTotal ws) (rw (state-members t) at h)
+
+  pub state-same : (t i : ℕ) → Has (stateOf ws ar t .members) i → stateOf ws ar t .key i ≡ keyAt ws ar i
+  state-same t i h = state-key t i (state-below t i h)
+
+  pub state-hash : (t i : ℕ) → Judged ws ar → Has (stateOf ws ar t .members) i → hashAt ws i ≡ hashOf (stateOf ws ar t .key i)
+  unfolding hashAt keyOf keyAt
+  state-hash t i judged h = judged .hash i (state-below t i h) ∙ ap hashOf (sym (state-same t i h))
+
+  pub state-once : (t x : ℕ) → times x (stateOf ws ar t .members) ≤ 1
+  unfolding owned
+  state-once t x = rw (state-members t) (own-once ws x t (itemTotal ws))
+
+-- their records lie in the words
+pub owned-known : (ws : List ℕ) (t : ℕ) → Fit ws → Known ws (owned ws t)
+unfolding Known owned
+owned-known ws t fit i h = omega (arith, own-below ws i t (itemTotal ws) h, fit .long, fit .few)
+
+pub owned-few : (ws : List ℕ) (t : ℕ) → Fit ws → length (owned ws t) ≤ 1024
+unfolding owned
+owned-few ws t fit = omega (arith, length-own ws t (itemTotal ws), fit .few)

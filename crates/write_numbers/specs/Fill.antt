@@ -1,0 +1,96 @@
+-- How a roster is filled, table by table: the items of a table among the first ones, the slots before a table, and what each step leaves.
+-- Assumes nothing: these are definitions.
+use Prim.Native.Nat.{ℕ, zero, suc, _+_, _*_, _≤_, _<_}
+use mathlib.Core.Path.{_≡_}
+use mathlib.Core.Bool.{Bool}
+use mathlib.Core.List.{List, [], _∷_, _++_}
+use lib.Dec.{eqb}
+use lib.ListN.{length, getD, take}
+use Rattle.words.specs.Choice.{pick}
+use Rattle.words.specs.Below.{someBelow}
+use Rattle.words.specs.Hash.{hashOf, plain}
+use Rattle.words.specs.Store.{putAt}
+use Rattle.model.specs.Builder.{mostItems}
+use Rattle.build_memory.specs.Memory.{word, leastWords, links, linkAt, emptyMark, tableTotal, itemTotal, itemTable, itemHash, keyOf}
+use Rattle.image.specs.Number.{keyOrder, hashesOf, bucketStart, byNumber, itemOf, numberOf}
+use Rattle.write_order.specs.Chain.{starts}
+use Rattle.write_order.specs.Items.{numbersPut}
+use Rattle.write_numbers.specs.Roster.{stateOf}
+
+-- the items of table t among the first n
+unfoldable pub own : List ℕ → ℕ → ℕ → List ℕ
+own ws t zero = []
+own ws t (suc n) = pick (eqb (itemTable ws n) t) (own ws t n ++ (n ∷ [])) (own ws t n)
+
+-- the items of table t
+unfoldable pub owned : List ℕ → ℕ → List ℕ
+owned ws t = own ws t (itemTotal ws)
+
+-- whether table t has one
+abbrev pub inTable : List ℕ → ℕ → ℕ → Bool
+inTable ws t i = eqb (itemTable ws i) t
+
+unfoldable pub hasItems : List ℕ → ℕ → Bool
+hasItems ws t = someBelow (inTable ws t) (itemTotal ws)
+
+-- how many of the first n items are in the tables before t
+unfoldable pub earlier : List ℕ → ℕ → ℕ → ℕ
+earlier ws n zero = 0
+earlier ws n (suc t) = earlier ws n t + length (own ws t n)
+
+-- the first slot of table t
+unfoldable pub slotOf : List ℕ → ℕ → ℕ
+slotOf ws t = earlier ws (itemTotal ws) t
+
+-- the words have room for all items that they count, each is in a table that there is, and the links hold the empty mark
+pub record Fit (ws : List ℕ) : Type 0 where
+  pub long : leastWords ≤ length ws
+  pub few : itemTotal ws ≤ mostItems
+  pub known : (i : ℕ) → i < itemTotal ws → itemTable ws i < tableTotal ws
+  pub empty : (j : ℕ) → j < links → word ws (linkAt j) ≡ emptyMark
+
+-- they fit, and the hash word of every item is the hash of its key
+pub record Judged (ws ar : List ℕ) : Type 0 where
+  pub fit : Fit ws
+  pub hash : (i : ℕ) → i < itemTotal ws → itemHash ws i ≡ hashOf (keyOf ws ar i)
+
+-- the items of table t are collected
+pub record Collected (ws : List ℕ) (t n : ℕ) (out out′ : List ℕ) : Type 0 where
+  pub count : n ≡ length (owned ws t)
+  pub put : out′ ≡ putAt out 0 (owned ws t)
+
+-- they are in the order of their keys
+pub record Ordered (ws ar : List ℕ) (t n : ℕ) (run : List ℕ) : Type 0 where
+  pub count : n ≡ length (stateOf ws ar t .members)
+  pub order : take n run ≡ keyOrder (stateOf ws ar t)
+
+-- they are numbered: the item of each number, the word of each bucket
+pub record Laid (ws ar : List ℕ) (t n : ℕ) (items firsts : List ℕ) : Type 0 where
+  pub count : n ≡ length (stateOf ws ar t .members)
+  pub items-are : take n items ≡ byNumber plain (stateOf ws ar t)
+  pub firsts-are : take n firsts ≡ starts (hashesOf plain (stateOf ws ar t))
+
+-- they are put into the slots from `first` on, their numbers and the words of their buckets too
+pub record Put (ws ar : List ℕ) (t first n : ℕ) (slots slots′ numbers numbers′ buckets buckets′ : List ℕ) : Type 0 where
+  pub count : n ≡ length (stateOf ws ar t .members)
+  pub slots-are : slots′ ≡ putAt slots first (byNumber plain (stateOf ws ar t))
+  pub buckets-are : buckets′ ≡ putAt buckets first (starts (hashesOf plain (stateOf ws ar t)))
+  pub numbers-are : numbers′ ≡ numbersPut numbers (byNumber plain (stateOf ws ar t)) (length (byNumber plain (stateOf ws ar t)))
+
+-- there is room for the slots of table t
+abbrev pub Fits : List ℕ → ℕ → ℕ → Type 0
+Fits ws t first = first + length (owned ws t) ≤ mostItems
+
+-- the lists have their lengths
+pub record Sized (slots numbers buckets : List ℕ) : Type 0 where
+  pub of-slots : length slots ≡ mostItems
+  pub of-numbers : length numbers ≡ mostItems
+  pub of-buckets : length buckets ≡ mostItems
+
+-- the tables before `most` are filled
+pub record Filled (ws ar : List ℕ) (most : ℕ) (heads slots numbers buckets : List ℕ) : Type 0 where
+  pub starts-are : (t : ℕ) → t < most → getD heads (2 * t) 0 ≡ slotOf ws t
+  pub counts-are : (t : ℕ) → t < most → getD heads (2 * t + 1) 0 ≡ length (stateOf ws ar t .members)
+  pub items-are : (t k : ℕ) → t < most → k < length (stateOf ws ar t .members) → getD slots (slotOf ws t + k) 0 ≡ itemOf plain (stateOf ws ar t) k
+  pub buckets-are : (t b : ℕ) → t < most → b < length (stateOf ws ar t .members) → getD buckets (slotOf ws t + b) 0 ≡ bucketStart (hashesOf plain (stateOf ws ar t)) b
+  pub numbers-are : (i : ℕ) → i < itemTotal ws → itemTable ws i < most → getD numbers i 0 ≡ numberOf plain (stateOf ws ar (itemTable ws i)) i
