@@ -22,8 +22,8 @@ use Rattle.image.specs.Plan.{word, wordsOf}
 use Rattle.image.specs.Image.{parentNumber, childWords}
 use Rattle.image.proofs.ChildLaws.{words-append}
 use Rattle.image.proofs.TimesLaws.{eq-or-ne, lt-or-ge}
-use Rattle.lay.specs.Sheet.{byKind}
-use Rattle.lay.proofs.KindLaws.{kind-value, kind-table, kind-container}
+use Rattle.write_bytes.specs.Sheet.{byKind}
+use Rattle.write_bytes.proofs.KindLaws.{kind-value, kind-table, kind-container}
 use Rattle.write_numbers.specs.Roster.{stateOf, itemNumber, Rostered}
 use Rattle.write.specs.Sheeted.{kids, childTest, skipped, parentWord}
 use Rattle.write.proofs.StateLaws.{Right, key-is, content-is, above-is, content-past, key-length}

@@ -16,7 +16,7 @@ use Rattle.image.specs.Fits.{SamePlan}
 use Rattle.image.specs.Image.{alignOf, childrenOf, childWords, valueOf, coversOf, planOf}
 use Rattle.image.proofs.PlanLaws.{words-same}
 use Rattle.image.proofs.TimesLaws.{lt-or-ge}
-use Rattle.lay.specs.Sheet.{firstSlot, slotCount, slotWord, childWord, slotValue, slotCovers, sheetPlan, SheetFits}
+use Rattle.write_bytes.specs.Sheet.{firstSlot, slotCount, slotWord, childWord, slotValue, slotCovers, sheetPlan, SheetFits}
 use Rattle.write_numbers.specs.Roster as lists
 use Rattle.write_numbers.specs.Roster.{stateOf, itemNumber, bucketWord, Rostered}
 use Rattle.write.specs.Sheeted.{kids, fromLast, skipped, parentWord, slotOf, startOf, sizeOf, frontWords, backWords, slotWords, Kin, StartSheet, ChildSheet, SlotSheet, Firsts, Sheeted}

@@ -12,8 +12,8 @@ use Rattle.image.specs.Fits.{SamePlan}
 use Rattle.image.specs.Image.{headerSize, depth, planOf, tableBytes, imageOf}
 use Rattle.image.proofs.SameLaws.{plan-same}
 use Rattle.image.proofs.TimesLaws.{eq-or-ne}
-use Rattle.lay.specs.Sheet.{sheetTables, sheetSlots, kindValue, kindTable, firstSlot, slotCount, slotWord, childWord, byKind, slotValue, slotCovers, sheetPlan, sheetBytes, sheetImage, SheetFits}
-use Rattle.lay.proofs.KindLaws.{kind-value, kind-container}
+use Rattle.write_bytes.specs.Sheet.{sheetTables, sheetSlots, kindValue, kindTable, firstSlot, slotCount, slotWord, childWord, byKind, slotValue, slotCovers, sheetPlan, sheetBytes, sheetImage, SheetFits}
+use Rattle.write_bytes.proofs.KindLaws.{kind-value, kind-container}
 use Rattle.write_numbers.specs.Roster.{stateOf}
 use Rattle.write.specs.Write.{imageFor}
 use Rattle.write.specs.Sheeted.{Sheeted}

@@ -13,7 +13,7 @@ use Rattle.words.specs.Store.{putAt}
 use Rattle.words.proofs.ChoiceLaws.{pick-true, pick-false, both}
 use Rattle.build_memory.specs.Memory.{emptyMark, itemTable, keySize, itemParent, itemKind, valueStart, valueSize, itemGuest, containerKind}
 use Rattle.image.proofs.TimesLaws.{eq-or-ne}
-use Rattle.lay.proofs.KindLaws.{kind-value, kind-table, kind-container}
+use Rattle.write_bytes.proofs.KindLaws.{kind-value, kind-table, kind-container}
 use Rattle.write_numbers.specs.Roster.{firstSlot, itemNumber}
 use Rattle.write.specs.Sheeted.{childTest, skipped, parentWord, slotOf, startOf, sizeOf}
 

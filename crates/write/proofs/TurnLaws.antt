@@ -14,7 +14,7 @@ use Rattle.words.proofs.HashLaws.{hash-below}
 use Rattle.words.proofs.StoreLaws.{length-put, get-put, get-before, get-after, put-append}
 use Rattle.build_memory.specs.Memory.{itemTotal, itemHash, keyStart, keySize, itemKind, valueStart, valueSize, itemGuest, keyOf}
 use Rattle.image.proofs.TimesLaws.{eq-or-ne, lt-or-ge}
-use Rattle.lay.specs.Sheet.{slotWord, SlotFits}
+use Rattle.write_bytes.specs.Sheet.{slotWord, SlotFits}
 use Rattle.write_numbers.specs.Roster.{bucketWord, Rostered}
 use Rattle.write.specs.Sheeted.{skipped, parentWord, slotOf, startOf, sizeOf, frontWords, backWords, slotWords, startWord, StartSheet, ChildSheet, SlotSheet, Firsts}
 use Rattle.write.proofs.StateLaws.{Right}

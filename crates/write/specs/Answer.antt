@@ -6,7 +6,7 @@ use Rattle.words.specs.Choice.{pick}
 use Rattle.layout.specs.declared.refusal.Refusal.the-variants.{EmptyKey, ImageTooLong}
 use Rattle.image.specs.Plan.{chunkSize}
 use Rattle.image.specs.Image.{headerSize, depth}
-use Rattle.lay.specs.Sheet.{slotCount, sheetImage}
+use Rattle.write_bytes.specs.Sheet.{slotCount, sheetImage}
 use Rattle.write_numbers.specs.Roster.{stateOf}
 use Rattle.write.specs.Write.{hasEmpty, tooLong, imageFor}
 use Rattle.write.specs.declared.Written.{Written}

@@ -11,7 +11,7 @@ use Rattle.words.specs.Hash.{plain}
 use Rattle.build_memory.specs.Memory.{emptyMark, itemTotal, itemTable, itemHash, keyStart, keySize, itemParent, itemKind, valueStart, valueSize, itemGuest, containerKind}
 use Rattle.image.specs.Fits.{SamePlan}
 use Rattle.image.specs.Image.{planOf}
-use Rattle.lay.specs.Sheet.{sheetTables, sheetSlots, slotsAt, childrenAt, sheetSize, slotWord, childWord, byKind, sheetPlan, SheetFits, SlotFits}
+use Rattle.write_bytes.specs.Sheet.{sheetTables, sheetSlots, slotsAt, childrenAt, sheetSize, slotWord, childWord, byKind, sheetPlan, SheetFits, SlotFits}
 use Rattle.write_numbers.specs.Roster.{stateOf, firstSlot, itemNumber, bucketWord}
 
 -- every table of the sheet agrees with the table that the memory means, whatever nested tables are laid as

@@ -9,7 +9,7 @@ ghost use Prim.Native.Nat.{ℕ, _<_};
 ghost use lib.ListN.{length};
 ghost use Rattle.build_memory.specs.Memory.{itemTotal};
 ghost use Rattle.build_rules.specs.Whole.{wholeSound};
-ghost use Rattle.lay.specs.Sheet.{SlotFits};
+ghost use Rattle.write_bytes.specs.Sheet.{SlotFits};
 ghost use Rattle.write_numbers.specs.Roster.{Rostered};
 ghost use Rattle.write.specs.Sheeted.{Clear, StartSheet, SlotSheet, Firsts, Sheeted};
 

@@ -4,7 +4,7 @@ use mathlib.Core.Path.{_≡_, refl}
 use native.Mathlib.Omega.{arith}
 use lib.ListN.{length, getD, length-set}
 use Rattle.build_memory.specs.Memory.{itemTotal}
-use Rattle.lay.specs.Sheet.{childWord}
+use Rattle.write_bytes.specs.Sheet.{childWord}
 use Rattle.write_numbers.specs.Roster.{itemNumber}
 use Rattle.write.specs.Sheeted.{fromLast}
 use Rattle.write.proofs.SlotLaws.{number-read, set-behind, set-apart, set-past}

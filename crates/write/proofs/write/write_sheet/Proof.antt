@@ -1,7 +1,7 @@
 -- `write::write::write_sheet` meets its contract, answer by answer. Assumes nothing.
 use mathlib.Core.Path.{sym, _∙_}
 use native.Mathlib.Omega.{arith}
-use Rattle.lay.proofs.MeasureLaws.{end-is, long-is}
+use Rattle.write_bytes.proofs.MeasureLaws.{end-is, long-is}
 use Rattle.write.proofs.AnswerLaws.{sheet-long, sheet-wide, sheet-laid}
 use borrow.Author.Needs.{needs}
 use Rattle.write.proofs.write.write_sheet.Statement.{statement}

@@ -1,0 +1,117 @@
+-- What the small stores leave: words behind one another, a record in two halves, a fragment with its zeros. Assumes nothing.
+use mathlib.Core.Path.{_≡_, sym, ap, _∙_}
+use mathlib.Core.List.{List, [], _∷_, _++_, append-assoc}
+use Prim.Native.Nat.{ℕ, _+_, _*_, _-_, _≤_, _<_}
+use native.Mathlib.Omega.{arith}
+use borrow.Author.Tests.{eq-eqb, ne-eqb}
+use lib.ListN.{length, length-append}
+use Rattle.words.specs.Choice.{pick}
+use Rattle.words.specs.Store.{part, putAt, zeros}
+use Rattle.words.specs.Field.{spelled}
+use Rattle.words.proofs.StoreLaws.{put-none, put-append, length-part}
+use Rattle.words.proofs.FieldLaws.{length-spelled}
+use Rattle.image.specs.Laid.{Laid}
+use Rattle.image.specs.Plan.{word, wordsOf}
+use Rattle.image.proofs.PlanLaws.{length-words, words-more, fourth-word}
+use Rattle.write_bytes.specs.Sheet.{kindValue, slotWord, childWord}
+use Rattle.write_bytes.specs.Slot.{headBytes, slotCover, slotRecord, slotKey, plainValue}
+
+-- a store right behind another is one store of both
+pub put-then : (l : List ℕ) (at : ℕ) (a b : List ℕ) {m n : List ℕ} {mid : ℕ} → mid ≡ at + length a → m ≡ putAt l at a → n ≡ putAt m mid b → n ≡ putAt l at (a ++ b)
+put-then l at a b e p q = q ∙ rw (p, e, put-append)
+
+-- ---- words
+
+pub put-head : (l : List ℕ) (at count : ℕ) {m n : List ℕ} → m ≡ putAt l at (word 0x28000000) → n ≡ putAt m (at + 4) (word count) → n ≡ putAt l at (headBytes count)
+unfolding headBytes
+put-head l at count p q = put-then l at (word 0x28000000) (word count) (ap (λ (n : ℕ). at + n) (sym (length-spelled 4 0x28000000))) p q
+
+pub length-head : (count : ℕ) → length (headBytes count) ≡ 8
+unfolding headBytes
+length-head count = length-append (word 0x28000000) (word count) ∙ omega (arith, length-spelled 4 0x28000000, length-spelled 4 count)
+
+-- no word yet, and a word more
+pub words-start : (l : List ℕ) (at : ℕ) (f : ℕ → ℕ) → l ≡ putAt l at (wordsOf f 0)
+unfolding wordsOf
+words-start l at f = sym (put-none l at)
+
+pub words-turn : (l : List ℕ) (at : ℕ) (f : ℕ → ℕ) (b : ℕ) {m n : List ℕ} {w : ℕ} → m ≡ putAt l at (wordsOf f b) → w ≡ f b → n ≡ putAt m (at + 4 * b) (word w)
+    → n ≡ putAt l at (wordsOf f (b + 1))
+words-turn l at f b {m} {n} {w} p e q =
+    rw (words-more f b) (put-then l at (wordsOf f b) (word (f b)) (ap (λ (k : ℕ). at + k) (sym (length-words f b))) p (rw (← e) q))
+
+pub words-laid : (l : List ℕ) (at : ℕ) (f : ℕ → ℕ) (n b : ℕ) {m : List ℕ} → b ≡ n → m ≡ putAt l at (wordsOf f b) → Laid l m at (wordsOf f n) (at + 4 * n)
+words-laid l at f n b {m} e p = record {
+  end-is = ap (λ (k : ℕ). at + k) (sym (length-words f n));
+  image-is = p ∙ ap (λ (k : ℕ). putAt l at (wordsOf f k)) e;
+}
+
+-- ---- a record
+
+length-three : (a b c : ℕ) → length (word a ++ (word b ++ word c)) ≡ 12
+length-three a b c =
+    length-append (word a) (word b ++ word c) ∙ omega (arith, length-append (word b) (word c), length-spelled 4 a, length-spelled 4 b, length-spelled 4 c)
+
+pub put-three : (l : List ℕ) (to a b c : ℕ) {m n o : List ℕ} → m ≡ putAt l to (word a) → n ≡ putAt m (to + 4) (word b) → o ≡ putAt n (to + 8) (word c)
+    → o ≡ putAt l to (word a ++ (word b ++ word c))
+put-three l to a b c {m} {n} {o} p q r =
+    let two : o ≡ putAt m (to + 4) (word b ++ word c) = put-then m (to + 4) (word b) (word c) (omega (arith, length-spelled 4 b)) q r in
+    put-then l to (word a) (word b ++ word c) (ap (λ (k : ℕ). to + k) (sym (length-spelled 4 a))) p two
+
+-- both halves of a record
+pub put-record : (sheet l : List ℕ) (s to at start : ℕ) {hash parent size kind stop : ℕ} {m n : List ℕ}
+    → hash ≡ slotWord sheet s 0 → parent ≡ slotWord sheet s 1 → size ≡ slotWord sheet s 3 → kind ≡ slotWord sheet s 4 → stop ≡ start + slotCover sheet s
+    → slotWord sheet s 3 < 65536 → slotWord sheet s 4 < 256
+    → m ≡ putAt l to (word hash ++ (word parent ++ word at)) → n ≡ putAt m (to + 12) (word (size + 65536 * kind) ++ (word start ++ word stop))
+    → n ≡ putAt l to (slotRecord sheet s at start)
+unfolding slotRecord
+put-record sheet l s to at start {hash} {parent} {size} {kind} {stop} {m} {n} eh ep es ek et small few p q =
+    let front = word (slotWord sheet s 0) ++ (word (slotWord sheet s 1) ++ word at) in
+    let back = (spelled 2 (slotWord sheet s 3) ++ (slotWord sheet s 4 ∷ 0 ∷ [])) ++ (word start ++ word (start + slotCover sheet s)) in
+    let p′ : m ≡ putAt l to front = rw (← eh, ← ep) p in
+    let q′ : n ≡ putAt m (to + 12) back = rw (← fourth-word (slotWord sheet s 3) (slotWord sheet s 4) small few, ← es, ← ek, ← et) q in
+    put-then l to front back (ap (λ (k : ℕ). to + k) (sym (length-three (slotWord sheet s 0) (slotWord sheet s 1) at))) p′ q′
+    ∙ ap (putAt l to) (simp append-assoc)
+
+-- ---- a fragment
+
+pub part-laid : (l arena : List ℕ) (start size at : ℕ) {m : List ℕ} → start + size ≤ length arena → m ≡ putAt l at (part arena start size)
+    → Laid l m at (part arena start size) (at + size)
+part-laid l arena start size at fits e = record { end-is = ap (λ (n : ℕ). at + n) (sym (length-part arena start size fits)); image-is = e }
+
+pub part-end : (sheet arena l : List ℕ) (s at : ℕ) {from size end : ℕ} {m : List ℕ} → from ≡ slotWord sheet s 2 → size ≡ slotWord sheet s 3
+    → slotWord sheet s 2 + slotWord sheet s 3 ≤ length arena → Laid l m at (part arena from size) end → end ≡ at + slotWord sheet s 3
+part-end sheet arena l s at {from} {size} {end} ef es fits laid =
+    let e : end ≡ at + length (part arena (slotWord sheet s 2) (slotWord sheet s 3)) = rw (← ef, ← es) (laid .end-is) in
+    e ∙ ap (λ (n : ℕ). at + n) (length-part arena (slotWord sheet s 2) (slotWord sheet s 3) fits)
+
+-- and the zeros behind it
+pub put-key : (sheet arena l : List ℕ) (s at start : ℕ) {from size end : ℕ} {m n : List ℕ} → from ≡ slotWord sheet s 2 → size ≡ slotWord sheet s 3
+    → slotWord sheet s 2 + slotWord sheet s 3 ≤ length arena → Laid l m at (part arena from size) end → n ≡ putAt m end (zeros (start - end))
+    → n ≡ putAt l at (slotKey sheet arena s at start)
+unfolding slotKey
+put-key sheet arena l s at start {from} {size} {end} {m} {n} ef es fits laid q =
+    let bytes = part arena (slotWord sheet s 2) (slotWord sheet s 3) in
+    let p : m ≡ putAt l at bytes = rw (← ef, ← es) (laid .image-is) in
+    let e : end ≡ at + length bytes = rw (← ef, ← es) (laid .end-is) in
+    let f : end ≡ at + slotWord sheet s 3 = part-end sheet arena l s at ef es fits laid in
+    put-then l at bytes (zeros (start - (at + slotWord sheet s 3))) e p (q ∙ ap (λ (k : ℕ). putAt m end (zeros (start - k))) f)
+
+-- ---- a value that is no nested table
+
+module _ (sheet arena : List ℕ) (s : ℕ) where
+  pub plain-bytes : slotWord sheet s 4 ≡ kindValue → plainValue sheet arena s ≡ part arena (slotWord sheet s 5) (slotWord sheet s 6)
+  unfolding plainValue pick
+  plain-bytes e = rw (eq-eqb (slotWord sheet s 4) 118 e)
+
+  pub plain-children : (slotWord sheet s 4 ≡ kindValue → ⊥) → plainValue sheet arena s ≡ wordsOf (λ j. childWord sheet (slotWord sheet s 5 + j)) (slotWord sheet s 6)
+  unfolding plainValue pick
+  plain-children n = rw (ne-eqb (slotWord sheet s 4) 118 n)
+
+  pub bytes-laid : {l m : List ℕ} {at start size end : ℕ} → slotWord sheet s 4 ≡ kindValue → start ≡ slotWord sheet s 5 → size ≡ slotWord sheet s 6
+      → Laid l m at (part arena start size) end → Laid l m at (plainValue sheet arena s) end
+  bytes-laid k e f p = rw (plain-bytes k, ← e, ← f) p
+
+  pub children-laid : {l m : List ℕ} {at start size end : ℕ} → (slotWord sheet s 4 ≡ kindValue → ⊥) → start ≡ slotWord sheet s 5 → size ≡ slotWord sheet s 6
+      → Laid l m at (wordsOf (λ j. childWord sheet (start + j)) size) end → Laid l m at (plainValue sheet arena s) end
+  children-laid k e f p = rw (plain-children k) (rw (← e, ← f) p)

@@ -1,0 +1,123 @@
+-- A table of a sheet: its plan by slots, the turns of the loop over its items, and the whole laid. Assumes nothing.
+use mathlib.Core.Path.{_≡_, refl, sym, ap, _∙_}
+use mathlib.Core.List.{List, [], _++_, append-assoc}
+use Prim.Native.Nat.{ℕ, suc, _+_, _*_, _-_, _≤_, _<_}
+use native.Mathlib.Numerals.{add-one}
+use native.Mathlib.Omega.{arith}
+use lib.ListN.{length, length-append}
+use Rattle.words.specs.Store.{part, putAt}
+use Rattle.words.proofs.StoreLaws.{put-none, put-comm, length-part}
+use Rattle.image.specs.Plan.{Plan, wordsOf, chunkSize, valueStart, itemBytes, payload, place, recordBytes, records, planBytes}
+use Rattle.image.specs.Laid.{Laid}
+use Rattle.image.proofs.LaidLaws.{put-both}
+use Rattle.image.proofs.PlanLaws.{length-words, length-record, length-records, length-item, place-zero, place-next, place-rises, payload-more, records-more, plan-end}
+use Rattle.write_bytes.specs.Sheet.{sheetTables, sheetSlots, firstSlot, slotCount, slotWord, slotCovers, sheetPlan, sheetBytes, SheetFits}
+use Rattle.write_bytes.specs.Slot.{headBytes, slotStart, slotCover, slotRecord, slotKey, slotItem}
+use Rattle.write_bytes.proofs.PutLaws.{put-then, length-head}
+
+-- ---- a plan, and what a loop over its items has laid
+
+place-is : (p : Plan) (at k : ℕ) → place p at k ≡ at + length (payload p at k)
+unfolding place
+place-is p at k = refl
+
+-- where the next item starts
+pub place-more : (p : Plan) (at k : ℕ) → place p at (k + 1) ≡ place p at k + length (itemBytes p k (place p at k))
+place-more p at k = rw add-one (place-next p at k ∙ sym (length-item p k (place p at k)))
+
+regroup : (p : Plan) (at : ℕ)
+    → ((headBytes (p .count) ++ wordsOf (p .first) (p .count)) ++ records p (at + chunkSize (p .count)) (p .count)) ++ payload p (at + chunkSize (p .count)) (p .count)
+    ≡ planBytes p at
+unfolding planBytes headBytes
+regroup p at = simp append-assoc
+
+-- the records of the first k items from `first` on, their fragments and values from `base` on, laid behind the front of a table
+pub record Half (p : Plan) (front image : List ℕ) (first base k end : ℕ) : Type 0 where
+  pub end-is : end ≡ place p base k
+  pub image-is : image ≡ putAt (putAt front first (records p base k)) base (payload p base k)
+
+module _ (p : Plan) where
+  pub half-none : (front : List ℕ) (first base end : ℕ) → end ≡ base → Half p front front first base 0 end
+  unfolding records payload
+  half-none front first base end e = record {
+    end-is = e ∙ sym (place-zero p base);
+    image-is = sym (put-none (putAt front first []) base ∙ put-none front first);
+  }
+
+  pub half-more : {front image after : List ℕ} (first base k : ℕ) {end stop : ℕ} {rec item : List ℕ} → first + 24 * k + 24 ≤ base → Half p front image first base k end
+      → rec ≡ recordBytes p k end (valueStart p k end) → item ≡ itemBytes p k end → Laid (putAt image (first + 24 * k) rec) after end item stop
+      → Half p front after first base (k + 1) stop
+  half-more {front} {image} {after} first base k {end} {stop} {rec} {item} apart h er ei laid =
+      let here = place p base k in
+      let e : end ≡ here = h .end-is in
+      let rec1 = recordBytes p k here (valueStart p k here) in
+      let long : length rec1 ≡ 24 = length-record p k here (valueStart p k here) in
+      let q : first + 24 * k ≡ first + length (records p base k) = ap (λ (n : ℕ). first + n) (sym (length-records p base k)) in
+      let er1 : rec ≡ rec1 = er ∙ rw e in
+      let ei1 : item ≡ itemBytes p k here = ei ∙ rw e in
+      let mid : after ≡ putAt (putAt image (first + 24 * k) rec1) end (itemBytes p k here) = rw (← er1, ← ei1) (laid .image-is) in
+      let base-below : base ≤ end = omega (arith, e, place-rises p base 0 k (omega arith), place-zero p base) in
+      let swapped : after ≡ putAt (putAt image end (itemBytes p k here)) (first + 24 * k) rec1 =
+      mid ∙ put-comm image (first + 24 * k) rec1 end (itemBytes p k here) (omega (arith, long)) in
+      record {
+        end-is = laid .end-is ∙ rw (ei1, e) (sym (place-more p base k));
+        image-is = rw (records-more p base k, payload-more p base k)
+            (put-both front first base (records p base k) (payload p base k) rec1 (itemBytes p k here) (h .image-is) (e ∙ place-is p base k) refl q (omega (arith, long)) swapped);
+      }
+
+  -- front, records, fragments and values are the table
+  pub half-all : (l : List ℕ) (at first : ℕ) {front image : List ℕ} {end : ℕ} → first ≡ at + 8 + 4 * p .count
+      → front ≡ putAt l at (headBytes (p .count) ++ wordsOf (p .first) (p .count)) → Half p front image first (at + chunkSize (p .count)) (p .count) end
+      → Laid l image at (planBytes p at) end
+  unfolding chunkSize
+  half-all l at first {front} {image} {end} ef f h =
+      let n = p .count in
+      let base = at + (8 + 28 * n) in
+      let start = headBytes n ++ wordsOf (p .first) n in
+      let long : length start ≡ 8 + 4 * n = length-append (headBytes n) (wordsOf (p .first) n) ∙ omega (arith, length-head n, length-words (p .first) n) in
+      let a : putAt front first (records p base n) ≡ putAt l at (start ++ records p base n) = put-then l at start (records p base n) (omega (arith, long, ef)) f refl in
+      let size : length (start ++ records p base n) ≡ 8 + 28 * n = length-append start (records p base n) ∙ omega (arith, long, length-records p base n) in
+      let b : image ≡ putAt l at ((start ++ records p base n) ++ payload p base n) =
+      put-then l at (start ++ records p base n) (payload p base n) (omega (arith, size)) a (h .image-is) in
+      record { end-is = h .end-is ∙ sym (plan-end p at); image-is = b ∙ ap (putAt l at) (regroup p at) }
+
+-- ---- a sheet's table as a plan, slot by slot
+
+module _ (inner : ℕ → ℕ → List ℕ) (sheet arena : List ℕ) (t : ℕ) where
+  pub plan-count : sheetPlan inner sheet arena t .count ≡ slotCount sheet t
+  unfolding sheetPlan
+  plan-count = refl
+
+  pub plan-first : (n : ℕ) → wordsOf (sheetPlan inner sheet arena t .first) n ≡ wordsOf (λ b. slotWord sheet (firstSlot sheet t + b) 7) n
+  unfolding sheetPlan
+  plan-first n = refl
+
+  module _ (fits : SheetFits sheet arena) (known : t < sheetTables) (k : ℕ) (less : k < slotCount sheet t) where
+    pub slot-below : firstSlot sheet t + k < sheetSlots
+    slot-below = omega (arith, fits .tables t known)
+
+    fragment-size : length (part arena (slotWord sheet (firstSlot sheet t + k) 2) (slotWord sheet (firstSlot sheet t + k) 3)) ≡ slotWord sheet (firstSlot sheet t + k) 3
+    fragment-size = length-part arena (slotWord sheet (firstSlot sheet t + k) 2) (slotWord sheet (firstSlot sheet t + k) 3) (fits .slots (firstSlot sheet t + k) slot-below .fragment)
+
+    pub plan-start : (at : ℕ) → valueStart (sheetPlan inner sheet arena t) k at ≡ slotStart sheet (firstSlot sheet t + k) at
+    unfolding sheetPlan valueStart slotStart
+    plan-start at = rw fragment-size
+
+    pub plan-item : (at : ℕ) → itemBytes (sheetPlan inner sheet arena t) k at ≡ slotItem inner sheet arena (firstSlot sheet t + k) at
+    unfolding sheetPlan itemBytes slotItem slotKey
+    plan-item at = rw (plan-start at, fragment-size)
+
+    pub plan-record : (at start : ℕ) → recordBytes (sheetPlan inner sheet arena t) k at start ≡ slotRecord sheet (firstSlot sheet t + k) at start
+    unfolding sheetPlan recordBytes slotRecord slotCovers slotCover
+    plan-record at start = rw fragment-size
+
+-- ---- a table by the depth left
+
+module _ (sheet arena : List ℕ) (t at d : ℕ) where
+  pub table-none : d ≡ 0 → sheetBytes sheet arena d t at ≡ []
+  unfolding sheetBytes
+  table-none e = rw e
+
+  pub table-plan : (d ≡ 0 → ⊥) → sheetBytes sheet arena d t at ≡ planBytes (sheetPlan (sheetBytes sheet arena (d - 1)) sheet arena t) at
+  unfolding sheetBytes
+  table-plan n = let e : d ≡ suc (d - 1) = omega arith in ap (λ (m : ℕ). sheetBytes sheet arena m t at) e

@@ -1,0 +1,154 @@
+// Bytes laid into an image: a table's head and bucket words, a record, a fragment with its zeros, a value.
+use crate::sheet::child_word;
+use crate::sheet::slot_word;
+use crate::slot::VALUE;
+use crate::slot::cover;
+use words::field::put_word;
+use words::store::put_bytes;
+use words::store::put_zeros;
+ghost use mathlib.Core.Path.{_≡_};
+ghost use mathlib.Core.List.{_++_};
+ghost use Prim.Native.Nat.{ℕ, _+_, _*_, _≤_, _<_, _^_};
+ghost use lib.ListN.{length};
+ghost use Rattle.words.specs.Store.{part, putAt};
+ghost use Rattle.image.specs.Laid.{Laid};
+ghost use Rattle.image.specs.Plan.{word, wordsOf};
+ghost use Rattle.write_bytes.specs.Sheet.{slotWord, childWord, sheetSlots, sheetSize, kindTable, SheetFits};
+ghost use Rattle.write_bytes.specs.Slot.{headBytes, slotRecord, slotKey, slotCover, plainValue, SlotIn, CoverFits, RecordFits};
+
+// The first word of every table: a shift of 5, and no bloom words.
+const MARK: u32 = 0x2800_0000;
+
+// Lays a table's first word and its count of buckets.
+fn lay_head(image: &mut [u8], count: usize, at: usize)
+    requires { ⌜ (at + 8 ≤ length (now image)) × (count < 2 ^ 32) ⌝ }
+    ensures { λ _. ⌜ now (image .exit) ≡ putAt (now (image .entry)) at (headBytes count) ⌝ }
+{
+    put_word(image, at, MARK);
+    put_word(image, at + 4, count as u32);
+}
+
+// Lays the bucket words of a table, whose slots begin with `first`.
+fn lay_buckets(sheet: &[usize], image: &mut [u8], first: usize, count: usize, at: usize)
+    requires { ⌜ (length (now sheet) ≡ sheetSize) × (first + count ≤ sheetSlots) ⌝ }
+    requires { ⌜ ((b : ℕ) → b < count → slotWord (now sheet) (first + b) 7 < 2 ^ 32) ⌝ }
+    requires { ⌜ at + 4 * count ≤ length (now image) ⌝ }
+    ensures { λ _. ⌜ now (image .exit) ≡ putAt (now (image .entry)) at (wordsOf (λ b. slotWord (now (sheet .entry)) (first + b) 7) count) ⌝ }
+{
+    let mut b = 0;
+    while b < count {
+        let word = slot_word(sheet, first + b, 7);
+        put_word(image, at + 4 * b, word as u32);
+        b += 1;
+    }
+}
+
+// Lays what stands before a table's records: its head and its bucket words.
+pub fn lay_front(sheet: &[usize], image: &mut [u8], first: usize, count: usize, at: usize)
+    requires { ⌜ (length (now sheet) ≡ sheetSize) × (first + count ≤ sheetSlots) ⌝ }
+    requires { ⌜ ((b : ℕ) → b < count → slotWord (now sheet) (first + b) 7 < 2 ^ 32) ⌝ }
+    requires { ⌜ at + 8 + 4 * count ≤ length (now image) ⌝ }
+    ensures { λ _. ⌜ now (image .exit) ≡ putAt (now (image .entry)) at (headBytes count ++ wordsOf (λ b. slotWord (now (sheet .entry)) (first + b) 7) count) ⌝ }
+{
+    lay_head(image, count, at);
+    lay_buckets(sheet, image, first, count, at + 8);
+}
+
+// Lays three words.
+fn lay_three(image: &mut [u8], to: usize, a: usize, b: usize, c: usize)
+    requires { ⌜ to + 12 ≤ length (now image) ⌝ }
+    requires { ⌜ (a < 2 ^ 32) × (b < 2 ^ 32) × (c < 2 ^ 32) ⌝ }
+    ensures { λ _. ⌜ now (image .exit) ≡ putAt (now (image .entry)) to (word a ++ (word b ++ word c)) ⌝ }
+{
+    put_word(image, to, a as u32);
+    put_word(image, to + 4, b as u32);
+    put_word(image, to + 8, c as u32);
+}
+
+// Lays the record of a slot whose key is at `at` and whose value is at `start`.
+pub fn lay_record(
+    sheet: &[usize],
+    image: &mut [u8],
+    slot: usize,
+    to: usize,
+    at: usize,
+    start: usize,
+)
+    requires { ⌜ SlotIn (now sheet) slot ⌝ }
+    requires { ⌜ CoverFits (now sheet) slot ⌝ }
+    requires { ⌜ RecordFits (now sheet) slot at start ⌝ }
+    requires { ⌜ to + 24 ≤ length (now image) ⌝ }
+    ensures { λ _. ⌜ now (image .exit) ≡ putAt (now (image .entry)) to (slotRecord (now (sheet .entry)) slot at start) ⌝ }
+{
+    let hash = slot_word(sheet, slot, 0);
+    let parent = slot_word(sheet, slot, 1);
+    lay_three(image, to, hash, parent, at);
+    let size = slot_word(sheet, slot, 3);
+    let kind = slot_word(sheet, slot, 4);
+    let stop = start + cover(sheet, slot);
+    lay_three(image, to + 12, size + 65536 * kind, start, stop);
+}
+
+// Lays a part of the arena. Answers where it ends.
+fn lay_part(arena: &[u8], image: &mut [u8], start: usize, size: usize, at: usize) -> usize
+    requires { ⌜ start + size ≤ length (now arena) ⌝ }
+    requires { ⌜ at + size ≤ length (now image) ⌝ }
+    ensures { λ r. ⌜ Laid (now (image .entry)) (now (image .exit)) at (part (now (arena .entry)) start size) r ⌝ }
+{
+    let end = start + size;
+    put_bytes(image, at, &arena[start..end]);
+    at + size
+}
+
+// Lays a slot's fragment at `at`, and zeros up to its value at `start`.
+pub fn lay_key(
+    sheet: &[usize],
+    arena: &[u8],
+    image: &mut [u8],
+    slot: usize,
+    at: usize,
+    start: usize,
+)
+    requires { ⌜ SlotIn (now sheet) slot ⌝ }
+    requires { ⌜ slotWord (now sheet) slot 2 + slotWord (now sheet) slot 3 ≤ length (now arena) ⌝ }
+    requires { ⌜ (at + slotWord (now sheet) slot 3 ≤ start) × (start ≤ length (now image)) ⌝ }
+    ensures { λ _. ⌜ now (image .exit) ≡ putAt (now (image .entry)) at (slotKey (now (sheet .entry)) (now (arena .entry)) slot at start) ⌝ }
+{
+    let from = slot_word(sheet, slot, 2);
+    let size = slot_word(sheet, slot, 3);
+    let end = lay_part(arena, image, from, size, at);
+    put_zeros(image, end, start - end);
+}
+
+// Lays the numbers of a container's children as words. Answers where they end.
+fn lay_children(sheet: &[usize], image: &mut [u8], from: usize, count: usize, at: usize) -> usize
+    requires { ⌜ (length (now sheet) ≡ sheetSize) × (from + count ≤ sheetSlots) ⌝ }
+    requires { ⌜ ((j : ℕ) → j < count → childWord (now sheet) (from + j) < 2 ^ 32) ⌝ }
+    requires { ⌜ at + 4 * count ≤ length (now image) ⌝ }
+    ensures { λ r. ⌜ Laid (now (image .entry)) (now (image .exit)) at (wordsOf (λ j. childWord (now (sheet .entry)) (from + j)) count) r ⌝ }
+{
+    let mut j = 0;
+    while j < count {
+        let word = child_word(sheet, from + j);
+        put_word(image, at + 4 * j, word as u32);
+        j += 1;
+    }
+    at + 4 * count
+}
+
+// Lays a slot's value that is no nested table: bytes, or children. Answers where it ends.
+pub fn lay_plain(sheet: &[usize], arena: &[u8], image: &mut [u8], slot: usize, at: usize) -> usize
+    requires { ⌜ SheetFits (now sheet) (now arena) ⌝ }
+    requires { ⌜ slot < sheetSlots ⌝ }
+    requires { ⌜ (slotWord (now sheet) slot 4 ≡ kindTable → ⊥) ⌝ }
+    requires { ⌜ at + slotCover (now sheet) slot ≤ length (now image) ⌝ }
+    ensures { λ r. ⌜ Laid (now (image .entry)) (now (image .exit)) at (plainValue (now (sheet .entry)) (now (arena .entry)) slot) r ⌝ }
+{
+    let kind = slot_word(sheet, slot, 4);
+    let start = slot_word(sheet, slot, 5);
+    let size = slot_word(sheet, slot, 6);
+    if kind == VALUE {
+        return lay_part(arena, image, start, size, at);
+    }
+    lay_children(sheet, image, start, size, at)
+}

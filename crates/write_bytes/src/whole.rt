@@ -1,0 +1,35 @@
+// An image whole: zeros for the header, then the root table.
+use crate::Measured;
+use crate::measure::measure_table;
+use crate::table::lay_table;
+use words::store::put_zeros;
+ghost use mathlib.Core.Path.{_≡_};
+ghost use Prim.Native.Nat.{_≤_, _<_};
+ghost use lib.ListN.{length};
+ghost use Rattle.words.specs.Store.{putAt};
+ghost use Rattle.write_bytes.specs.Sheet.{sheetTables, sheetImage, SheetFits};
+ghost use Rattle.write_bytes.specs.Measure.{measured};
+
+const HEADER: usize = 24;
+
+const DEPTH: usize = 8;
+
+// Measures the image of a table.
+pub fn measure(sheet: &[usize], arena: &[u8], table: usize) -> Measured
+    requires { ⌜ SheetFits (now sheet) (now arena) ⌝ }
+    requires { ⌜ table < sheetTables ⌝ }
+    ensures { λ r. ⌜ r ≡ measured (length (sheetImage (now (sheet .entry)) (now (arena .entry)) table)) ⌝ }
+{
+    measure_table(sheet, arena, table, HEADER, DEPTH)
+}
+
+// Lays the image of a table at the front of a buffer that has room for it.
+pub fn lay_image(sheet: &[usize], arena: &[u8], table: usize, image: &mut [u8])
+    requires { ⌜ SheetFits (now sheet) (now arena) ⌝ }
+    requires { ⌜ table < sheetTables ⌝ }
+    requires { ⌜ (length (sheetImage (now sheet) (now arena) table) ≤ length (now image)) × (length (now image) ≤ 16777216) ⌝ }
+    ensures { λ _. ⌜ now (image .exit) ≡ putAt (now (image .entry)) 0 (sheetImage (now (sheet .entry)) (now (arena .entry)) table) ⌝ }
+{
+    put_zeros(image, 0, HEADER);
+    lay_table(sheet, arena, image, table, HEADER, DEPTH);
+}
