@@ -23,9 +23,9 @@ use Rattle.build_rules.specs.Whole.{wholeSound}
 use Rattle.build_rules.proofs.WholeFacts.{whole-facts}
 use Rattle.image.specs.Image.{headerSize, depth}
 use Rattle.image.specs.Fits.{openedAs}
-use Rattle.readback.specs.Back.{endOf, tableOpened}
-use Rattle.readback.specs.Told.{TableBack, AllBack}
-use Rattle.passes.specs.Passing.{AllPass}
+use Rattle.laid.specs.Back.{endOf, tableOpened}
+use Rattle.laid.specs.Told.{TableBack, AllBack}
+use Rattle.laid.specs.Passing.{AllPass}
 use Rattle.write_numbers.specs.Roster.{stateOf}
 use Rattle.write.specs.Write.{isRoot, imageAfter}
 use Rattle.write.proofs.StateLaws.{content-is, item-below}

@@ -16,8 +16,8 @@ use Rattle.layout.specs.Table.{longestFile}
 use Rattle.image.specs.Plan.{chunkSize}
 use Rattle.image.specs.Image.{headerSize, depth, imageOf}
 use Rattle.image.specs.WellFormed.{Writable}
-use Rattle.readback.proofs.ImageBack.{alone-back}
-use Rattle.passes.proofs.Passes.{alone-passes}
+use Rattle.laid.proofs.ImageBack.{alone-back}
+use Rattle.laid.proofs.Passes.{alone-passes}
 use Rattle.build_rules.specs.Whole.{wholeSound}
 use Rattle.write_numbers.specs.Roster.{stateOf}
 use Rattle.write.specs.declared.Written.{Written}

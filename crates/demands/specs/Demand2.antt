@@ -20,7 +20,7 @@ use Rattle.model.specs.Table.{Content}
 use Rattle.build_memory.specs.Memory.{Memory, leastWords}
 use Rattle.build_tables.specs.Table.{itemCount}
 use Rattle.image.specs.Image.{depth}
-use Rattle.readback.specs.Told.{Views, Both}
+use Rattle.laid.specs.Told.{Views, Both}
 use Rattle.write.specs.declared.Written.{Written}
 use Rattle.write.specs.Write.{writeAnswer, imageAfter}
 use Rattle.demands.specs.Calls.{Call, started, after}

@@ -9,9 +9,9 @@ use Rattle.words.specs.Hash.{plain}
 use Rattle.layout.specs.Table.{longestFile}
 use Rattle.image.specs.Image.{headerSize, depth}
 use Rattle.image.specs.WellFormed.{Writable}
-use Rattle.readback.specs.Back.{endOf}
-use Rattle.readback.specs.Told.{AllBack}
-use Rattle.passes.specs.Passing.{AllPass}
+use Rattle.laid.specs.Back.{endOf}
+use Rattle.laid.specs.Told.{AllBack}
+use Rattle.laid.specs.Passing.{AllPass}
 use Rattle.build_rules.specs.Whole.{wholeSound}
 use Rattle.write_numbers.specs.Roster.{stateOf}
 use Rattle.write.specs.declared.Written.{Written}

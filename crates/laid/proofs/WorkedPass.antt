@@ -13,10 +13,10 @@ use Rattle.check_table.specs.Rules.{checkTable}
 use Rattle.model.specs.Table.{times, entryAt, membersBelow, rowsOf}
 use Rattle.image.specs.Plan.{chunkSize}
 use Rattle.image.specs.Image.{imageOf}
-use Rattle.readback.specs.Sample.{sample}
-use Rattle.readback.proofs.Worked.{root-writable, size}
-use Rattle.passes.specs.Passing.{AllPass}
-use Rattle.passes.proofs.Passes.{alone-passes}
+use Rattle.laid.specs.Sample.{sample}
+use Rattle.laid.proofs.WorkedBack.{root-writable, size}
+use Rattle.laid.specs.Passing.{AllPass}
+use Rattle.laid.proofs.Passes.{alone-passes}
 
 -- "a/" with its child "a/b", which holds 07, and "t", a table that holds "x" with 09
 abbrev image : List ℕ

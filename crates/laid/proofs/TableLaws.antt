@@ -24,7 +24,7 @@ use Rattle.image.specs.Fits.{PlanFits}
 use Rattle.image.proofs.TimesLaws.{index-stands}
 use Rattle.image.proofs.NumberLaws.{first-most, run-from, run-to, item-within, item-once, number-within, item-number}
 use Rattle.image.proofs.ChildLaws.{length-child-words}
-use Rattle.readback.specs.Keys.{PlanKeys, PlanRuns, lastOf}
+use Rattle.laid.specs.Keys.{PlanKeys, PlanRuns, lastOf}
 
 pub bool-cases : (t : Bool) → (t ≡ true) ⊎ (t ≡ false)
 bool-cases true = inl refl

@@ -14,7 +14,7 @@ use Rattle.model.specs.Table.{Content, State, Has}
 use Rattle.image.specs.Image.{headerSize, depth, tableBytes, imageOf}
 use Rattle.image.specs.WellFormed.{Writable}
 use Rattle.image.specs.Laid.{Holds}
-use Rattle.readback.specs.Back.{endOf}
+use Rattle.laid.specs.Back.{endOf}
 
 -- the check of table t at `at`, by the pointer of its table chunk, passes: it opens, and no item breaks one of the six rules
 abbrev pub Passes : (ℕ → ℕ) → List ℕ → State → ℕ → ℕ → Type 0

@@ -23,8 +23,8 @@ use Rattle.image.specs.Laid.{Holds}
 use Rattle.image.specs.Fits.{PlanFits, openedAs, laidItem}
 use Rattle.image.proofs.PlanLaws.{read-bucket}
 use Rattle.image.proofs.OpenLaws.{laid-item}
-use Rattle.readback.specs.Keys.{PlanKeys, PlanRuns, lastOf}
-use Rattle.readback.proofs.KeyLaws.{key-whole}
+use Rattle.laid.specs.Keys.{PlanKeys, PlanRuns, lastOf}
+use Rattle.laid.proofs.KeyLaws.{key-whole}
 
 same-key : {j : Joined} {a b : List ℕ} → j ≡ Joined.joined a → j ≡ Joined.joined b → a ≡ b
 same-key e f = cc

@@ -25,10 +25,10 @@ use Rattle.image.specs.WellFormed.{Writable}
 use Rattle.image.specs.Laid.{Holds}
 use Rattle.image.specs.Fits.{openedAs}
 use Rattle.image.proofs.LaidLaws.{holds-part}
-use Rattle.readback.specs.Back.{endOf, tableOpened, valuePlace, ItemBack, NestedBack}
-use Rattle.readback.specs.Told.{Views, Both, TableBack, AllBack}
-use Rattle.readback.proofs.LookupLaws.{value-of, nested-of}
-use Rattle.readback.proofs.ItemLaws.{well-formed, number-small, opens, key-back, found-back, not-found-back, item-back, place-eight, bytes-held, nested-held, nested-opens}
+use Rattle.laid.specs.Back.{endOf, tableOpened, valuePlace, ItemBack, NestedBack}
+use Rattle.laid.specs.Told.{Views, Both, TableBack, AllBack}
+use Rattle.laid.proofs.LookupLaws.{value-of, nested-of}
+use Rattle.laid.proofs.ItemLaws.{well-formed, number-small, opens, key-back, found-back, not-found-back, item-back, place-eight, bytes-held, nested-held, nested-opens}
 
 -- the bytes of a view
 pub views-bytes : (file : List ℕ) (looked : Looked) (value : List ℕ) → Views file looked value → lookedBytes file looked ≡ value

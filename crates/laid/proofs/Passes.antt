@@ -15,10 +15,10 @@ use Rattle.image.specs.Image.{headerSize, depth, tableBytes, imageOf}
 use Rattle.image.specs.WellFormed.{Writable}
 use Rattle.image.specs.Laid.{Holds}
 use Rattle.image.proofs.LaidLaws.{holds-put, holds-next}
-use Rattle.readback.specs.Back.{endOf, tableOpened, valuePlace}
-use Rattle.readback.proofs.ReadBack.{opens-back, table-looked, nested-back}
-use Rattle.passes.specs.Passing.{AllPass, LaidTablePasses, LaidTablesAllPass, ImagePasses}
-use Rattle.passes.proofs.LaidLaws.{laid-sound}
+use Rattle.laid.specs.Back.{endOf, tableOpened, valuePlace}
+use Rattle.laid.proofs.ReadBack.{opens-back, table-looked, nested-back}
+use Rattle.laid.specs.Passing.{AllPass, LaidTablePasses, LaidTablesAllPass, ImagePasses}
+use Rattle.laid.proofs.LaidLaws.{laid-sound}
 
 -- a laid table is sound
 pub table-sound : (rule : ℕ → ℕ) (file : List ℕ) (state : State) (d t at : ℕ) → Holds file at (tableBytes rule state (suc d) t at) → length file ≤ longestFile → at % 4 ≡ 0

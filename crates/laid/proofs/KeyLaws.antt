@@ -19,7 +19,7 @@ use Rattle.image.proofs.TimesLaws.{eq-or-ne}
 use Rattle.image.proofs.LaidLaws.{holds-part}
 use Rattle.image.proofs.PlanLaws.{keyStart, read-fragment, fragment-ends}
 use Rattle.image.proofs.OpenLaws.{laid-item}
-use Rattle.readback.specs.Keys.{PlanKeys}
+use Rattle.laid.specs.Keys.{PlanKeys}
 
 module _ (img : List ℕ) (p : Plan) (at : ℕ) (held : Holds img at (planBytes p at)) (short : length img ≤ longestFile) (fits : PlanFits p) where
   abbrev table : Table

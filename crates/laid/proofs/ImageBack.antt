@@ -13,8 +13,8 @@ use Rattle.image.specs.Image.{headerSize, depth, tableBytes, imageOf}
 use Rattle.image.specs.WellFormed.{Writable}
 use Rattle.image.specs.Laid.{Holds}
 use Rattle.image.proofs.LaidLaws.{holds-put, holds-next}
-use Rattle.readback.specs.Told.{AllBack}
-use Rattle.readback.proofs.ReadBack.{all-back}
+use Rattle.laid.specs.Told.{AllBack}
+use Rattle.laid.proofs.ReadBack.{all-back}
 
 module _ (rule : ℕ → ℕ) (state : State) (root : ℕ) (good : Writable state depth root) where
   -- any file that holds the root table behind the header's 24 bytes, whatever stands in the header and behind the image

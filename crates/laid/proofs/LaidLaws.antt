@@ -22,10 +22,10 @@ use Rattle.image.specs.WellFormed.{WellFormed, Writable}
 use Rattle.image.specs.Laid.{Holds}
 use Rattle.image.specs.Fits.{openedAs}
 use Rattle.image.proofs.NumberLaws.{item-within, number-item}
-use Rattle.readback.specs.Back.{endOf, tableOpened, valuePlace, ItemBack}
-use Rattle.readback.proofs.TableLaws.{bool-cases, parent-child, parent-root, parent-small, parent-item, child-known}
-use Rattle.readback.proofs.ItemLaws.{well-formed, number-small, numbered-item, key-of-number, found-back, item-back, place-eight, place-four, nested-held, children-held, nested-opens}
-use Rattle.passes.proofs.ChildLaws.{ChildIn, child-at, child-listed, child-once, child-word}
+use Rattle.laid.specs.Back.{endOf, tableOpened, valuePlace, ItemBack}
+use Rattle.laid.proofs.TableLaws.{bool-cases, parent-child, parent-root, parent-small, parent-item, child-known}
+use Rattle.laid.proofs.ItemLaws.{well-formed, number-small, numbered-item, key-of-number, found-back, item-back, place-eight, place-four, nested-held, children-held, nested-opens}
+use Rattle.laid.proofs.ChildLaws.{ChildIn, child-at, child-listed, child-once, child-word}
 
 -- what an item of kind 'L' holds
 kind-container : (c : Content) → kindByte (kindOf c) ≡ 76 → c ≡ Content.container

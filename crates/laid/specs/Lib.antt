@@ -2,3 +2,4 @@ pub mod Keys
 pub mod Back
 pub mod Told
 pub mod Sample
+pub mod Passing

@@ -5,4 +5,8 @@ pub mod TableLaws
 pub mod ItemLaws
 pub mod ReadBack
 pub mod ImageBack
-pub mod Worked
+pub mod WorkedBack
+pub mod ChildLaws
+pub mod LaidLaws
+pub mod Passes
+pub mod WorkedPass

@@ -22,10 +22,10 @@ use Rattle.image.specs.Plan.{wordsOf, chunkSize, valueStart, itemBytes, payload
 use Rattle.image.specs.Image.{childrenIn, childrenOf, parentNumber, childWords, valueOf, coversOf, planOf, tableBytes, imageOf}
 use Rattle.image.specs.WellFormed.{ChildFits, WellFormed, Writable}
 use Rattle.image.proofs.TimesLaws.{eq-or-ne, times-here, times-there, times-none, has-cases}
-use Rattle.readback.specs.Told.{Both, AllBack}
-use Rattle.readback.specs.Sample.{sample}
-use Rattle.readback.proofs.ReadBack.{views-bytes}
-use Rattle.readback.proofs.ImageBack.{alone-back}
+use Rattle.laid.specs.Told.{Both, AllBack}
+use Rattle.laid.specs.Sample.{sample}
+use Rattle.laid.proofs.ReadBack.{views-bytes}
+use Rattle.laid.proofs.ImageBack.{alone-back}
 
 -- what stands in a list of three, of one
 three : (P : ℕ → Type 0) → P 0 → P 1 → P 2 → (i : ℕ) → Has (0 ∷ 1 ∷ 2 ∷ []) i → P i

@@ -15,7 +15,7 @@ use Rattle.read.specs.Listing.{keyAt}
 use Rattle.read.specs.Answer.{lookedNumber}
 use Rattle.model.specs.Table.{Content, State, Has}
 use Rattle.image.specs.Number.{numberOf}
-use Rattle.readback.specs.Back.{endOf, tableOpened}
+use Rattle.laid.specs.Back.{endOf, tableOpened}
 
 -- a lookup answers a stretch of the file, and just these bytes stand there: a value view is that stretch and no copy
 pub record Views (file : List ℕ) (looked : Looked) (value : List ℕ) : Type 0 where

@@ -23,11 +23,11 @@ use Rattle.image.specs.Fits.{PlanFits, laidItem}
 use Rattle.image.proofs.NumberLaws.{item-within, number-within, item-number}
 use Rattle.image.proofs.PlanLaws.{length-plan, read-value, value-ends}
 use Rattle.image.proofs.OpenLaws.{laid-opens, laid-item}
-use Rattle.readback.specs.Keys.{PlanKeys, PlanRuns}
-use Rattle.readback.specs.Back.{endOf, tableOpened, planAt, valuePlace, coversAt, ItemBack, NestedBack}
-use Rattle.readback.proofs.KeyLaws.{key-whole}
-use Rattle.readback.proofs.FindLaws.{find-there, find-nothing}
-use Rattle.readback.proofs.TableLaws.{plan-fits, plan-keys, plan-runs}
+use Rattle.laid.specs.Keys.{PlanKeys, PlanRuns}
+use Rattle.laid.specs.Back.{endOf, tableOpened, planAt, valuePlace, coversAt, ItemBack, NestedBack}
+use Rattle.laid.proofs.KeyLaws.{key-whole}
+use Rattle.laid.proofs.FindLaws.{find-there, find-nothing}
+use Rattle.laid.proofs.TableLaws.{plan-fits, plan-keys, plan-runs}
 
 -- ---- a table that may be written
 

@@ -1,4 +1,0 @@
-pub mod ChildLaws
-pub mod LaidLaws
-pub mod Passes
-pub mod Worked

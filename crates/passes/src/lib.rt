@@ -1,1 +1,0 @@
-// Whatever is laid passes the table check: definitions in specs/ and their laws in proofs/, with no function.
