@@ -1,8 +1,5 @@
 // The insert of a table into another.
 use crate::height::held_height;
-use build_values::insert::Job;
-use build_values::insert::insert_walked;
-use layout::refusal::Refusal;
 use build_memory::place::DEEPEST;
 use build_memory::place::LONGEST_KEY;
 use build_memory::place::PLACED;
@@ -10,8 +7,11 @@ use build_memory::place::TABLE_KIND;
 use build_memory::place::TABLE_SIZE;
 use build_memory::place::TABLES_FROM;
 use build_memory::rules::judge;
-use model::Inserted;
 use build_tables::add::takes_items;
+use build_values::insert::Job;
+use build_values::insert::insert_walked;
+use layout::refusal::Refusal;
+use model::Inserted;
 use text::utf8::is_utf8;
 use words::wide::word_size;
 ghost use mathlib.Core.Path.{_≡_};

@@ -1,5 +1,4 @@
 // New tables, and whether a table takes items.
-use layout::refusal::Refusal;
 use build_memory::place::LAST_SEPARATOR;
 use build_memory::place::MOST_TABLES;
 use build_memory::place::NO_SEPARATOR;
@@ -9,6 +8,7 @@ use build_memory::place::TABLES;
 use build_memory::place::TABLES_FROM;
 use build_memory::place::table_word;
 use build_memory::rules::judge;
+use layout::refusal::Refusal;
 use model::Numbered;
 use words::wide::byte_size;
 ghost use mathlib.Core.Path.{_≡_};

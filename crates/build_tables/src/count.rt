@@ -1,11 +1,11 @@
 // The count of a table's items.
 use crate::add::narrow;
-use layout::refusal::Refusal;
 use build_memory::place::ITEMS;
 use build_memory::place::TABLE;
 use build_memory::place::TABLES;
 use build_memory::place::item_word;
 use build_memory::rules::judge;
+use layout::refusal::Refusal;
 use model::Counted;
 use words::wide::word_size;
 ghost use mathlib.Core.Path.{_≡_};

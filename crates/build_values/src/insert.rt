@@ -2,7 +2,6 @@
 use crate::walk::Walked;
 use crate::walk::cost_of;
 use crate::walk::descend_to;
-use layout::refusal::Refusal;
 use build_memory::find::find_hashed;
 use build_memory::item::Place;
 use build_memory::item::kind_of;
@@ -19,8 +18,9 @@ use build_memory::place::VALUE_KIND;
 use build_memory::place::item_word;
 use build_memory::place::table_word;
 use build_memory::rules::judge;
-use model::Inserted;
 use build_tables::add::takes_items;
+use layout::refusal::Refusal;
+use model::Inserted;
 use text::prefix::next_end;
 use text::utf8::is_utf8;
 use words::hash::hash_on;

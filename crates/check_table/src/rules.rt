@@ -1,13 +1,13 @@
 // The rules of an item that are tested by themselves: 1 and 2 of its key, 4 of its value, and whether a container lists an index.
+use check_keys::search::find_own;
+use check_keys::tally::Own;
+use check_keys::tally::own_key;
 use layout::item::Item;
 use layout::pointer::Pointed;
 use layout::pointer::open_pointer;
 use layout::table::Opened;
 use layout::table::Table;
 use layout::table::open_table;
-use check_keys::search::find_own;
-use check_keys::tally::Own;
-use check_keys::tally::own_key;
 use read::lookup::Found;
 use words::align::Alignment;
 use words::field::word_at;

@@ -1,7 +1,7 @@
 // Building tables over lent memory.
+use build_memory::fresh::Started;
 use layout::kind::byte_of;
 use layout::refusal::number_of;
-use build_memory::fresh::Started;
 use model::Counted;
 use model::Inserted;
 use model::Numbered;

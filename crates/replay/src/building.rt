@@ -1,6 +1,7 @@
 // Calls on a builder: whether the library answers, and lays, as the record says.
 use crate::list;
 use crate::list::Record;
+use build_memory::place::part_of;
 use gvdb::building::gvdb_fresh;
 use gvdb::building::gvdb_insert;
 use gvdb::building::gvdb_insert_table;
@@ -8,7 +9,6 @@ use gvdb::building::gvdb_item_count;
 use gvdb::building::gvdb_new_table;
 use gvdb::writing::GvdbImage;
 use gvdb::writing::gvdb_write;
-use build_memory::place::part_of;
 use text::compare::same_bytes;
 use words::wide::word_size;
 

@@ -1,12 +1,12 @@
 // Questions that change nothing: whether the library answers as the record says.
 use crate::list;
 use crate::list::Record;
+use build_memory::place::part_of;
 use gvdb::reading::gvdb_get;
 use gvdb::reading::gvdb_get_table;
 use gvdb::reading::gvdb_next_key;
 use gvdb::reading::gvdb_next_value;
 use gvdb::reading::gvdb_open;
-use build_memory::place::part_of;
 use text::compare::same_bytes;
 use text::utf8::first_bad;
 use words::hash::djb_hash;
