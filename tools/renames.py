@@ -50,6 +50,7 @@ def crate(old, new):
         Rule(rf"(?<![\w])crates/{old}(?=[/`\s])", f"crates/{new}"),
         Rule(rf"Rattle.{old}(?=[.·])", f"Rattle.{new}"),
         Rule(rf"(?<![\w:]){old}::(?=[A-Za-z])", f"{new}::"),
+        Rule(rf"(?<=calls-){old}(?=·)", new.replace("_", "-")),
     ]
 
 
