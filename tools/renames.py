@@ -94,7 +94,7 @@ def part(old, new, crates=None):
 def function(old, new, crates=None):
     """A function: its name, its proof's folder and the names that the prover makes of it."""
     kebab = [text.replace("_", "-") for text in (old, new)]
-    return [Rule(rf"(?<![\w]){old}(?![\w])", new, crates), Rule(rf"(?<![A-Za-z0-9′]){kebab[0]}(?![A-Za-z0-9′])", kebab[1], crates)]
+    return [Rule(rf"(?<![\w]){old}(?![\w])", new, crates), Rule(rf"(?<![A-Za-z0-9′]){kebab[0]}(?![A-Za-z′])", kebab[1], crates)]
 
 
 CHECK = {"check_keys", "check_table"}
@@ -114,7 +114,7 @@ GROUPS["joined-key"] = (
     + exact("Own", "JoinedKey", CHECK)
     + exact("joined-own", "joined-there", {"check_table"})
     + part("own", "joined", CHECK)
-    + function("own_parent", "self_parent")
+    + [Rule(r"(?<![\w-])own-parent(?![A-Za-z])", "self-parent")]
     + page("read", "proofs", "OwnParent", "SelfParent")
     + exact("ownParent", "selfParent")
     + part("own", "its", {"history", "build_memory", "demands"})
@@ -154,6 +154,8 @@ GROUPS["bits"] = (
     + exact("Marking", "Surveying", {"check_table"})
     + exact("marks", "bits", {"check_table"})
     + [Rule(r"(?<![\w-])marks₀", "bits₀", {"check_table"})]
+    + exact("bit-same", "one-bit-same", {"check_table"})
+    + exact("bit-other", "one-bit-other", {"check_table"})
     + part("marks", "bits", {"check_table"})
     + part("marked", "bit-set", {"check_table"})
     + part("mark", "bit", {"check_table"})
@@ -177,7 +179,7 @@ GROUPS["valid"] = (
     + page("build_rules", "proofs", "WholeFacts", "ValidFacts")
     + exact("sound-memory", "valid-memory")
     + exact("Sound", "Valid", MEMORY)
-    + exact("sound", "valid", MEMORY)
+    + exact("sound", "valid", MEMORY | {"demands"})
     + part("sound", "valid", MEMORY)
     + part("unsound", "invalid", MEMORY)
     + exact("reached-sound", "reached-valid")
@@ -237,6 +239,7 @@ GROUPS["free-standing"] = (
     + exact("root-sheet", "table-numbered", {"write"})
     + function("write_root", "index_and_write", {"write"})
     + function("write_with", "write_unless_empty", {"write"})
+    + [Rule(r"slice-write-sheet", "slice-write-numbered", {"write"})]
     + function("write_sheet", "write_if_fits", {"write"})
     + exact("sheetAnswer", "fitAnswer", {"write"})
     + exact("RootsWritable", "FreeStandingWritable", {"demands"})
@@ -271,7 +274,7 @@ GROUPS["index"] = (
     + exact("numberOf", "laidIndex", LAID)
     + exact("byNumber", "byIndex", LAID)
     + exact("parentNumber", "parentIndex", LAID)
-    + exact("numbered", "byBucket", {"image", "write_order", "write_numbers", "write"})
+    + exact("numbered", "byBucket", {"image", "laid", "write_order", "write_numbers", "write"})
     + exact("Numbering", "Indexing", {"image"})
     + exact("itemNumber", "itemIndex", WRITE)
     + exact("numbersFrom", "indicesFrom", WRITE)

@@ -27,12 +27,12 @@ module _ (test : ℕ → Bool) (older : ℕ → ℕ) (none : ℕ) where
   pub seek-at : (n i : ℕ) → i < n → seek test older none n i ≡ pick (test i) i (seek test older none i (older i))
   unfolding seek pick
   seek-at zero i h = absurd (not-suc-le-zero h)
-  seek-at (suc m) i h = by-place (eqb i m) refl (seek-at m i)
+  seek-at (suc m) i h = by-field (eqb i m) refl (seek-at m i)
     where
-      by-place : (q : Bool) → eqb i m ≡ q → (i < m → seek test older none m i ≡ pick (test i) i (seek test older none i (older i)))
+      by-field : (q : Bool) → eqb i m ≡ q → (i < m → seek test older none m i ≡ pick (test i) i (seek test older none i (older i)))
           → pick q (pick (test m) m (seek test older none m (older m))) (seek test older none m i) ≡ pick (test i) i (seek test older none i (older i))
-      by-place true e ih = ap (λ (j : ℕ). pick (test j) j (seek test older none j (older j))) (sym (eqb-true i m e))
-      by-place false e ih = let ne = eqb-false i m e in ih (omega arith)
+      by-field true e ih = ap (λ (j : ℕ). pick (test j) j (seek test older none j (older j))) (sym (eqb-true i m e))
+      by-field false e ih = let ne = eqb-false i m e in ih (omega arith)
 
   pub seek-hit : (n i : ℕ) → i < n → test i ≡ true → seek test older none n i ≡ i
   unfolding pick

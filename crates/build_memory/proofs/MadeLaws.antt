@@ -93,8 +93,8 @@ module _ (ws ar : List ℕ) (t parent : ℕ) (key : List ℕ) (c : Stored) where
         behind (headAt b) (omega arith) (λ (e : headAt b ≡ headAt bucket). ne (omega arith)) ∙ get-before ws (itemAt (itemTotal ws)) row (headAt b) (omega arith)
 
     -- the made record reads back, and any other is as it was
-    pub own-word : (f : ℕ) → f < 10 → word (made .words) (itemAt (itemTotal ws) + f) ≡ word row f
-    own-word f h =
+    pub its-word : (f : ℕ) → f < 10 → word (made .words) (itemAt (itemTotal ws) + f) ≡ word row f
+    its-word f h =
         behind (itemAt (itemTotal ws) + f) (omega arith) (λ (e : itemAt (itemTotal ws) + f ≡ headAt bucket). omega (arith, low-bucket))
         ∙ get-put ws (itemAt (itemTotal ws)) row f (omega arith) h
 

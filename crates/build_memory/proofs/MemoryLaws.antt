@@ -16,7 +16,7 @@ use Rattle.words.proofs.StoreLaws.{copy-turn, copy-end}
 use Rattle.layout.specs.declared.refusal.Refusal.the-variants.{MemoryBroken}
 use Rattle.model.specs.Builder.{mostTables, mostItems}
 use Rattle.build_memory.specs.declared.fresh.Started.{Started}
-use Rattle.build_memory.specs.Memory.{tablesFrom, tableSize, headsFrom, buckets, itemsFrom, itemSize, linksFrom, links, leastWords, emptyMark, word, tableTotal, itemTotal, roomUsed, all, rules, sound, Sound, memory, outcome, copies, freshWords, freshStart}
+use Rattle.build_memory.specs.Memory.{tablesFrom, tableSize, headsFrom, buckets, itemsFrom, itemSize, linksFrom, links, leastWords, emptyMark, word, tableTotal, itemTotal, roomUsed, all, rules, valid, Valid, memory, outcome, copies, freshWords, freshStart}
 
 -- the parts of the words lie one behind the other, and fill the least length
 pub parts-meet : (tablesFrom + tableSize * mostTables ≡ headsFrom) × (headsFrom + buckets ≡ itemsFrom) × (itemsFrom + itemSize * mostItems ≡ linksFrom) × (linksFrom + links ≡ leastWords)
@@ -46,9 +46,9 @@ unfolding all
 all-each [] e = tt
 all-each (test ∷ tests) e = let h = both test (all tests) e in (h .0, all-each tests (h .1))
 
-pub sound-facts : (ws : List ℕ) (arena : ℕ) → sound ws arena ≡ true → Sound ws arena
-unfolding sound
-sound-facts ws arena e =
+pub valid-facts : (ws : List ℕ) (arena : ℕ) → valid ws arena ≡ true → Valid ws arena
+unfolding valid
+valid-facts ws arena e =
     let h = all-each (rules ws arena) e in
     record {
       long = leb-true _ _ (h .0);
@@ -59,30 +59,30 @@ sound-facts ws arena e =
       used = leb-true _ _ (h .1 .1 .1 .1 .1 .0);
     }
 
-pub sound-holds : (ws : List ℕ) (arena : ℕ) → Sound ws arena → sound ws arena ≡ true
-unfolding sound all
-sound-holds ws arena s =
+pub valid-holds : (ws : List ℕ) (arena : ℕ) → Valid ws arena → valid ws arena ≡ true
+unfolding valid all
+valid-holds ws arena s =
     simp (le-leb _ _ (s .long), eq-eqb _ _ (s .words), eq-eqb _ _ (s .room), le-leb _ _ (s .tables), le-leb _ _ (s .items), le-leb _ _ (s .used))
 
 -- the judgement, test by test
 module _ (ws : List ℕ) (arena : ℕ) where
-  pub judge-short : length ws < leastWords → false ≡ sound ws arena
-  unfolding sound all
+  pub judge-short : length ws < leastWords → false ≡ valid ws arena
+  unfolding valid all
   judge-short h = simp (lt-leb _ _ h)
 
   module _ (long : leastWords ≤ length ws) where
-    pub judge-words : (word ws 0 ≡ length ws → ⊥) → false ≡ sound ws arena
-    unfolding sound all
+    pub judge-words : (word ws 0 ≡ length ws → ⊥) → false ≡ valid ws arena
+    unfolding valid all
     judge-words h = simp (le-leb _ _ long, ne-eqb _ _ h)
 
     module _ (same : word ws 0 ≡ length ws) where
-      pub judge-room : (word ws 1 ≡ arena → ⊥) → false ≡ sound ws arena
-      unfolding sound all
+      pub judge-room : (word ws 1 ≡ arena → ⊥) → false ≡ valid ws arena
+      unfolding valid all
       judge-room h = simp (le-leb _ _ long, eq-eqb _ _ same, ne-eqb _ _ h)
 
       pub judge-counts : word ws 1 ≡ arena
-          → (leb (tableTotal ws) mostTables && leb (itemTotal ws) mostItems) && leb (roomUsed ws) arena ≡ sound ws arena
-      unfolding sound all
+          → (leb (tableTotal ws) mostTables && leb (itemTotal ws) mostItems) && leb (roomUsed ws) arena ≡ valid ws arena
+      unfolding valid all
       judge-counts h = simp (le-leb _ _ long, eq-eqb _ _ same, eq-eqb _ _ h) (regroup (leb (tableTotal ws) mostTables) (leb (itemTotal ws) mostItems) (leb (roomUsed ws) arena))
         where
           regroup : (p q r : Bool) → (p && q) && r ≡ p && (q && (r && true))

@@ -8,7 +8,7 @@ use Rattle.words.specs.Store.{part}
 use Rattle.words.specs.Hash.{hashOf}
 use Rattle.layout.specs.declared.kind.Kind.{Kind}
 use Rattle.build_memory.specs.declared.fresh.Started.{Started}
-use Rattle.build_memory.specs.Memory.{leastWords, word, tableAt, itemAt, keyOf, sound, Memory, memory, Outcome, outcome, freshStart}
+use Rattle.build_memory.specs.Memory.{leastWords, word, tableAt, itemAt, keyOf, valid, Memory, memory, Outcome, outcome, freshStart}
 use Rattle.build_memory.specs.Find.{findKey}
 use Rattle.build_memory.specs.Item.{Stored, kindOf, makeItem, replaceItem}
 
@@ -42,7 +42,7 @@ module _ (ws ar : List ℕ) where
   pub key-of-unique : (i : ℕ) (r s : List ℕ) → r ≡ keyOf ws ar i → s ≡ keyOf ws ar i → r ≡ s
   key-of-unique i r s p q = p ∙ sym q
 
-  pub judge-unique : (r s : Bool) → r ≡ sound ws (length ar) → s ≡ sound ws (length ar) → r ≡ s
+  pub judge-unique : (r s : Bool) → r ≡ valid ws (length ar) → s ≡ valid ws (length ar) → r ≡ s
   judge-unique r s p q = p ∙ sym q
 
   pub find-hashed-unique : (t : ℕ) (key : List ℕ) (r s : ℕ) → r ≡ findKey ws ar t key → s ≡ findKey ws ar t key → r ≡ s

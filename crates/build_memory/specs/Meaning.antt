@@ -7,7 +7,7 @@ use lib.Dec.{eqb}
 use Rattle.words.specs.Choice.{pick}
 use Rattle.words.specs.Store.{part}
 use Rattle.model.specs.Table.{Content, Entry, noItem}
-use Rattle.model.specs.Builder.{Shelf, Builder}
+use Rattle.model.specs.Builder.{Standing, Builder}
 use Rattle.build_memory.specs.Memory.{tableTotal, itemTotal, roomUsed, tableSeparator, tablePlaced, itemTable, itemParent, itemKind, valueStart, valueSize, itemGuest, keyOf, valueKind, tableKind}
 
 -- what item i holds
@@ -24,8 +24,8 @@ entryOf ws ar i = record {
   above = pick (eqb (itemParent ws i) 0) noItem (itemParent ws i - 1);
 }
 
-unfoldable pub shelfOf : List ℕ → ℕ → Shelf
-shelfOf ws t = record { separator = tableSeparator ws t; placed = not (eqb (tablePlaced ws t) 0) }
+unfoldable pub standingOf : List ℕ → ℕ → Standing
+standingOf ws t = record { separator = tableSeparator ws t; placed = not (eqb (tablePlaced ws t) 0) }
 
 -- f 0, f 1, .. n of them
 unfoldable pub listed : {A : Type 0} → (ℕ → A) → ℕ → List A
@@ -36,6 +36,6 @@ unfoldable pub meaning : List ℕ → List ℕ → Builder
 meaning ws ar = record {
   room = length ar;
   used = roomUsed ws;
-  tables = listed (shelfOf ws) (tableTotal ws);
+  tables = listed (standingOf ws) (tableTotal ws);
   items = listed (entryOf ws ar) (itemTotal ws);
 }

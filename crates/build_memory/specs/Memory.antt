@@ -150,11 +150,11 @@ rules ws room =
     ∷ leb (roomUsed ws) room
     ∷ []
 
-unfoldable pub sound : List ℕ → ℕ → Bool
-sound ws room = all (rules ws room)
+unfoldable pub valid : List ℕ → ℕ → Bool
+valid ws room = all (rules ws room)
 
 -- the same rules as facts, for what comes after the judgement
-pub record Sound (ws : List ℕ) (arena : ℕ) : Type 0 where
+pub record Valid (ws : List ℕ) (arena : ℕ) : Type 0 where
   pub long : leastWords ≤ length ws
   pub words : word ws 0 ≡ length ws
   pub room : word ws 1 ≡ arena

@@ -1,13 +1,13 @@
 // The search for a key, along the chain of its bucket.
-use crate::place::BUCKETS;
-use crate::place::HASH;
-use crate::place::HEADS_FROM;
-use crate::place::ITEMS;
-use crate::place::KEY_SIZE;
-use crate::place::OLDER;
-use crate::place::TABLE;
-use crate::place::item_word;
-use crate::place::key_of;
+use crate::fields::BUCKETS;
+use crate::fields::HASH;
+use crate::fields::HEADS_FROM;
+use crate::fields::ITEMS;
+use crate::fields::KEY_SIZE;
+use crate::fields::OLDER;
+use crate::fields::TABLE;
+use crate::fields::item_word;
+use crate::fields::key_of;
 use text::compare::same_bytes;
 use words::hash::djb_hash;
 use words::wide::word_size;

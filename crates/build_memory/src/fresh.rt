@@ -1,15 +1,15 @@
 // The fresh start.
-use crate::place::BUCKETS;
-use crate::place::EMPTY;
-use crate::place::HEADS_FROM;
-use crate::place::ITEMS;
-use crate::place::LEAST_WORDS;
-use crate::place::LENGTH;
-use crate::place::LINKS;
-use crate::place::LINKS_FROM;
-use crate::place::ROOM;
-use crate::place::TABLES;
-use crate::place::USED;
+use crate::fields::BUCKETS;
+use crate::fields::EMPTY;
+use crate::fields::HEADS_FROM;
+use crate::fields::ITEMS;
+use crate::fields::LEAST_WORDS;
+use crate::fields::LENGTH;
+use crate::fields::LINKS;
+use crate::fields::LINKS_FROM;
+use crate::fields::ROOM;
+use crate::fields::TABLES;
+use crate::fields::USED;
 use layout::refusal::Refusal;
 ghost use mathlib.Core.Path.{_≡_};
 ghost use mathlib.Core.List.{[], _∷_};

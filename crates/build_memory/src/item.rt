@@ -1,13 +1,13 @@
 // Items made and written again.
-use crate::place::BUCKETS;
-use crate::place::HEADS_FROM;
-use crate::place::ITEM_SIZE;
-use crate::place::ITEMS;
-use crate::place::ITEMS_FROM;
-use crate::place::KIND;
-use crate::place::TABLE_KIND;
-use crate::place::USED;
-use crate::place::VALUE_KIND;
+use crate::fields::BUCKETS;
+use crate::fields::HEADS_FROM;
+use crate::fields::ITEM_SIZE;
+use crate::fields::ITEMS;
+use crate::fields::ITEMS_FROM;
+use crate::fields::KIND;
+use crate::fields::TABLE_KIND;
+use crate::fields::USED;
+use crate::fields::VALUE_KIND;
 use layout::kind::Kind;
 use words::store::put_bytes;
 ghost use mathlib.Core.Path.{_≡_};
@@ -87,7 +87,7 @@ fn put_counts(words: &mut [usize], items: usize, used: usize)
 }
 
 // What is told of a new item besides its key and value: its table, its parent's index and one, its kind, the table it holds.
-pub struct Place {
+pub struct NewItem {
     pub table: usize,
     pub parent: usize,
     pub kind: usize,
@@ -98,7 +98,7 @@ pub struct Place {
 pub fn make_item(
     words: &mut [usize],
     arena: &mut [u8],
-    place: Place,
+    new: NewItem,
     key: &[u8],
     hash: usize,
     value: &[u8],
@@ -106,7 +106,7 @@ pub fn make_item(
     requires { ⌜ (leastWords ≤ length (now words)) × (itemTotal (now words) < mostItems) ⌝ }
     requires { ⌜ roomUsed (now words) + length (now key) + length (now value) ≤ length (now arena) ⌝ }
     requires { ⌜ hash ≡ hashOf (now key) ⌝ }
-    ensures { λ _. ⌜ memory (now (words .exit)) (now (arena .exit)) ≡ makeItem (memory (now (words .entry)) (now (arena .entry))) (place .table) (place .parent) (now (key .entry)) (stored (place .kind) (now (value .entry)) (place .guest)) ⌝ }
+    ensures { λ _. ⌜ memory (now (words .exit)) (now (arena .exit)) ≡ makeItem (memory (now (words .entry)) (now (arena .entry))) (new .table) (new .parent) (now (key .entry)) (stored (new .kind) (now (value .entry)) (new .guest)) ⌝ }
 {
     let n = words[ITEMS];
     let room = words[USED];
@@ -119,15 +119,15 @@ pub fn make_item(
         words,
         n,
         Spot {
-            table: place.table,
+            table: new.table,
             hash,
             older,
             start: room,
             size: key.len(),
-            parent: place.parent,
+            parent: new.parent,
         },
     );
-    put_held(words, n, place.kind, from, value.len(), place.guest);
+    put_held(words, n, new.kind, from, value.len(), new.guest);
     put_head(words, bucket, n);
     put_counts(words, n + 1, from + value.len());
 }

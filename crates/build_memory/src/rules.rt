@@ -1,19 +1,19 @@
 // The rules behind refusal 29 that every call judges.
-use crate::place::ITEMS;
-use crate::place::LEAST_WORDS;
-use crate::place::LENGTH;
-use crate::place::MOST_ITEMS;
-use crate::place::MOST_TABLES;
-use crate::place::ROOM;
-use crate::place::TABLES;
-use crate::place::USED;
+use crate::fields::ITEMS;
+use crate::fields::LEAST_WORDS;
+use crate::fields::LENGTH;
+use crate::fields::MOST_ITEMS;
+use crate::fields::MOST_TABLES;
+use crate::fields::ROOM;
+use crate::fields::TABLES;
+use crate::fields::USED;
 ghost use mathlib.Core.Path.{_≡_};
 ghost use lib.ListN.{length};
-ghost use Rattle.build_memory.specs.Memory.{sound};
+ghost use Rattle.build_memory.specs.Memory.{valid};
 
 // Whether the lent memory keeps them.
 pub fn judge(words: &[usize], arena: &[u8]) -> bool
-    ensures { λ r. ⌜ r ≡ sound (now (words .entry)) (length (now (arena .entry))) ⌝ }
+    ensures { λ r. ⌜ r ≡ valid (now (words .entry)) (length (now (arena .entry))) ⌝ }
 {
     if words.len() < LEAST_WORDS {
         return false;

@@ -15,12 +15,12 @@ use Rattle.layout.specs.declared.refusal.Refusal.{Refusal}
 use Rattle.layout.specs.declared.kind.Kind.{Kind}
 use Rattle.model.specs.declared.Inserted.{Inserted}
 use Rattle.model.specs.Builder.{mostTables, deepest, most}
-use Rattle.build_memory.specs.Memory.{tableAt, tableHeight, itemTable, itemKind, itemGuest, tableKind, sound, Memory, memory, Outcome, outcome}
+use Rattle.build_memory.specs.Memory.{tableAt, tableHeight, itemTable, itemKind, itemGuest, tableKind, valid, Memory, memory, Outcome, outcome}
 use Rattle.build_memory.specs.Item.{stored}
-use Rattle.build_tables.specs.Table.{takes}
+use Rattle.build_tables.specs.Table.{freeStanding}
 use Rattle.build_values.specs.Walk.{wayOf}
-use Rattle.build_values.specs.Insert.{refused, keyed, insertAlong, insertWalked}
-use Rattle.build_nested.specs.Nest.{heldAt, heldHeight, placeTable, whenAccepted, settled, nested, tableSound, insertTable}
+use Rattle.build_values.specs.Insert.{refused, keyed, insertOrReplace, insertBelowPath}
+use Rattle.build_nested.specs.Nest.{heldAt, heldHeight, placeTable, whenAccepted, settled, nested, nestAtKey, insertTable}
 
 -- ---- the heights that a table holds
 
@@ -79,31 +79,31 @@ module _ (ws ar : List ℕ) (t : ℕ) (key : List ℕ) (guest : ℕ) where
   deep-refused true false e o a = absurd (let z : _≡_ {A = ℕ} 0 1 = cc in omega arith)
   deep-refused false deep e o a = a
 
-  pub accepted-low : (h : ℕ) → (r : Inserted) (m : Memory) → outcome r m ≡ insertWalked ws ar t key (stored tableKind [] guest) (leb (deepest - 1) h)
+  pub accepted-low : (h : ℕ) → (r : Inserted) (m : Memory) → outcome r m ≡ insertBelowPath ws ar t key (stored tableKind [] guest) (leb (deepest - 1) h)
       → (r′ : Inserted) → r ≡ r′ → Accepted r′ → h < 7
-  unfolding insertWalked
+  unfolding insertBelowPath
   accepted-low h r m e r′ p a = by-test (leb 7 h) refl
     where
-      here : Accepted (insertWalked ws ar t key (stored tableKind [] guest) (leb 7 h) .answer)
+      here : Accepted (insertBelowPath ws ar t key (stored tableKind [] guest) (leb 7 h) .answer)
       here = a′
         where
-          a′ : Accepted (insertWalked ws ar t key (stored tableKind [] guest) (leb 7 h) .answer)
+          a′ : Accepted (insertBelowPath ws ar t key (stored tableKind [] guest) (leb 7 h) .answer)
           a′ = rw (sym (ap (λ (o : Outcome Inserted). o .answer) e), p) a
 
       by-test : (q : Bool) → leb 7 h ≡ q → h < 7
-      by-test true f = absurd (deep-refused (wayOf ws ar t key .clear) (leb 7 h) f (insertAlong ws ar t key (stored tableKind [] guest) (wayOf ws ar t key .from) (wayOf ws ar t key .parent)) here)
+      by-test true f = absurd (deep-refused (wayOf ws ar t key .clear) (leb 7 h) f (insertOrReplace ws ar t key (stored tableKind [] guest) (wayOf ws ar t key .from) (wayOf ws ar t key .parent)) here)
       by-test false f = leb-false 7 h f
 
 -- ---- the stages
 
 module _ (ws ar : List ℕ) (t : ℕ) (key : List ℕ) (guest h : ℕ) (is : h ≡ heldHeight ws guest) (r : Inserted) (w a : List ℕ)
-    (e : outcome r (memory w a) ≡ insertWalked ws ar t key (stored tableKind [] guest) (leb (deepest - 1) h)) where
-  walked-is : outcome r (memory w a) ≡ insertWalked ws ar t key (stored tableKind [] guest) (ltb deepest (heldHeight ws guest + 1 + 1))
-  walked-is = e ∙ ap (insertWalked ws ar t key (stored tableKind [] guest)) (deep-is (heldHeight ws guest) h is)
+    (e : outcome r (memory w a) ≡ insertBelowPath ws ar t key (stored tableKind [] guest) (leb (deepest - 1) h)) where
+  walked-is : outcome r (memory w a) ≡ insertBelowPath ws ar t key (stored tableKind [] guest) (ltb deepest (heldHeight ws guest + 1 + 1))
+  walked-is = e ∙ ap (insertBelowPath ws ar t key (stored tableKind [] guest)) (deep-is (heldHeight ws guest) h is)
 
   nested-is : settled guest (h + 1) (outcome r (memory w a)) ≡ nested ws ar t key guest
   unfolding nested
-  nested-is = ap (settled guest (h + 1)) walked-is ∙ ap (λ (n : ℕ). settled guest (n + 1) (insertWalked ws ar t key (stored tableKind [] guest) (ltb deepest (heldHeight ws guest + 1 + 1)))) is
+  nested-is = ap (settled guest (h + 1)) walked-is ∙ ap (λ (n : ℕ). settled guest (n + 1) (insertBelowPath ws ar t key (stored tableKind [] guest) (ltb deepest (heldHeight ws guest + 1 + 1)))) is
 
   pub nested-refused : (why : Refusal) → r ≡ Inserted.Refused why → outcome (Inserted.Refused why) (memory w a) ≡ nested ws ar t key guest
   unfolding settled whenAccepted
@@ -119,28 +119,28 @@ module _ (ws ar : List ℕ) (t : ℕ) (key : List ℕ) (guest h : ℕ) (is : h �
   nested-old kind p w2 f = rw f (rw p at nested-is)
 
 module _ (ws ar : List ℕ) (t : ℕ) (key : List ℕ) (guest : ℕ) where
-  pub table-unknown : takes ws t ≡ false → refused TableUnknown ws ar ≡ tableSound ws ar t key guest
-  unfolding tableSound pick
+  pub table-unknown : freeStanding ws t ≡ false → refused TableUnknown ws ar ≡ nestAtKey ws ar t key guest
+  unfolding nestAtKey pick
   table-unknown h = simp h
 
-  module _ (free : takes ws t ≡ true) where
-    pub guest-unknown : takes ws guest ≡ false → refused TableUnknown ws ar ≡ tableSound ws ar t key guest
-    unfolding tableSound pick
+  module _ (free : freeStanding ws t ≡ true) where
+    pub guest-unknown : freeStanding ws guest ≡ false → refused TableUnknown ws ar ≡ nestAtKey ws ar t key guest
+    unfolding nestAtKey pick
     guest-unknown h = simp (free, h)
 
-    module _ (loose : takes ws guest ≡ true) where
-      pub in-itself : t ≡ guest → refused TableInItself ws ar ≡ tableSound ws ar t key guest
-      unfolding tableSound pick
+    module _ (loose : freeStanding ws guest ≡ true) where
+      pub in-itself : t ≡ guest → refused TableInItself ws ar ≡ nestAtKey ws ar t key guest
+      unfolding nestAtKey pick
       in-itself h = simp (free, loose, eq-eqb _ _ h)
 
-      pub two-tables : (t ≡ guest → ⊥) → keyed ws ar key (nested ws ar t key guest) ≡ tableSound ws ar t key guest
-      unfolding tableSound pick
+      pub two-tables : (t ≡ guest → ⊥) → keyed ws ar key (nested ws ar t key guest) ≡ nestAtKey ws ar t key guest
+      unfolding nestAtKey pick
       two-tables h = simp (free, loose, ne-eqb _ _ h)
 
-  pub table-unsound : sound ws (length ar) ≡ false → refused MemoryBroken ws ar ≡ insertTable ws ar t key guest
+  pub table-invalid : valid ws (length ar) ≡ false → refused MemoryBroken ws ar ≡ insertTable ws ar t key guest
   unfolding insertTable pick
-  table-unsound h = simp h
+  table-invalid h = simp h
 
-  pub table-sound : sound ws (length ar) ≡ true → tableSound ws ar t key guest ≡ insertTable ws ar t key guest
+  pub nest-at-key : valid ws (length ar) ≡ true → nestAtKey ws ar t key guest ≡ insertTable ws ar t key guest
   unfolding insertTable pick
-  table-sound h = simp h
+  nest-at-key h = simp h

@@ -10,10 +10,10 @@ use Rattle.words.specs.Store.{putAt}
 use Rattle.layout.specs.declared.refusal.Refusal.the-variants.{MemoryBroken, TableUnknown, TableInItself}
 use Rattle.model.specs.declared.Inserted.{Inserted}
 use Rattle.model.specs.Builder.{mostTables, deepest, most}
-use Rattle.build_memory.specs.Memory.{tableAt, itemTotal, tableHeight, itemTable, itemKind, itemGuest, tableKind, sound, memory, Outcome, outcome}
+use Rattle.build_memory.specs.Memory.{tableAt, itemTotal, tableHeight, itemTable, itemKind, itemGuest, tableKind, valid, memory, Outcome, outcome}
 use Rattle.build_memory.specs.Item.{stored}
-use Rattle.build_tables.specs.Table.{takes}
-use Rattle.build_values.specs.Insert.{refused, keyed, insertWalked}
+use Rattle.build_tables.specs.Table.{freeStanding}
+use Rattle.build_values.specs.Insert.{refused, keyed, insertBelowPath}
 
 -- the height of the table that item i holds, as that table's record says, where i is an item of table t that holds one; else 0
 unfoldable pub heldAt : List ℕ → ℕ → ℕ → ℕ
@@ -42,15 +42,15 @@ settled guest height o =
 unfoldable pub nested : List ℕ → List ℕ → ℕ → List ℕ → ℕ → Outcome Inserted
 nested ws ar t key guest =
     settled guest (heldHeight ws guest + 1)
-    (insertWalked ws ar t key (stored tableKind [] guest) (ltb deepest (heldHeight ws guest + 1 + 1)))
+    (insertBelowPath ws ar t key (stored tableKind [] guest) (ltb deepest (heldHeight ws guest + 1 + 1)))
 
-unfoldable pub tableSound : List ℕ → List ℕ → ℕ → List ℕ → ℕ → Outcome Inserted
-tableSound ws ar t key guest =
-    pick (takes ws t)
-    (pick (takes ws guest)
+unfoldable pub nestAtKey : List ℕ → List ℕ → ℕ → List ℕ → ℕ → Outcome Inserted
+nestAtKey ws ar t key guest =
+    pick (freeStanding ws t)
+    (pick (freeStanding ws guest)
     (pick (eqb t guest) (refused TableInItself ws ar) (keyed ws ar key (nested ws ar t key guest)))
     (refused TableUnknown ws ar))
     (refused TableUnknown ws ar)
 
 unfoldable pub insertTable : List ℕ → List ℕ → ℕ → List ℕ → ℕ → Outcome Inserted
-insertTable ws ar t key guest = pick (sound ws (length ar)) (tableSound ws ar t key guest) (refused MemoryBroken ws ar)
+insertTable ws ar t key guest = pick (valid ws (length ar)) (nestAtKey ws ar t key guest) (refused MemoryBroken ws ar)

@@ -1,13 +1,13 @@
 // The height of a table: one more than the greatest height that it holds.
-use build_memory::place::GUEST;
-use build_memory::place::HEIGHT;
-use build_memory::place::ITEMS;
-use build_memory::place::KIND;
-use build_memory::place::MOST_TABLES;
-use build_memory::place::TABLE;
-use build_memory::place::TABLE_KIND;
-use build_memory::place::item_word;
-use build_memory::place::table_word;
+use build_memory::fields::GUEST;
+use build_memory::fields::HEIGHT;
+use build_memory::fields::ITEMS;
+use build_memory::fields::KIND;
+use build_memory::fields::MOST_TABLES;
+use build_memory::fields::TABLE;
+use build_memory::fields::TABLE_KIND;
+use build_memory::fields::item_word;
+use build_memory::fields::table_word;
 ghost use mathlib.Core.Path.{_≡_};
 ghost use Prim.Native.Nat.{_≤_, _<_};
 ghost use lib.ListN.{length};

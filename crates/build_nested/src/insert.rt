@@ -1,15 +1,15 @@
 // The insert of a table into another.
 use crate::height::held_height;
-use build_memory::place::DEEPEST;
-use build_memory::place::LONGEST_KEY;
-use build_memory::place::PLACED;
-use build_memory::place::TABLE_KIND;
-use build_memory::place::TABLE_SIZE;
-use build_memory::place::TABLES_FROM;
+use build_memory::fields::DEEPEST;
+use build_memory::fields::LONGEST_KEY;
+use build_memory::fields::PLACED;
+use build_memory::fields::TABLE_KIND;
+use build_memory::fields::TABLE_SIZE;
+use build_memory::fields::TABLES_FROM;
 use build_memory::rules::judge;
-use build_tables::add::takes_items;
+use build_tables::add::is_free_standing;
 use build_values::insert::Job;
-use build_values::insert::insert_walked;
+use build_values::insert::insert_below_path;
 use layout::refusal::Refusal;
 use model::Inserted;
 use text::utf8::is_utf8;
@@ -18,9 +18,9 @@ ghost use mathlib.Core.Path.{_≡_};
 ghost use Prim.Native.Nat.{_≤_, _<_};
 ghost use lib.ListN.{length};
 ghost use Rattle.model.specs.Builder.{mostTables};
-ghost use Rattle.build_memory.specs.Memory.{leastWords, tableTotal, Sound, memory, outcome};
+ghost use Rattle.build_memory.specs.Memory.{leastWords, tableTotal, Valid, memory, outcome};
 ghost use Rattle.build_values.specs.Insert.{Ready};
-ghost use Rattle.build_nested.specs.Nest.{placeTable, nested, tableSound, insertTable};
+ghost use Rattle.build_nested.specs.Nest.{placeTable, nested, nestAtKey, insertTable};
 
 // Marks a table as placed, with its height.
 fn place_table(words: &mut [usize], table: usize, height: usize)
@@ -51,7 +51,7 @@ fn insert_nested(
         kind: TABLE_KIND,
         guest,
     };
-    let r = insert_walked(words, arena, job, key, &key[..0], deep);
+    let r = insert_below_path(words, arena, job, key, &key[..0], deep);
     match r {
         Inserted::Refused(why) => Inserted::Refused(why),
         Inserted::New => {
@@ -66,20 +66,20 @@ fn insert_nested(
 }
 
 // Both tables take inserts (24), they are two (25), and the key is one (8, 20).
-fn table_sound(
+fn nest_at_key(
     words: &mut [usize],
     arena: &mut [u8],
     table: usize,
     key: &[u8],
     guest: usize,
 ) -> Inserted
-    requires { ⌜ Sound (now words) (length (now arena)) ⌝ }
-    ensures { λ r. ⌜ outcome r (memory (now (words .exit)) (now (arena .exit))) ≡ tableSound (now (words .entry)) (now (arena .entry)) table (now (key .entry)) guest ⌝ }
+    requires { ⌜ Valid (now words) (length (now arena)) ⌝ }
+    ensures { λ r. ⌜ outcome r (memory (now (words .exit)) (now (arena .exit))) ≡ nestAtKey (now (words .entry)) (now (arena .entry)) table (now (key .entry)) guest ⌝ }
 {
-    if !takes_items(words, arena, table) {
+    if !is_free_standing(words, arena, table) {
         return Inserted::Refused(Refusal::TableUnknown);
     }
-    if !takes_items(words, arena, guest) {
+    if !is_free_standing(words, arena, guest) {
         return Inserted::Refused(Refusal::TableUnknown);
     }
     if table == guest {
@@ -109,5 +109,5 @@ pub fn insert_table(
     }
     let t = word_size(table);
     let g = word_size(guest);
-    table_sound(words, arena, t, key, g)
+    nest_at_key(words, arena, t, key, g)
 }

@@ -1,3 +1,3 @@
-pub mod WholeLaws
-pub mod WholeFacts
+pub mod ValidLaws
+pub mod ValidFacts
 pub mod Unique

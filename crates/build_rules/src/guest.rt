@@ -1,23 +1,23 @@
 // The tables that items hold: specs/Whole.antt names each rule.
-use build_memory::place::DEEPEST;
-use build_memory::place::GUEST;
-use build_memory::place::HEIGHT;
-use build_memory::place::ITEMS;
-use build_memory::place::KIND;
-use build_memory::place::MOST_TABLES;
-use build_memory::place::PLACED;
-use build_memory::place::TABLE;
-use build_memory::place::TABLE_KIND;
-use build_memory::place::TABLES;
-use build_memory::place::item_word;
-use build_memory::place::table_word;
+use build_memory::fields::DEEPEST;
+use build_memory::fields::GUEST;
+use build_memory::fields::HEIGHT;
+use build_memory::fields::ITEMS;
+use build_memory::fields::KIND;
+use build_memory::fields::MOST_TABLES;
+use build_memory::fields::PLACED;
+use build_memory::fields::TABLE;
+use build_memory::fields::TABLE_KIND;
+use build_memory::fields::TABLES;
+use build_memory::fields::item_word;
+use build_memory::fields::table_word;
 ghost use mathlib.Core.Path.{_≡_};
 ghost use Prim.Native.Nat.{_<_, _≤_};
 ghost use lib.ListN.{length};
 ghost use Rattle.words.specs.Below.{allBelow};
 ghost use Rattle.model.specs.Builder.{mostItems, mostTables};
 ghost use Rattle.build_memory.specs.Memory.{leastWords, itemTotal, tableTotal, itemTable};
-ghost use Rattle.build_rules.specs.Whole.{heightLimit, guestPlaced, guestRight, heldOnce, GuestsFew};
+ghost use Rattle.build_rules.specs.Valid.{heightLimit, guestPlaced, guestValid, heldOnce, GuestsFew};
 
 // What a table that table t holds must be lower than.
 fn height_limit(words: &[usize], t: usize) -> usize
@@ -44,10 +44,10 @@ fn guest_placed(words: &[usize], t: usize, guest: usize) -> bool
 }
 
 // Whether item i, of a table that is known, holds no table, or one as it should be.
-pub fn guest_right(words: &[usize], i: usize) -> bool
+pub fn guest_valid(words: &[usize], i: usize) -> bool
     requires { ⌜ (leastWords ≤ length (now words)) × (i < mostItems) × (tableTotal (now words) ≤ mostTables) ⌝ }
     requires { ⌜ itemTable (now words) i < tableTotal (now words) ⌝ }
-    ensures { λ r. ⌜ r ≡ guestRight (now (words .entry)) i ⌝ }
+    ensures { λ r. ⌜ r ≡ guestValid (now (words .entry)) i ⌝ }
 {
     if item_word(words, i, KIND) != TABLE_KIND {
         return true;

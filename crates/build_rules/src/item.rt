@@ -1,22 +1,22 @@
 // The place, the key and the parent of an item: specs/Whole.antt names each rule.
+use build_memory::fields::CONTAINER_KIND;
+use build_memory::fields::HASH;
+use build_memory::fields::KEY;
+use build_memory::fields::KEY_SIZE;
+use build_memory::fields::KIND;
+use build_memory::fields::LONGEST_KEY;
+use build_memory::fields::PARENT;
+use build_memory::fields::TABLE;
+use build_memory::fields::TABLE_KIND;
+use build_memory::fields::TABLES;
+use build_memory::fields::USED;
+use build_memory::fields::VALUE;
+use build_memory::fields::VALUE_KIND;
+use build_memory::fields::VALUE_SIZE;
+use build_memory::fields::item_word;
+use build_memory::fields::key_of;
 use build_memory::find::find_hashed;
 use build_memory::find::hash_word;
-use build_memory::place::CONTAINER_KIND;
-use build_memory::place::HASH;
-use build_memory::place::KEY;
-use build_memory::place::KEY_SIZE;
-use build_memory::place::KIND;
-use build_memory::place::LONGEST_KEY;
-use build_memory::place::PARENT;
-use build_memory::place::TABLE;
-use build_memory::place::TABLE_KIND;
-use build_memory::place::TABLES;
-use build_memory::place::USED;
-use build_memory::place::VALUE;
-use build_memory::place::VALUE_KIND;
-use build_memory::place::VALUE_SIZE;
-use build_memory::place::item_word;
-use build_memory::place::key_of;
 use text::compare::same_bytes;
 use text::utf8::is_utf8;
 ghost use mathlib.Core.Path.{_≡_};
@@ -24,8 +24,8 @@ ghost use Prim.Native.Nat.{_+_, _<_, _≤_};
 ghost use lib.ListN.{length};
 ghost use lib.Dec.{leb};
 ghost use Rattle.model.specs.Builder.{mostItems};
-ghost use Rattle.build_memory.specs.Memory.{leastWords, itemTotal, Sound};
-ghost use Rattle.build_rules.specs.Whole.{valuePlaced, placeRight, keyRight, begunBy, parentRight};
+ghost use Rattle.build_memory.specs.Memory.{leastWords, itemTotal, Valid};
+ghost use Rattle.build_rules.specs.Valid.{valueWithin, rangesValid, keyValid, begunBy, parentValid};
 
 // Whether a stretch ends within the room used; the sum might not fit a word.
 fn ends_within(start: usize, size: usize, used: usize) -> bool
@@ -38,9 +38,9 @@ fn ends_within(start: usize, size: usize, used: usize) -> bool
 }
 
 // Whether item i's value, if it is one, lies within the room used.
-fn value_placed(words: &[usize], i: usize) -> bool
+fn value_within(words: &[usize], i: usize) -> bool
     requires { ⌜ (leastWords ≤ length (now words)) × (i < mostItems) ⌝ }
-    ensures { λ r. ⌜ r ≡ valuePlaced (now (words .entry)) i ⌝ }
+    ensures { λ r. ⌜ r ≡ valueWithin (now (words .entry)) i ⌝ }
 {
     if item_word(words, i, KIND) != VALUE_KIND {
         return true;
@@ -53,22 +53,22 @@ fn value_placed(words: &[usize], i: usize) -> bool
 }
 
 // Whether item i's table, key, kind and value are in their ranges.
-pub fn place_right(words: &[usize], i: usize) -> bool
+pub fn ranges_valid(words: &[usize], i: usize) -> bool
     requires { ⌜ (leastWords ≤ length (now words)) × (i < mostItems) ⌝ }
-    ensures { λ r. ⌜ r ≡ placeRight (now (words .entry)) i ⌝ }
+    ensures { λ r. ⌜ r ≡ rangesValid (now (words .entry)) i ⌝ }
 {
     let known = item_word(words, i, TABLE) < words[TABLES];
     let size = item_word(words, i, KEY_SIZE);
     let placed = ends_within(item_word(words, i, KEY), size, words[USED]);
     let kind = item_word(words, i, KIND);
-    let right = (kind == VALUE_KIND) | ((kind == TABLE_KIND) | (kind == CONTAINER_KIND));
-    known & (placed & ((size <= LONGEST_KEY) & (right & value_placed(words, i))))
+    let valid = (kind == VALUE_KIND) | ((kind == TABLE_KIND) | (kind == CONTAINER_KIND));
+    known & (placed & ((size <= LONGEST_KEY) & (valid & value_within(words, i))))
 }
 
 // Whether item i's key is UTF-8, has the hash that is written, and is found as this item.
-pub fn key_right(words: &[usize], arena: &[u8], i: usize) -> bool
-    requires { ⌜ Sound (now words) (length (now arena)) × (i < itemTotal (now words)) ⌝ }
-    ensures { λ r. ⌜ r ≡ keyRight (now (words .entry)) (now (arena .entry)) i ⌝ }
+pub fn key_valid(words: &[usize], arena: &[u8], i: usize) -> bool
+    requires { ⌜ Valid (now words) (length (now arena)) × (i < itemTotal (now words)) ⌝ }
+    ensures { λ r. ⌜ r ≡ keyValid (now (words .entry)) (now (arena .entry)) i ⌝ }
 {
     let key = key_of(words, arena, i);
     let text = is_utf8(key);
@@ -91,9 +91,9 @@ fn begun_by(short: &[u8], key: &[u8]) -> bool
 }
 
 // Whether item i has no parent, or one that was made before it, in its table, whose key begins its own.
-pub fn parent_right(words: &[usize], arena: &[u8], i: usize) -> bool
+pub fn parent_valid(words: &[usize], arena: &[u8], i: usize) -> bool
     requires { ⌜ (leastWords ≤ length (now words)) × (i < mostItems) ⌝ }
-    ensures { λ r. ⌜ r ≡ parentRight (now (words .entry)) (now (arena .entry)) i ⌝ }
+    ensures { λ r. ⌜ r ≡ parentValid (now (words .entry)) (now (arena .entry)) i ⌝ }
 {
     let parent = item_word(words, i, PARENT);
     if parent == 0 {

@@ -12,11 +12,11 @@ use Rattle.words.specs.Choice.{pick}
 use Rattle.words.specs.Store.{putAt}
 use Rattle.words.proofs.ChoiceLaws.{both}
 use Rattle.layout.specs.declared.refusal.Refusal.the-variants.{MemoryBroken, TableUnknown, TooManyTables, SeparatorOutside}
-use Rattle.model.specs.declared.Numbered.{Numbered}
+use Rattle.model.specs.declared.Added.{Added}
 use Rattle.model.specs.declared.Counted.{Counted}
 use Rattle.model.specs.Builder.{mostTables, separatorOf}
-use Rattle.build_memory.specs.Memory.{tableAt, tableTotal, itemTotal, tablePlaced, itemTable, sound, memory, outcome}
-use Rattle.build_tables.specs.Table.{takes, unnumbered, addTable, newTable, countOf, itemCount}
+use Rattle.build_memory.specs.Memory.{tableAt, tableTotal, itemTotal, tablePlaced, itemTable, valid, memory, outcome}
+use Rattle.build_tables.specs.Table.{freeStanding, notAdded, addTable, newTable, countOf, itemCount}
 
 -- ---- a separator, by its length
 
@@ -45,22 +45,22 @@ separator-high (x ∷ y ∷ s) b e is l = absurd (omega arith)
 
 -- ---- a table that takes items
 
-pub takes-unknown : (ws : List ℕ) (t : ℕ) → tableTotal ws ≤ t → false ≡ takes ws t
-unfolding takes
-takes-unknown ws t h = simp (le-ltb _ _ h)
+pub free-standing-unknown : (ws : List ℕ) (t : ℕ) → tableTotal ws ≤ t → false ≡ freeStanding ws t
+unfolding freeStanding
+free-standing-unknown ws t h = simp (le-ltb _ _ h)
 
-pub takes-known : (ws : List ℕ) (t placed : ℕ) → t < tableTotal ws → placed ≡ tablePlaced ws t → eqb placed 0 ≡ takes ws t
-unfolding takes
-takes-known ws t placed h e = simp (lt-ltb _ _ h, e)
+pub free-standing-known : (ws : List ℕ) (t placed : ℕ) → t < tableTotal ws → placed ≡ tablePlaced ws t → eqb placed 0 ≡ freeStanding ws t
+unfolding freeStanding
+free-standing-known ws t placed h e = simp (lt-ltb _ _ h, e)
 
-pub takes-facts : (ws : List ℕ) (t : ℕ) → takes ws t ≡ true → (t < tableTotal ws) × (tablePlaced ws t ≡ 0)
-unfolding takes
-takes-facts ws t e = let h = both (ltb t (tableTotal ws)) (eqb (tablePlaced ws t) 0) e in (ltb-true _ _ (h .0), eqb-true _ _ (h .1))
+pub free-standing-facts : (ws : List ℕ) (t : ℕ) → freeStanding ws t ≡ true → (t < tableTotal ws) × (tablePlaced ws t ≡ 0)
+unfolding freeStanding
+free-standing-facts ws t e = let h = both (ltb t (tableTotal ws)) (eqb (tablePlaced ws t) 0) e in (ltb-true _ _ (h .0), eqb-true _ _ (h .1))
 
 -- ---- a new table
 
 module _ (ws ar : List ℕ) (separator : ℕ) where
-  pub tables-many : mostTables ≤ tableTotal ws → unnumbered TooManyTables ws ar ≡ addTable ws ar separator
+  pub tables-many : mostTables ≤ tableTotal ws → notAdded TooManyTables ws ar ≡ addTable ws ar separator
   unfolding addTable pick
   tables-many h = simp (le-leb _ _ h)
 
@@ -76,22 +76,22 @@ module _ (ws ar : List ℕ) (separator : ℕ) where
   one-store l at a = refl
 
   pub table-added : tableTotal ws < mostTables → (number : ℕ) → number ≡ tableTotal ws
-      → outcome (Numbered.Table number)
+      → outcome (Added.Table number)
       (memory (set (set (set (set ws (tableAt (tableTotal ws)) separator) (tableAt (tableTotal ws) + 1) 0) (tableAt (tableTotal ws) + 2) 0) 2 (tableTotal ws + 1)) ar)
       ≡ addTable ws ar separator
   unfolding addTable pick
   table-added l number is =
       simp (lt-leb _ _ l, is)
-      (ap (λ (w : List ℕ). outcome (Numbered.Table (tableTotal ws)) (memory w ar))
+      (ap (λ (w : List ℕ). outcome (Added.Table (tableTotal ws)) (memory w ar))
       (ap (λ (w : List ℕ). set w 2 (tableTotal ws + 1)) (three-stores ws (tableAt (tableTotal ws)) separator 0 0) ∙ one-store _ 2 (tableTotal ws + 1)))
 
 module _ (ws ar separator : List ℕ) where
-  pub table-unsound : sound ws (length ar) ≡ false → unnumbered MemoryBroken ws ar ≡ newTable ws ar separator
+  pub table-invalid : valid ws (length ar) ≡ false → notAdded MemoryBroken ws ar ≡ newTable ws ar separator
   unfolding newTable pick
-  table-unsound e = simp e
+  table-invalid e = simp e
 
-  module _ (ok : sound ws (length ar) ≡ true) (b : ℕ) (is : b ≡ separatorOf separator) where
-    pub table-outside : b ≡ 0 → unnumbered SeparatorOutside ws ar ≡ newTable ws ar separator
+  module _ (ok : valid ws (length ar) ≡ true) (b : ℕ) (is : b ≡ separatorOf separator) where
+    pub table-outside : b ≡ 0 → notAdded SeparatorOutside ws ar ≡ newTable ws ar separator
     unfolding newTable pick
     table-outside h = simp (ok, ← is, eq-eqb _ _ h)
 
@@ -116,11 +116,11 @@ module _ (ws : List ℕ) (t : ℕ) where
     count-one e = rw (add-one i) (simp (← is, eq-eqb _ _ e, ← so-far) (add-one count))
 
 module _ (ws ar : List ℕ) (t : ℕ) where
-  pub count-unsound : sound ws (length ar) ≡ false → Counted.Refused MemoryBroken ≡ itemCount ws ar t
+  pub count-invalid : valid ws (length ar) ≡ false → Counted.Refused MemoryBroken ≡ itemCount ws ar t
   unfolding itemCount pick
-  count-unsound e = simp e
+  count-invalid e = simp e
 
-  module _ (ok : sound ws (length ar) ≡ true) where
+  module _ (ok : valid ws (length ar) ≡ true) where
     pub count-unknown : tableTotal ws ≤ t → Counted.Refused TableUnknown ≡ itemCount ws ar t
     unfolding itemCount pick
     count-unknown h = simp (ok, le-ltb _ _ h)

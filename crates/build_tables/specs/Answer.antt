@@ -2,17 +2,17 @@
 -- definitions.
 use Prim.Native.Nat.{ℕ}
 use Rattle.layout.specs.Refusal.{number}
-use Rattle.model.specs.declared.Numbered.{Numbered}
+use Rattle.model.specs.declared.Added.{Added}
 use Rattle.model.specs.declared.Counted.{Counted}
 
-unfoldable pub numberedNumber : Numbered → ℕ
-numberedNumber (Numbered.Table t) = 0
-numberedNumber (Numbered.Refused why) = number why
+unfoldable pub addedNumber : Added → ℕ
+addedNumber (Added.Table t) = 0
+addedNumber (Added.Refused why) = number why
 
 -- the new table's number
-unfoldable pub numberedTable : Numbered → ℕ
-numberedTable (Numbered.Table t) = t
-numberedTable (Numbered.Refused why) = 0
+unfoldable pub addedTable : Added → ℕ
+addedTable (Added.Table t) = t
+addedTable (Added.Refused why) = 0
 
 unfoldable pub countedNumber : Counted → ℕ
 countedNumber (Counted.Items n) = 0

@@ -8,30 +8,30 @@ use Rattle.words.specs.Choice.{pick}
 use Rattle.words.specs.Store.{putAt}
 use Rattle.layout.specs.declared.refusal.Refusal.{Refusal}
 use Rattle.layout.specs.declared.refusal.Refusal.the-variants.{MemoryBroken, TableUnknown, TooManyTables, SeparatorOutside}
-use Rattle.model.specs.declared.Numbered.{Numbered}
+use Rattle.model.specs.declared.Added.{Added}
 use Rattle.model.specs.declared.Counted.{Counted}
 use Rattle.model.specs.Builder.{mostTables, separatorOf}
-use Rattle.build_memory.specs.Memory.{tableAt, tableTotal, itemTotal, tablePlaced, itemTable, sound, memory, Outcome, outcome}
+use Rattle.build_memory.specs.Memory.{tableAt, tableTotal, itemTotal, tablePlaced, itemTable, valid, memory, Outcome, outcome}
 
 -- the table is known and not placed
-unfoldable pub takes : List ℕ → ℕ → Bool
-takes ws t = ltb t (tableTotal ws) && eqb (tablePlaced ws t) 0
+unfoldable pub freeStanding : List ℕ → ℕ → Bool
+freeStanding ws t = ltb t (tableTotal ws) && eqb (tablePlaced ws t) 0
 
-abbrev pub unnumbered : Refusal → List ℕ → List ℕ → Outcome Numbered
-unnumbered why ws ar = outcome (Numbered.Refused why) (memory ws ar)
+abbrev pub notAdded : Refusal → List ℕ → List ℕ → Outcome Added
+notAdded why ws ar = outcome (Added.Refused why) (memory ws ar)
 
 -- the next table, not placed
-unfoldable pub addTable : List ℕ → List ℕ → ℕ → Outcome Numbered
+unfoldable pub addTable : List ℕ → List ℕ → ℕ → Outcome Added
 addTable ws ar separator =
-    pick (leb mostTables (tableTotal ws)) (unnumbered TooManyTables ws ar)
-    (outcome (Numbered.Table (tableTotal ws))
+    pick (leb mostTables (tableTotal ws)) (notAdded TooManyTables ws ar)
+    (outcome (Added.Table (tableTotal ws))
     (memory (putAt (putAt ws (tableAt (tableTotal ws)) (separator ∷ 0 ∷ 0 ∷ [])) 2 ((tableTotal ws + 1) ∷ [])) ar))
 
-unfoldable pub newTable : List ℕ → List ℕ → List ℕ → Outcome Numbered
+unfoldable pub newTable : List ℕ → List ℕ → List ℕ → Outcome Added
 newTable ws ar separator =
-    pick (sound ws (length ar))
-    (pick (eqb (separatorOf separator) 0) (unnumbered SeparatorOutside ws ar) (addTable ws ar (separatorOf separator)))
-    (unnumbered MemoryBroken ws ar)
+    pick (valid ws (length ar))
+    (pick (eqb (separatorOf separator) 0) (notAdded SeparatorOutside ws ar) (addTable ws ar (separatorOf separator)))
+    (notAdded MemoryBroken ws ar)
 
 -- how many of the first n items are of table t
 unfoldable pub countOf : List ℕ → ℕ → ℕ → ℕ
@@ -41,6 +41,6 @@ countOf ws t (suc n) = pick (eqb (itemTable ws n) t) (suc (countOf ws t n)) (cou
 -- a table that is placed has its count too
 unfoldable pub itemCount : List ℕ → List ℕ → ℕ → Counted
 itemCount ws ar t =
-    pick (sound ws (length ar))
+    pick (valid ws (length ar))
     (pick (ltb t (tableTotal ws)) (Counted.Items (countOf ws t (itemTotal ws))) (Counted.Refused TableUnknown))
     (Counted.Refused MemoryBroken)

@@ -1,22 +1,22 @@
 // New tables, and whether a table takes items.
-use build_memory::place::LAST_SEPARATOR;
-use build_memory::place::MOST_TABLES;
-use build_memory::place::NO_SEPARATOR;
-use build_memory::place::PLACED;
-use build_memory::place::TABLE_SIZE;
-use build_memory::place::TABLES;
-use build_memory::place::TABLES_FROM;
-use build_memory::place::table_word;
+use build_memory::fields::LAST_SEPARATOR;
+use build_memory::fields::MOST_TABLES;
+use build_memory::fields::NO_SEPARATOR;
+use build_memory::fields::PLACED;
+use build_memory::fields::TABLE_SIZE;
+use build_memory::fields::TABLES;
+use build_memory::fields::TABLES_FROM;
+use build_memory::fields::table_word;
 use build_memory::rules::judge;
 use layout::refusal::Refusal;
-use model::Numbered;
+use model::Added;
 use words::wide::byte_size;
 ghost use mathlib.Core.Path.{_≡_};
 ghost use Prim.Native.Nat.{_<_, _^_};
 ghost use lib.ListN.{length};
 ghost use Rattle.model.specs.Builder.{separatorOf};
-ghost use Rattle.build_memory.specs.Memory.{Sound, memory, outcome};
-ghost use Rattle.build_tables.specs.Table.{takes, addTable, newTable};
+ghost use Rattle.build_memory.specs.Memory.{Valid, memory, outcome};
+ghost use Rattle.build_tables.specs.Table.{freeStanding, addTable, newTable};
 
 // A number that fits the answers' width.
 pub fn narrow(n: usize) -> u32
@@ -44,9 +44,9 @@ fn separator_word(separator: &[u8]) -> usize
 }
 
 // Whether the table is known and not placed.
-pub fn takes_items(words: &[usize], arena: &[u8], table: usize) -> bool
-    requires { ⌜ Sound (now words) (length (now arena)) ⌝ }
-    ensures { λ r. ⌜ r ≡ takes (now (words .entry)) table ⌝ }
+pub fn is_free_standing(words: &[usize], arena: &[u8], table: usize) -> bool
+    requires { ⌜ Valid (now words) (length (now arena)) ⌝ }
+    ensures { λ r. ⌜ r ≡ freeStanding (now (words .entry)) table ⌝ }
 {
     if words[TABLES] <= table {
         return false;
@@ -55,32 +55,32 @@ pub fn takes_items(words: &[usize], arena: &[u8], table: usize) -> bool
 }
 
 // The next table, with a separator's word.
-fn add_table(words: &mut [usize], arena: &[u8], separator: usize) -> Numbered
-    requires { ⌜ Sound (now words) (length (now arena)) ⌝ }
+fn add_table(words: &mut [usize], arena: &[u8], separator: usize) -> Added
+    requires { ⌜ Valid (now words) (length (now arena)) ⌝ }
     ensures { λ r. ⌜ outcome r (memory (now (words .exit)) (now (arena .entry))) ≡ addTable (now (words .entry)) (now (arena .entry)) separator ⌝ }
 {
     let t = words[TABLES];
     if MOST_TABLES <= t {
-        return Numbered::Refused(Refusal::TooManyTables);
+        return Added::Refused(Refusal::TooManyTables);
     }
     let at = TABLES_FROM + TABLE_SIZE * t;
     words[at] = separator;
     words[at + 1] = 0;
     words[at + 2] = 0;
     words[TABLES] = t + 1;
-    Numbered::Table(narrow(t))
+    Added::Table(narrow(t))
 }
 
 // A new, empty table with the separator: 29, 28, 27.
-pub fn new_table(words: &mut [usize], arena: &[u8], separator: &[u8]) -> Numbered
+pub fn new_table(words: &mut [usize], arena: &[u8], separator: &[u8]) -> Added
     ensures { λ r. ⌜ outcome r (memory (now (words .exit)) (now (arena .entry))) ≡ newTable (now (words .entry)) (now (arena .entry)) (now (separator .entry)) ⌝ }
 {
     if !judge(words, arena) {
-        return Numbered::Refused(Refusal::MemoryBroken);
+        return Added::Refused(Refusal::MemoryBroken);
     }
     let byte = separator_word(separator);
     if byte == 0 {
-        return Numbered::Refused(Refusal::SeparatorOutside);
+        return Added::Refused(Refusal::SeparatorOutside);
     }
     add_table(words, arena, byte)
 }

@@ -1,9 +1,9 @@
 // The count of a table's items.
 use crate::add::narrow;
-use build_memory::place::ITEMS;
-use build_memory::place::TABLE;
-use build_memory::place::TABLES;
-use build_memory::place::item_word;
+use build_memory::fields::ITEMS;
+use build_memory::fields::TABLE;
+use build_memory::fields::TABLES;
+use build_memory::fields::item_word;
 use build_memory::rules::judge;
 use layout::refusal::Refusal;
 use model::Counted;

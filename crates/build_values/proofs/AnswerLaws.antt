@@ -16,12 +16,12 @@ use Rattle.layout.specs.declared.refusal.Refusal.{Refusal}
 use Rattle.layout.specs.declared.refusal.Refusal.the-variants.{MemoryBroken, TableUnknown, KeyNotUtf8, KeyTooLong, NotContainer, TooManyItems, ArenaFull, NestedTooDeep}
 use Rattle.model.specs.declared.Inserted.{Inserted}
 use Rattle.model.specs.Builder.{longestKey, mostItems}
-use Rattle.build_memory.specs.Memory.{itemTotal, roomUsed, tableSeparator, itemKind, valueKind, sound, Memory, memory, Outcome, outcome}
+use Rattle.build_memory.specs.Memory.{itemTotal, roomUsed, tableSeparator, itemKind, valueKind, valid, Memory, memory, Outcome, outcome}
 use Rattle.build_memory.specs.Find.{findKey}
 use Rattle.build_memory.specs.Item.{Stored, stored, kindOf}
-use Rattle.build_tables.specs.Table.{takes}
+use Rattle.build_tables.specs.Table.{freeStanding}
 use Rattle.build_values.specs.Walk.{wayOf, sum}
-use Rattle.build_values.specs.Insert.{refused, insertNew, overwrite, insertAlong, insertWalked, keyed, insertSound, insertValue}
+use Rattle.build_values.specs.Insert.{refused, insertNew, overwrite, insertOrReplace, insertBelowPath, keyed, insertAtKey, insertValue}
 use Rattle.build_values.specs.Answer.{insertedNumber}
 
 -- ---- the insert of a value: 29, 24, 8, 20, 21, 22, 23
@@ -33,62 +33,62 @@ module _ (ws ar : List ℕ) (t : ℕ) (key : List ℕ) (c : Stored) (deep : Bool
   abbrev ends : List ℕ
   ends = endsPast (tableSeparator ws t) key (wayOf ws ar t key .from)
 
-  pub walked-21 : wayOf ws ar t key .clear ≡ false → numberOf (insertWalked ws ar t key c deep) ≡ 21
-  unfolding insertWalked insertedNumber pick
+  pub walked-21 : wayOf ws ar t key .clear ≡ false → numberOf (insertBelowPath ws ar t key c deep) ≡ 21
+  unfolding insertBelowPath insertedNumber pick
   walked-21 h = simp h
 
   module _ (clear : wayOf ws ar t key .clear ≡ true) where
-    pub walked-26 : deep ≡ true → numberOf (insertWalked ws ar t key c deep) ≡ 26
-    unfolding insertWalked insertedNumber pick
+    pub walked-26 : deep ≡ true → numberOf (insertBelowPath ws ar t key c deep) ≡ 26
+    unfolding insertBelowPath insertedNumber pick
     walked-26 h = simp (clear, h)
 
     module _ (shallow : deep ≡ false) where
       module _ (missing : itemTotal ws ≤ findKey ws ar t key) where
-        pub walked-22 : mostItems < itemTotal ws + length ends → numberOf (insertWalked ws ar t key c deep) ≡ 22
-        unfolding insertWalked insertAlong insertNew insertedNumber pick
+        pub walked-22 : mostItems < itemTotal ws + length ends → numberOf (insertBelowPath ws ar t key c deep) ≡ 22
+        unfolding insertBelowPath insertOrReplace insertNew insertedNumber pick
         walked-22 h = simp (clear, shallow, le-ltb _ _ missing, lt-ltb _ _ h)
 
         module _ (few : itemTotal ws + length ends ≤ mostItems) where
-          pub walked-23 : length ar < roomUsed ws + sum ends + length (c .value) → numberOf (insertWalked ws ar t key c deep) ≡ 23
-          unfolding insertWalked insertAlong insertNew insertedNumber pick
+          pub walked-23 : length ar < roomUsed ws + sum ends + length (c .value) → numberOf (insertBelowPath ws ar t key c deep) ≡ 23
+          unfolding insertBelowPath insertOrReplace insertNew insertedNumber pick
           walked-23 h = simp (clear, shallow, le-ltb _ _ missing, le-ltb _ _ few, lt-ltb _ _ h)
 
-          pub walked-new : roomUsed ws + sum ends + length (c .value) ≤ length ar → insertWalked ws ar t key c deep .answer ≡ Inserted.New
-          unfolding insertWalked insertAlong insertNew pick
+          pub walked-new : roomUsed ws + sum ends + length (c .value) ≤ length ar → insertBelowPath ws ar t key c deep .answer ≡ Inserted.New
+          unfolding insertBelowPath insertOrReplace insertNew pick
           walked-new h = simp (clear, shallow, le-ltb _ _ missing, le-ltb _ _ few, le-ltb _ _ h)
 
       module _ (there : findKey ws ar t key < itemTotal ws) where
-        pub walked-23-old : length ar < roomUsed ws + length (c .value) → numberOf (insertWalked ws ar t key c deep) ≡ 23
-        unfolding insertWalked insertAlong overwrite insertedNumber pick
+        pub walked-23-old : length ar < roomUsed ws + length (c .value) → numberOf (insertBelowPath ws ar t key c deep) ≡ 23
+        unfolding insertBelowPath insertOrReplace overwrite insertedNumber pick
         walked-23-old h = simp (clear, shallow, lt-ltb _ _ there, lt-ltb _ _ h)
 
         pub walked-old : roomUsed ws + length (c .value) ≤ length ar
-            → insertWalked ws ar t key c deep .answer ≡ Inserted.Replaced (kindOf (itemKind ws (findKey ws ar t key)))
-        unfolding insertWalked insertAlong overwrite pick
+            → insertBelowPath ws ar t key c deep .answer ≡ Inserted.Replaced (kindOf (itemKind ws (findKey ws ar t key)))
+        unfolding insertBelowPath insertOrReplace overwrite pick
         walked-old h = simp (clear, shallow, lt-ltb _ _ there, le-ltb _ _ h)
 
 module _ (ws ar : List ℕ) (t : ℕ) (key value : List ℕ) where
-  pub value-29 : sound ws (length ar) ≡ false → numberOf (insertValue ws ar t key value) ≡ 29
+  pub value-29 : valid ws (length ar) ≡ false → numberOf (insertValue ws ar t key value) ≡ 29
   unfolding insertValue insertedNumber pick
   value-29 h = simp h
 
-  module _ (ok : sound ws (length ar) ≡ true) where
-    pub value-24 : takes ws t ≡ false → numberOf (insertValue ws ar t key value) ≡ 24
-    unfolding insertValue insertSound insertedNumber pick
+  module _ (ok : valid ws (length ar) ≡ true) where
+    pub value-24 : freeStanding ws t ≡ false → numberOf (insertValue ws ar t key value) ≡ 24
+    unfolding insertValue insertAtKey insertedNumber pick
     value-24 h = simp (ok, h)
 
-    module _ (free : takes ws t ≡ true) where
+    module _ (free : freeStanding ws t ≡ true) where
       pub value-8 : isUtf8 key ≡ false → numberOf (insertValue ws ar t key value) ≡ 8
-      unfolding insertValue insertSound keyed insertedNumber pick
+      unfolding insertValue insertAtKey keyed insertedNumber pick
       value-8 h = simp (ok, free, h)
 
       module _ (text : isUtf8 key ≡ true) where
         pub value-20 : longestKey < length key → numberOf (insertValue ws ar t key value) ≡ 20
-        unfolding insertValue insertSound keyed insertedNumber pick
+        unfolding insertValue insertAtKey keyed insertedNumber pick
         value-20 h = simp (ok, free, text, lt-ltb _ _ h)
 
-        pub value-walked : length key ≤ longestKey → insertValue ws ar t key value ≡ insertWalked ws ar t key (stored valueKind value 0) false
-        unfolding insertValue insertSound keyed pick
+        pub value-walked : length key ≤ longestKey → insertValue ws ar t key value ≡ insertBelowPath ws ar t key (stored valueKind value 0) false
+        unfolding insertValue insertAtKey keyed pick
         value-walked h = simp (ok, free, text, le-ltb _ _ h)
 
 -- ---- a refusal leaves the memory as it was
@@ -113,8 +113,8 @@ module _ (ws ar : List ℕ) where
   still b o o′ s s′ = pick-with Still b o o′ (λ e. s) (λ e. s′)
 
   module _ (t : ℕ) (key : List ℕ) where
-    pub walked-still : (c : Stored) (deep : Bool) → Still (insertWalked ws ar t key c deep)
-    unfolding insertWalked insertAlong insertNew overwrite
+    pub walked-still : (c : Stored) (deep : Bool) → Still (insertBelowPath ws ar t key c deep)
+    unfolding insertBelowPath insertOrReplace insertNew overwrite
     walked-still c deep =
         still _ _ _
         (still _ _ _ (refused-still NestedTooDeep)
@@ -127,6 +127,6 @@ module _ (ws ar : List ℕ) where
     keyed-still o s = still _ _ _ (still _ _ _ (refused-still KeyTooLong) s) (refused-still KeyNotUtf8)
 
     pub value-still : (value : List ℕ) → Still (insertValue ws ar t key value)
-    unfolding insertValue insertSound
+    unfolding insertValue insertAtKey
     value-still value =
         still _ _ _ (still _ _ _ (keyed-still _ (walked-still (stored valueKind value 0) false)) (refused-still TableUnknown)) (refused-still MemoryBroken)

@@ -12,13 +12,13 @@ use Rattle.layout.specs.declared.kind.Kind.{Kind}
 use Rattle.layout.specs.declared.refusal.Refusal.the-variants.{MemoryBroken, TableUnknown, KeyNotUtf8, KeyTooLong, NotContainer, TooManyItems, ArenaFull, NestedTooDeep}
 use Rattle.model.specs.declared.Inserted.{Inserted}
 use Rattle.model.specs.Builder.{longestKey, mostItems}
-use Rattle.build_memory.specs.Memory.{itemTotal, roomUsed, tableSeparator, itemKind, valueKind, sound, Memory, memory, Outcome, outcome}
+use Rattle.build_memory.specs.Memory.{itemTotal, roomUsed, tableSeparator, itemKind, valueKind, valid, Memory, memory, Outcome, outcome}
 use Rattle.build_memory.specs.Find.{findKey}
 use Rattle.build_memory.specs.Item.{Stored, stored, kindOf, makeItem, replaceItem}
 use Rattle.build_values.specs.declared.walk.Way.{Way}
-use Rattle.build_tables.specs.Table.{takes}
+use Rattle.build_tables.specs.Table.{freeStanding}
 use Rattle.build_values.specs.Walk.{descend, wayOf, sum}
-use Rattle.build_values.specs.Insert.{refused, Laid, laid, containers, added, insertNew, overwrite, insertAlong, insertWalked, keyed, insertSound, insertValue}
+use Rattle.build_values.specs.Insert.{refused, Extended, extended, containers, added, insertNew, overwrite, insertOrReplace, insertBelowPath, keyed, insertAtKey, insertValue}
 
 pub way-is : (ws ar : List ℕ) (t : ℕ) (key : List ℕ) (w : Way) (sep : ℕ) → sep ≡ tableSeparator ws t → w ≡ descend ws ar t key (endsPast sep key 0) 0 0
     → w ≡ wayOf ws ar t key
@@ -46,27 +46,27 @@ module _ (ws ar : List ℕ) (t : ℕ) (key : List ℕ) (c : Stored) where
 
     -- the key is there, or not
     module _ (i : ℕ) (is : i ≡ findKey ws ar t key) where
-      pub along-old : i < itemTotal ws → overwrite ws ar i c ≡ insertAlong ws ar t key c from parent
-      unfolding insertAlong pick
+      pub along-old : i < itemTotal ws → overwrite ws ar i c ≡ insertOrReplace ws ar t key c from parent
+      unfolding insertOrReplace pick
       along-old h = simp (← is, lt-ltb _ _ h)
 
-      pub along-new : itemTotal ws ≤ i → insertNew ws ar t key c from parent ≡ insertAlong ws ar t key c from parent
-      unfolding insertAlong pick
+      pub along-new : itemTotal ws ≤ i → insertNew ws ar t key c from parent ≡ insertOrReplace ws ar t key c from parent
+      unfolding insertOrReplace pick
       along-new h = simp (← is, le-ltb _ _ h)
 
   -- the way
   module _ (deep : Bool) (w : Way) (is : w ≡ wayOf ws ar t key) where
-    pub way-blocked : w .clear ≡ false → refused NotContainer ws ar ≡ insertWalked ws ar t key c deep
-    unfolding insertWalked pick
+    pub way-blocked : w .clear ≡ false → refused NotContainer ws ar ≡ insertBelowPath ws ar t key c deep
+    unfolding insertBelowPath pick
     way-blocked h = simp (← is, h)
 
     module _ (clear : w .clear ≡ true) where
-      pub way-deep : deep ≡ true → refused NestedTooDeep ws ar ≡ insertWalked ws ar t key c deep
-      unfolding insertWalked pick
+      pub way-deep : deep ≡ true → refused NestedTooDeep ws ar ≡ insertBelowPath ws ar t key c deep
+      unfolding insertBelowPath pick
       way-deep h = simp (← is, clear, h)
 
-      pub way-along : deep ≡ false → insertAlong ws ar t key c (w .from) (w .parent) ≡ insertWalked ws ar t key c deep
-      unfolding insertWalked pick
+      pub way-along : deep ≡ false → insertOrReplace ws ar t key c (w .from) (w .parent) ≡ insertBelowPath ws ar t key c deep
+      unfolding insertBelowPath pick
       way-along h = simp (← is, clear, h)
 
 -- an item that is there
@@ -81,11 +81,11 @@ old-written ws ar i c h word p old q m e = simp (le-ltb _ _ h, q, p, e)
 
 -- the item made behind the containers
 pub new-added : (ws ar : List ℕ) (t : ℕ) (key : List ℕ) (from : ℕ) (c : Stored) (parent sep : ℕ) (w a : List ℕ) (above : ℕ) → sep ≡ tableSeparator ws t
-    → laid (memory w a) above ≡ containers t key (endsPast sep key from) (memory ws ar) parent → (m : Memory) → m ≡ makeItem (memory w a) t above key c
+    → extended (memory w a) above ≡ containers t key (endsPast sep key from) (memory ws ar) parent → (m : Memory) → m ≡ makeItem (memory w a) t above key c
     → m ≡ added (containers t key (endsPast (tableSeparator ws t) key from) (memory ws ar) parent) t key c
 unfolding added
 new-added ws ar t key from c parent sep w a above is q m e =
-    e ∙ ap (λ (l : Laid). added l t key c) q ∙ ap (λ (s : ℕ). added (containers t key (endsPast s key from) (memory ws ar) parent) t key c) is
+    e ∙ ap (λ (l : Extended). added l t key c) q ∙ ap (λ (s : ℕ). added (containers t key (endsPast s key from) (memory ws ar) parent) t key c) is
 
 -- ---- the key: 8, 20
 
@@ -106,18 +106,18 @@ module _ (ws ar key : List ℕ) (next : Outcome Inserted) where
 -- ---- a value
 
 module _ (ws ar : List ℕ) (t : ℕ) (key value : List ℕ) where
-  pub sound-unknown : takes ws t ≡ false → refused TableUnknown ws ar ≡ insertSound ws ar t key value
-  unfolding insertSound pick
-  sound-unknown h = simp h
+  pub valid-unknown : freeStanding ws t ≡ false → refused TableUnknown ws ar ≡ insertAtKey ws ar t key value
+  unfolding insertAtKey pick
+  valid-unknown h = simp h
 
-  pub sound-known : takes ws t ≡ true → keyed ws ar key (insertWalked ws ar t key (stored valueKind value 0) false) ≡ insertSound ws ar t key value
-  unfolding insertSound pick
-  sound-known h = simp h
+  pub valid-known : freeStanding ws t ≡ true → keyed ws ar key (insertBelowPath ws ar t key (stored valueKind value 0) false) ≡ insertAtKey ws ar t key value
+  unfolding insertAtKey pick
+  valid-known h = simp h
 
-  pub value-unsound : sound ws (length ar) ≡ false → refused MemoryBroken ws ar ≡ insertValue ws ar t key value
+  pub value-invalid : valid ws (length ar) ≡ false → refused MemoryBroken ws ar ≡ insertValue ws ar t key value
   unfolding insertValue pick
-  value-unsound h = simp h
+  value-invalid h = simp h
 
-  pub value-sound : sound ws (length ar) ≡ true → insertSound ws ar t key value ≡ insertValue ws ar t key value
+  pub value-valid : valid ws (length ar) ≡ true → insertAtKey ws ar t key value ≡ insertValue ws ar t key value
   unfolding insertValue pick
-  value-sound h = simp h
+  value-valid h = simp h

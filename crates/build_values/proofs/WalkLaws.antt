@@ -17,7 +17,7 @@ use Rattle.build_memory.specs.Item.{stored, makeItem}
 use Rattle.build_values.specs.declared.walk.Way.{Way}
 use Rattle.build_values.specs.declared.walk.Walked.{Walked}
 use Rattle.build_values.specs.Walk.{way, descend, sum}
-use Rattle.build_values.specs.Insert.{laid, containers}
+use Rattle.build_values.specs.Insert.{extended, containers}
 
 -- ---- the ends past a place, by where the next one is
 
@@ -79,7 +79,7 @@ walked-is key d r clear from parent hash made is within few hashed =
 -- ---- the containers
 
 module _ (t : ℕ) (key : List ℕ) (e : ℕ) (ends : List ℕ) (m : Memory) (parent : ℕ) where
-  containers-end : length key ≤ e → laid m parent ≡ containers t key (e ∷ ends) m parent
+  containers-end : length key ≤ e → extended m parent ≡ containers t key (e ∷ ends) m parent
   unfolding containers pick
   containers-end h = simp (le-ltb _ _ h)
 
@@ -110,7 +110,7 @@ module _ (sep : ℕ) (key : List ℕ) (at : ℕ) (h : at ≤ length key) (e : �
       walk-pass m b = sym along ∙ descend-pass ws ar t key e (endsPast sep key e) at parent more i found m b
 
   module _ (t : ℕ) (m : Memory) (parent : ℕ) where
-    pub make-end : length key ≤ e → laid m parent ≡ containers t key (endsPast sep key at) m parent
+    pub make-end : length key ≤ e → extended m parent ≡ containers t key (endsPast sep key at) m parent
     make-end l = containers-end t key e [] m parent l ∙ ap (λ (ends : List ℕ). containers t key ends m parent) (sym (last sep key at h e is l))
 
     pub make-more : (m′ : Memory) → e < length key → m′ ≡ makeItem m t parent (take e key) (stored containerKind [] 0)

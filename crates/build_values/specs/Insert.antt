@@ -12,36 +12,36 @@ use Rattle.layout.specs.declared.refusal.Refusal.{Refusal}
 use Rattle.layout.specs.declared.refusal.Refusal.the-variants.{MemoryBroken, TableUnknown, KeyNotUtf8, KeyTooLong, NotContainer, TooManyItems, ArenaFull, NestedTooDeep}
 use Rattle.model.specs.declared.Inserted.{Inserted}
 use Rattle.model.specs.Builder.{longestKey, mostItems}
-use Rattle.build_memory.specs.Memory.{tableTotal, itemTotal, roomUsed, tableSeparator, itemKind, valueKind, containerKind, sound, Sound, Memory, memory, Outcome, outcome}
+use Rattle.build_memory.specs.Memory.{tableTotal, itemTotal, roomUsed, tableSeparator, itemKind, valueKind, containerKind, valid, Valid, Memory, memory, Outcome, outcome}
 use Rattle.build_memory.specs.Find.{findKey}
 use Rattle.build_memory.specs.Item.{Stored, stored, kindOf, makeItem, replaceItem}
-use Rattle.build_tables.specs.Table.{takes}
+use Rattle.build_tables.specs.Table.{freeStanding}
 use Rattle.build_values.specs.Walk.{wayOf, sum}
 
 abbrev pub refused : Refusal → List ℕ → List ℕ → Outcome Inserted
 refused why ws ar = outcome (Inserted.Refused why) (memory ws ar)
 
 -- memory after the missing containers are made, and the index of the last and one
-pub record Laid : Type 0 where
+pub record Extended : Type 0 where
   pub after : Memory
   pub parent : ℕ
 
-abbrev pub laid : Memory → ℕ → Laid
-laid after parent = record { after = after; parent = parent }
+abbrev pub extended : Memory → ℕ → Extended
+extended after parent = record { after = after; parent = parent }
 
 -- a container for each prefix of the key that is shorter than it, each the parent of the next
-unfoldable pub containers : ℕ → List ℕ → List ℕ → Memory → ℕ → Laid
-containers t key [] m parent = laid m parent
+unfoldable pub containers : ℕ → List ℕ → List ℕ → Memory → ℕ → Extended
+containers t key [] m parent = extended m parent
 containers t key (e ∷ ends) m parent =
-    pick (ltb e (length key)) (containers t key ends (makeItem m t parent (take e key) (stored containerKind [] 0)) (itemTotal (m .words) + 1)) (laid m parent)
+    pick (ltb e (length key)) (containers t key ends (makeItem m t parent (take e key) (stored containerKind [] 0)) (itemTotal (m .words) + 1)) (extended m parent)
 
 -- the key's own item
-unfoldable pub added : Laid → ℕ → List ℕ → Stored → Memory
+unfoldable pub added : Extended → ℕ → List ℕ → Stored → Memory
 added l t key c = makeItem (l .after) t (l .parent) key c
 
 -- what the stages past 20 may count on
 pub record Ready (ws ar : List ℕ) (t : ℕ) (key : List ℕ) : Type 0 where
-  pub sound-memory : Sound ws (length ar)
+  pub valid-memory : Valid ws (length ar)
   pub known : t < tableTotal ws
   pub short : length key ≤ longestKey
 
@@ -59,16 +59,16 @@ overwrite ws ar i c =
     pick (ltb (length ar) (roomUsed ws + length (c .value))) (refused ArenaFull ws ar)
     (outcome (Inserted.Replaced (kindOf (itemKind ws i))) (replaceItem (memory ws ar) i c))
 
-unfoldable pub insertAlong : List ℕ → List ℕ → ℕ → List ℕ → Stored → ℕ → ℕ → Outcome Inserted
-insertAlong ws ar t key c from parent =
+unfoldable pub insertOrReplace : List ℕ → List ℕ → ℕ → List ℕ → Stored → ℕ → ℕ → Outcome Inserted
+insertOrReplace ws ar t key c from parent =
     let i = findKey ws ar t key in
     pick (ltb i (itemTotal ws)) (overwrite ws ar i c) (insertNew ws ar t key c from parent)
 
 -- 21, then 26 where what is put in is too deep
-unfoldable pub insertWalked : List ℕ → List ℕ → ℕ → List ℕ → Stored → Bool → Outcome Inserted
-insertWalked ws ar t key c deep =
+unfoldable pub insertBelowPath : List ℕ → List ℕ → ℕ → List ℕ → Stored → Bool → Outcome Inserted
+insertBelowPath ws ar t key c deep =
     pick (wayOf ws ar t key .clear)
-    (pick deep (refused NestedTooDeep ws ar) (insertAlong ws ar t key c (wayOf ws ar t key .from) (wayOf ws ar t key .parent)))
+    (pick deep (refused NestedTooDeep ws ar) (insertOrReplace ws ar t key c (wayOf ws ar t key .from) (wayOf ws ar t key .parent)))
     (refused NotContainer ws ar)
 
 -- 8, 20
@@ -76,9 +76,9 @@ unfoldable pub keyed : List ℕ → List ℕ → List ℕ → Outcome Inserted �
 keyed ws ar key next =
     pick (isUtf8 key) (pick (ltb longestKey (length key)) (refused KeyTooLong ws ar) next) (refused KeyNotUtf8 ws ar)
 
-unfoldable pub insertSound : List ℕ → List ℕ → ℕ → List ℕ → List ℕ → Outcome Inserted
-insertSound ws ar t key value =
-    pick (takes ws t) (keyed ws ar key (insertWalked ws ar t key (stored valueKind value 0) false)) (refused TableUnknown ws ar)
+unfoldable pub insertAtKey : List ℕ → List ℕ → ℕ → List ℕ → List ℕ → Outcome Inserted
+insertAtKey ws ar t key value =
+    pick (freeStanding ws t) (keyed ws ar key (insertBelowPath ws ar t key (stored valueKind value 0) false)) (refused TableUnknown ws ar)
 
 unfoldable pub insertValue : List ℕ → List ℕ → ℕ → List ℕ → List ℕ → Outcome Inserted
-insertValue ws ar t key value = pick (sound ws (length ar)) (insertSound ws ar t key value) (refused MemoryBroken ws ar)
+insertValue ws ar t key value = pick (valid ws (length ar)) (insertAtKey ws ar t key value) (refused MemoryBroken ws ar)

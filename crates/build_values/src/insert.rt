@@ -2,23 +2,23 @@
 use crate::walk::Walked;
 use crate::walk::cost_of;
 use crate::walk::descend_to;
+use build_memory::fields::CONTAINER_KIND;
+use build_memory::fields::ITEMS;
+use build_memory::fields::KIND;
+use build_memory::fields::LONGEST_KEY;
+use build_memory::fields::MOST_ITEMS;
+use build_memory::fields::SEPARATOR;
+use build_memory::fields::USED;
+use build_memory::fields::VALUE_KIND;
+use build_memory::fields::item_word;
+use build_memory::fields::table_word;
 use build_memory::find::find_hashed;
-use build_memory::item::Place;
+use build_memory::item::NewItem;
 use build_memory::item::kind_of;
 use build_memory::item::make_item;
 use build_memory::item::replace_item;
-use build_memory::place::CONTAINER_KIND;
-use build_memory::place::ITEMS;
-use build_memory::place::KIND;
-use build_memory::place::LONGEST_KEY;
-use build_memory::place::MOST_ITEMS;
-use build_memory::place::SEPARATOR;
-use build_memory::place::USED;
-use build_memory::place::VALUE_KIND;
-use build_memory::place::item_word;
-use build_memory::place::table_word;
 use build_memory::rules::judge;
-use build_tables::add::takes_items;
+use build_tables::add::is_free_standing;
 use layout::refusal::Refusal;
 use model::Inserted;
 use text::prefix::next_end;
@@ -31,10 +31,10 @@ ghost use lib.ListN.{length, take};
 ghost use Rattle.words.specs.Hash.{hashOf};
 ghost use Rattle.text.specs.Prefix.{endsPast};
 ghost use Rattle.model.specs.Builder.{mostItems};
-ghost use Rattle.build_memory.specs.Memory.{leastWords, itemTotal, roomUsed, tableSeparator, Sound, memory, outcome};
+ghost use Rattle.build_memory.specs.Memory.{leastWords, itemTotal, roomUsed, tableSeparator, Valid, memory, outcome};
 ghost use Rattle.build_memory.specs.Item.{stored};
 ghost use Rattle.build_values.specs.Walk.{sum};
-ghost use Rattle.build_values.specs.Insert.{Ready, laid, containers, added, insertNew, overwrite, insertAlong, insertWalked, insertSound, insertValue};
+ghost use Rattle.build_values.specs.Insert.{Ready, extended, containers, added, insertNew, overwrite, insertOrReplace, insertBelowPath, insertAtKey, insertValue};
 
 // What an insert is told besides key and value: the table, the kind of the item, the table it will hold.
 pub struct Job {
@@ -56,7 +56,7 @@ fn make_containers(
     requires { ⌜ walked .hash ≡ hashOf (take (walked .way .from) (now key)) ⌝ }
     requires { ⌜ itemTotal (now words) + length (endsPast sep (now key) (walked .way .from)) ≤ mostItems ⌝ }
     requires { ⌜ roomUsed (now words) + sum (endsPast sep (now key) (walked .way .from)) ≤ length (now arena) ⌝ }
-    ensures { λ r. ⌜ laid (memory (now (words .exit)) (now (arena .exit))) r ≡ containers table (now (key .entry)) (endsPast sep (now (key .entry)) (walked .way .from)) (memory (now (words .entry)) (now (arena .entry))) (walked .way .parent) ⌝ }
+    ensures { λ r. ⌜ extended (memory (now (words .exit)) (now (arena .exit))) r ≡ containers table (now (key .entry)) (endsPast sep (now (key .entry)) (walked .way .from)) (memory (now (words .entry)) (now (arena .entry))) (walked .way .parent) ⌝ }
     ensures counts { λ r. ⌜ (itemTotal (now (words .exit)) + 1 ≡ itemTotal (now (words .entry)) + length (endsPast sep (now (key .entry)) (walked .way .from))) × (roomUsed (now (words .exit)) + length (now (key .entry)) ≡ roomUsed (now (words .entry)) + sum (endsPast sep (now (key .entry)) (walked .way .from))) ⌝ }
 {
     let way = walked.way;
@@ -70,7 +70,7 @@ fn make_containers(
         }
         let n = words[ITEMS];
         let count = n + 1;
-        let place = Place {
+        let new = NewItem {
             table,
             parent: above,
             kind: CONTAINER_KIND,
@@ -78,7 +78,7 @@ fn make_containers(
         };
         let further = hash_on(hash, &key[at..e]);
         let word = word_size(further);
-        make_item(words, arena, place, &key[..e], word, &key[..0]);
+        make_item(words, arena, new, &key[..e], word, &key[..0]);
         at = e;
         above = count;
         hash = further;
@@ -106,13 +106,13 @@ fn build_new(
     let guest = job.guest;
     let sep = table_word(words, table, SEPARATOR);
     let above = make_containers(words, arena, table, key, sep, walked);
-    let place = Place {
+    let new = NewItem {
         table,
         parent: above,
         kind,
         guest,
     };
-    make_item(words, arena, place, key, hash, value);
+    make_item(words, arena, new, key, hash, value);
 }
 
 // A new item: counts what is missing, refuses where there is no room (22, 23), and makes it.
@@ -155,7 +155,7 @@ fn overwrite_item(
     job: Job,
     value: &[u8],
 ) -> Inserted
-    requires { ⌜ Sound (now words) (length (now arena)) ⌝ }
+    requires { ⌜ Valid (now words) (length (now arena)) ⌝ }
     requires { ⌜ i < itemTotal (now words) ⌝ }
     ensures { λ r. ⌜ outcome r (memory (now (words .exit)) (now (arena .exit))) ≡ overwrite (now (words .entry)) (now (arena .entry)) i (stored (job .kind) (now (value .entry)) (job .guest)) ⌝ }
 {
@@ -171,7 +171,7 @@ fn overwrite_item(
 }
 
 // The key is there, or it is new.
-fn insert_along(
+fn insert_or_replace(
     words: &mut [usize],
     arena: &mut [u8],
     job: Job,
@@ -181,7 +181,7 @@ fn insert_along(
 ) -> Inserted
     requires { ⌜ Ready (now words) (now arena) (job .table) (now key) ⌝ }
     requires { ⌜ (walked .way .from ≤ length (now key)) × (walked .hash ≡ hashOf (take (walked .way .from) (now key))) ⌝ }
-    ensures { λ r. ⌜ outcome r (memory (now (words .exit)) (now (arena .exit))) ≡ insertAlong (now (words .entry)) (now (arena .entry)) (job .table) (now (key .entry)) (stored (job .kind) (now (value .entry)) (job .guest)) (walked .way .from) (walked .way .parent) ⌝ }
+    ensures { λ r. ⌜ outcome r (memory (now (words .exit)) (now (arena .exit))) ≡ insertOrReplace (now (words .entry)) (now (arena .entry)) (job .table) (now (key .entry)) (stored (job .kind) (now (value .entry)) (job .guest)) (walked .way .from) (walked .way .parent) ⌝ }
 {
     let table = job.table;
     let way = walked.way;
@@ -195,7 +195,7 @@ fn insert_along(
 }
 
 // Walks down the containers that are there (21), and refuses what is too deep (26).
-pub fn insert_walked(
+pub fn insert_below_path(
     words: &mut [usize],
     arena: &mut [u8],
     job: Job,
@@ -204,7 +204,7 @@ pub fn insert_walked(
     deep: bool,
 ) -> Inserted
     requires { ⌜ Ready (now words) (now arena) (job .table) (now key) ⌝ }
-    ensures { λ r. ⌜ outcome r (memory (now (words .exit)) (now (arena .exit))) ≡ insertWalked (now (words .entry)) (now (arena .entry)) (job .table) (now (key .entry)) (stored (job .kind) (now (value .entry)) (job .guest)) deep ⌝ }
+    ensures { λ r. ⌜ outcome r (memory (now (words .exit)) (now (arena .exit))) ≡ insertBelowPath (now (words .entry)) (now (arena .entry)) (job .table) (now (key .entry)) (stored (job .kind) (now (value .entry)) (job .guest)) deep ⌝ }
 {
     let table = job.table;
     let sep = table_word(words, table, SEPARATOR);
@@ -217,21 +217,21 @@ pub fn insert_walked(
     if deep {
         return Inserted::Refused(Refusal::NestedTooDeep);
     }
-    insert_along(words, arena, job, key, value, walked)
+    insert_or_replace(words, arena, job, key, value, walked)
 }
 
 // The table takes inserts (24), and the key is one (8, 20).
-fn insert_sound(
+fn insert_at_key(
     words: &mut [usize],
     arena: &mut [u8],
     table: usize,
     key: &[u8],
     value: &[u8],
 ) -> Inserted
-    requires { ⌜ Sound (now words) (length (now arena)) ⌝ }
-    ensures { λ r. ⌜ outcome r (memory (now (words .exit)) (now (arena .exit))) ≡ insertSound (now (words .entry)) (now (arena .entry)) table (now (key .entry)) (now (value .entry)) ⌝ }
+    requires { ⌜ Valid (now words) (length (now arena)) ⌝ }
+    ensures { λ r. ⌜ outcome r (memory (now (words .exit)) (now (arena .exit))) ≡ insertAtKey (now (words .entry)) (now (arena .entry)) table (now (key .entry)) (now (value .entry)) ⌝ }
 {
-    if !takes_items(words, arena, table) {
+    if !is_free_standing(words, arena, table) {
         return Inserted::Refused(Refusal::TableUnknown);
     }
     if !is_utf8(key) {
@@ -245,7 +245,7 @@ fn insert_sound(
         kind: VALUE_KIND,
         guest: 0,
     };
-    insert_walked(words, arena, job, key, value, false)
+    insert_below_path(words, arena, job, key, value, false)
 }
 
 // Inserts a value under a key: 29, 24, 8, 20, 21, 22, 23, or the news.
@@ -262,5 +262,5 @@ pub fn insert_value(
         return Inserted::Refused(Refusal::MemoryBroken);
     }
     let t = word_size(table);
-    insert_sound(words, arena, t, key, value)
+    insert_at_key(words, arena, t, key, value)
 }

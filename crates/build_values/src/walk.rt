@@ -1,9 +1,9 @@
 // The dry walk of an insert: it reads and counts, and writes nothing.
+use build_memory::fields::CONTAINER_KIND;
+use build_memory::fields::ITEMS;
+use build_memory::fields::KIND;
+use build_memory::fields::item_word;
 use build_memory::find::find_hashed;
-use build_memory::place::CONTAINER_KIND;
-use build_memory::place::ITEMS;
-use build_memory::place::KIND;
-use build_memory::place::item_word;
 use text::prefix::next_end;
 use words::hash::HASH_START;
 use words::hash::hash_on;
@@ -14,7 +14,7 @@ ghost use lib.ListN.{length, take};
 ghost use Rattle.words.specs.Hash.{hashOf};
 ghost use Rattle.text.specs.Prefix.{endsPast};
 ghost use Rattle.model.specs.Builder.{longestKey, mostItems};
-ghost use Rattle.build_memory.specs.Memory.{Sound};
+ghost use Rattle.build_memory.specs.Memory.{Valid};
 ghost use Rattle.build_values.specs.Walk.{way, descend, sum};
 
 // How far the containers of a key are there: clear where nothing else stands in the way, from where the last one ends, parent its index
@@ -53,7 +53,7 @@ fn ended(clear: bool, from: usize, parent: usize, hash: u32) -> Walked
 
 // Goes down the containers of the key that are there.
 pub fn descend_to(words: &[usize], arena: &[u8], table: usize, key: &[u8], sep: usize) -> Walked
-    requires { ⌜ Sound (now words) (length (now arena)) ⌝ }
+    requires { ⌜ Valid (now words) (length (now arena)) ⌝ }
     ensures { λ r. ⌜ r .way ≡ descend (now (words .entry)) (now (arena .entry)) table (now (key .entry)) (endsPast sep (now (key .entry)) 0) 0 0 ⌝ }
     ensures within { λ r. ⌜ (r .way .from ≤ length (now (key .entry))) × (r .way .parent ≤ mostItems) ⌝ }
     ensures hashed { λ r. ⌜ r .hash ≡ hashOf (take (r .way .from) (now (key .entry))) ⌝ }

@@ -17,10 +17,10 @@ use Rattle.read.specs.declared.listing.Measured.{Measured}
 use Rattle.read.specs.Chain.{Joined, append, joinStep, keyOf, climbFrom, fragmentOf, names}
 use Rattle.read.specs.Listing.{measure}
 use Rattle.read.proofs.ChainLaws.{StepFits, climb-fits, key-turn, key-over, fragment-size}
-use Rattle.check_keys.specs.declared.tally.Own.{Own}
+use Rattle.check_keys.specs.declared.tally.JoinedKey.{JoinedKey}
 use Rattle.check_keys.specs.declared.tally.Tally.{Tally}
 use Rattle.check_keys.specs.Tally.{prepend, finish, none}
-use Rattle.check_keys.specs.Key.{bytesOf, ownKey}
+use Rattle.check_keys.specs.Key.{bytesOf, joinedKey}
 use Rattle.check_keys.proofs.TallyLaws.{hash-back, prepend-append}
 
 -- ---- a key that is measured
@@ -30,85 +30,85 @@ unfolding measure bytesOf
 sized-bytes (Joined.joined k) e = cc
 sized-bytes (Joined.broken why) e = cc
 
-names-own : (j : Joined) {size : ℕ} → measure j ≡ Measured.Size size → true ≡ names j (bytesOf j)
+names-joined : (j : Joined) {size : ℕ} → measure j ≡ Measured.Size size → true ≡ names j (bytesOf j)
 unfolding measure bytesOf names
-names-own (Joined.joined k) e = sym (same-refl k)
-names-own (Joined.broken why) e = cc
+names-joined (Joined.joined k) e = sym (same-refl k)
+names-joined (Joined.broken why) e = cc
 
 -- an item's own chain names its key
 pub names-at : (file : List ℕ) (t : Table) {at index size : ℕ} → at ≡ index → measure (keyOf file t (t .count) index) ≡ Measured.Size size
     → true ≡ names (keyOf file t (t .count) at) (bytesOf (keyOf file t (t .count) index))
 names-at file t {at} {index} same e =
-    names-own (keyOf file t (t .count) index) e
+    names-joined (keyOf file t (t .count) index) e
     ∙ ap (λ (n : ℕ). names (keyOf file t (t .count) n) (bytesOf (keyOf file t (t .count) index))) (sym same)
 
 -- what the tallied key tells: its length and its hash
-pub own-sized : (rule : ℕ → ℕ) (j : Joined) {hash size : ℕ} → ownKey rule j ≡ Own.Key hash size → measure j ≡ Measured.Size size
-unfolding ownKey measure
-own-sized rule (Joined.joined k) e = cc
-own-sized rule (Joined.broken why) e = cc
+pub joined-sized : (rule : ℕ → ℕ) (j : Joined) {hash size : ℕ} → joinedKey rule j ≡ JoinedKey.Key hash size → measure j ≡ Measured.Size size
+unfolding joinedKey measure
+joined-sized rule (Joined.joined k) e = cc
+joined-sized rule (Joined.broken why) e = cc
 
-pub own-hashed : (rule : ℕ → ℕ) (j : Joined) {hash size : ℕ} → ownKey rule j ≡ Own.Key hash size → hash ≡ hashBy rule (bytesOf j)
-unfolding ownKey bytesOf
-own-hashed rule (Joined.joined k) e = cc
-own-hashed rule (Joined.broken why) e = cc
+pub joined-hashed : (rule : ℕ → ℕ) (j : Joined) {hash size : ℕ} → joinedKey rule j ≡ JoinedKey.Key hash size → hash ≡ hashBy rule (bytesOf j)
+unfolding joinedKey bytesOf
+joined-hashed rule (Joined.joined k) e = cc
+joined-hashed rule (Joined.broken why) e = cc
 
 -- ---- the loop: what the key of the present item gives with the tally of what was passed is what the whole key gives
 
-unfoldable pub ownFrom : (ℕ → ℕ) → ℕ → Tally → Joined → Own
-ownFrom rule total tally (Joined.joined k) = Own.Key (finish (prepend rule k tally)) (length k + total)
-ownFrom rule total tally (Joined.broken why) = Own.Broken
+unfoldable pub joinedFrom : (ℕ → ℕ) → ℕ → Tally → Joined → JoinedKey
+joinedFrom rule total tally (Joined.joined k) = JoinedKey.Key (finish (prepend rule k tally)) (length k + total)
+joinedFrom rule total tally (Joined.broken why) = JoinedKey.Broken
 
-own-from-none : (rule : ℕ → ℕ) (j : Joined) → ownFrom rule 0 none j ≡ ownKey rule j
-unfolding ownFrom ownKey
-own-from-none rule (Joined.joined k) =
+joined-from-none : (rule : ℕ → ℕ) (j : Joined) → joinedFrom rule 0 none j ≡ joinedKey rule j
+unfolding joinedFrom joinedKey
+joined-from-none rule (Joined.joined k) =
     let hashed = hash-back rule k in
     let long : length k + 0 ≡ length k = add-zero (length k) in
     cc
-own-from-none rule (Joined.broken why) = refl
+joined-from-none rule (Joined.broken why) = refl
 
-own-append : (rule : ℕ → ℕ) (total : ℕ) (tally : Tally) (j : Joined) (f : List ℕ)
-    → ownFrom rule total tally (append j f) ≡ ownFrom rule (total + length f) (prepend rule f tally) j
-unfolding ownFrom append
-own-append rule total tally (Joined.joined k) f =
+joined-append : (rule : ℕ → ℕ) (total : ℕ) (tally : Tally) (j : Joined) (f : List ℕ)
+    → joinedFrom rule total tally (append j f) ≡ joinedFrom rule (total + length f) (prepend rule f tally) j
+unfolding joinedFrom append
+joined-append rule total tally (Joined.joined k) f =
     let long : length (k ++ f) + total ≡ length k + (total + length f) = omega (arith, length-append k f) in
     let tallied = prepend-append rule k f tally in
     cc
-own-append rule total tally (Joined.broken why) f = refl
+joined-append rule total tally (Joined.broken why) f = refl
 
 pub record Tallying (rule : ℕ → ℕ) (file : List ℕ) (t : Table) (index at total : ℕ) (tally : Tally) (left : ℕ) : Type 0 where
   pub below : at < t .count
   pub few : left ≤ t .count
   pub small : total ≤ 65535 * (t .count - left)
-  pub same : ownFrom rule total tally (keyOf file t left at) ≡ ownKey rule (keyOf file t (t .count) index)
+  pub same : joinedFrom rule total tally (keyOf file t left at) ≡ joinedKey rule (keyOf file t (t .count) index)
 
 module _ (rule : ℕ → ℕ) (file : List ℕ) (t : Table) (index : ℕ) where
-  pub own-start : index < t .count → Tallying rule file t index index 0 none (t .count)
-  own-start h = record { below = h; few = omega arith; small = omega arith; same = own-from-none rule _ }
+  pub joined-start : index < t .count → Tallying rule file t index index 0 none (t .count)
+  joined-start h = record { below = h; few = omega arith; small = omega arith; same = joined-from-none rule _ }
 
   module _ {at total left : ℕ} {tally : Tally} (i : Tallying rule file t index at total tally left) where
-    pub own-over : left ≤ 0 → Own.Broken ≡ ownKey rule (keyOf file t (t .count) index)
-    unfolding ownFrom
-    own-over h = sym (ap (ownFrom rule total tally) (key-over file t left at h)) ∙ i .same
+    pub joined-over : left ≤ 0 → JoinedKey.Broken ≡ joinedKey rule (keyOf file t (t .count) index)
+    unfolding joinedFrom
+    joined-over h = sym (ap (joinedFrom rule total tally) (key-over file t left at h)) ∙ i .same
 
     module _ (h : 0 < left) {item : Item} (is : item ≡ itemAt file t at) where
-      pub own-refused : {why : Refusal} → climbFrom file (t .count) item ≡ Step.Refused why → Own.Broken ≡ ownKey rule (keyOf file t (t .count) index)
-      unfolding ownFrom joinStep
-      own-refused e = sym (ap (ownFrom rule total tally) (key-turn file t left at item _ h is e)) ∙ i .same
+      pub joined-refused : {why : Refusal} → climbFrom file (t .count) item ≡ Step.Refused why → JoinedKey.Broken ≡ joinedKey rule (keyOf file t (t .count) index)
+      unfolding joinedFrom joinStep
+      joined-refused e = sym (ap (joinedFrom rule total tally) (key-turn file t left at item _ h is e)) ∙ i .same
 
       module _ {size : ℕ} (z : size ≡ item .size) {next : Tally} (n : next ≡ prepend rule (fragmentOf file item) tally) where
-        pub own-root : climbFrom file (t .count) item ≡ Step.Root → {hash : ℕ} → hash ≡ finish next → Own.Key hash (total + size) ≡ ownKey rule (keyOf file t (t .count) index)
-        unfolding ownFrom joinStep StepFits
-        own-root e {hash} hashed =
+        pub joined-root : climbFrom file (t .count) item ≡ Step.Root → {hash : ℕ} → hash ≡ finish next → JoinedKey.Key hash (total + size) ≡ joinedKey rule (keyOf file t (t .count) index)
+        unfolding joinedFrom joinStep StepFits
+        joined-root e {hash} hashed =
             let fits : item .key + item .size ≤ length file = subst (StepFits file (t .count) item) e (climb-fits file (t .count) item) in
             let sum : total + size ≡ length (fragmentOf file item) + total = omega (arith, fragment-size file item fits) in
             let whole : hash ≡ finish (prepend rule (fragmentOf file item) tally) = hashed ∙ ap finish n in
-            ap (λ (s : ℕ). Own.Key hash s) sum ∙ ap (λ (x : ℕ). Own.Key x (length (fragmentOf file item) + total)) whole
-            ∙ sym (ap (ownFrom rule total tally) (key-turn file t left at item _ h is e)) ∙ i .same
+            ap (λ (s : ℕ). JoinedKey.Key hash s) sum ∙ ap (λ (x : ℕ). JoinedKey.Key x (length (fragmentOf file item) + total)) whole
+            ∙ sym (ap (joinedFrom rule total tally) (key-turn file t left at item _ h is e)) ∙ i .same
 
-        pub own-up : size < 65536 → {parent : ℕ} → climbFrom file (t .count) item ≡ Step.Up parent → Tallying rule file t index parent (total + size) next (left - 1)
+        pub joined-up : size < 65536 → {parent : ℕ} → climbFrom file (t .count) item ≡ Step.Up parent → Tallying rule file t index parent (total + size) next (left - 1)
         unfolding joinStep StepFits
-        own-up short {parent} e =
+        joined-up short {parent} e =
             let fits : (item .key + item .size ≤ length file) × (parent < t .count) = subst (StepFits file (t .count) item) e (climb-fits file (t .count) item) in
             let sum : total + size ≡ total + length (fragmentOf file item) = omega (arith, fragment-size file item (fits .0)) in
             record {
@@ -116,8 +116,8 @@ module _ (rule : ℕ → ℕ) (file : List ℕ) (t : Table) (index : ℕ) where
               few = omega (arith, i .few);
               small = omega (arith, i .small, i .few);
               same =
-                  ap (λ (s : Tally). ownFrom rule (total + size) s (keyOf file t (left - 1) parent)) n
-                  ∙ ap (λ (m : ℕ). ownFrom rule m (prepend rule (fragmentOf file item) tally) (keyOf file t (left - 1) parent)) sum
-                  ∙ sym (ap (ownFrom rule total tally) (key-turn file t left at item _ h is e) ∙ own-append rule total tally (keyOf file t (left - 1) parent) (fragmentOf file item))
+                  ap (λ (s : Tally). joinedFrom rule (total + size) s (keyOf file t (left - 1) parent)) n
+                  ∙ ap (λ (m : ℕ). joinedFrom rule m (prepend rule (fragmentOf file item) tally) (keyOf file t (left - 1) parent)) sum
+                  ∙ sym (ap (joinedFrom rule total tally) (key-turn file t left at item _ h is e) ∙ joined-append rule total tally (keyOf file t (left - 1) parent) (fragmentOf file item))
                   ∙ i .same;
             }

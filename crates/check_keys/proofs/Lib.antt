@@ -1,7 +1,7 @@
 pub mod TallyLaws
 pub mod KeyLaws
 pub mod PartLaws
-pub mod PlaceLaws
+pub mod FrontLaws
 pub mod PassLaws
 pub mod SameLaws
 pub mod Unique

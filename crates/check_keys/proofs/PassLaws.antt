@@ -15,9 +15,9 @@ use Rattle.text.proofs.CompareLaws.{same-equal, ends-short}
 use Rattle.layout.specs.declared.table.Table.{Table}
 use Rattle.layout.specs.Item.{itemAt}
 use Rattle.read.specs.declared.listing.Measured.{Measured}
-use Rattle.check_keys.specs.declared.place.Place.{Place}
-use Rattle.check_keys.specs.declared.place.Passed.{Passed}
-use Rattle.check_keys.specs.Place.{smaller, frontOf, Placed, Raised, StretchPassed, BackPassed}
+use Rattle.check_keys.specs.declared.front.Front.{Front}
+use Rattle.check_keys.specs.declared.front.Passed.{Passed}
+use Rattle.check_keys.specs.Front.{smaller, frontBytes, FrontFits, Raised, StretchPassed, BackPassed}
 use Rattle.check_keys.proofs.PartLaws.{part-front, part-join, ends-part, ends-differs}
 
 -- ---- one turn
@@ -31,13 +31,13 @@ smaller-fits {n} a b is =
     (λ less. let l : a < b = ltb-true _ _ less in (omega arith, omega arith, λ some _. some))
     (λ more. let l : b ≤ a = ltb-false _ _ more in (omega arith, omega arith, λ _ some. some)))
 
-module _ (file : List ℕ) (t : Table) {p : Place} (from end : ℕ) where
-  pub some-raised : {q : Place} → Raised file t p q → StretchPassed file t p from end (Passed.Over q)
-  unfolding StretchPassed frontOf
+module _ (file : List ℕ) (t : Table) {p : Front} (from end : ℕ) where
+  pub some-raised : {q : Front} → Raised file t p q → StretchPassed file t p from end (Passed.Over q)
+  unfolding StretchPassed frontBytes
   some-raised {q} r =
       let none : p .size - q .size ≡ 0 = omega (arith, r .level) in (
         record {
-          placed = r .placed;
+          fitting = r .fitting;
           fewer = omega (arith, r .level);
           nearer = omega (arith, r .level, r .higher);
           front = sym (take-take (q .size) (q .size) _ (omega arith)) ∙ ap (take (q .size)) (r .front);
@@ -46,37 +46,37 @@ module _ (file : List ℕ) (t : Table) {p : Place} (from end : ℕ) where
         omega arith,
       )
 
-  module _ (placed : Placed file t p) (n : ℕ) (few : n ≤ p .rest) where
+  module _ (fitting : FrontFits file t p) (n : ℕ) (few : n ≤ p .rest) where
     -- n bytes fewer before the place
-    abbrev back : Place
+    abbrev back : Front
     back = record { at = p .at; rest = p .rest - n; size = p .size - n; left = p .left }
 
-    back-placed : Placed file t back
-    back-placed =
-        let e : p .size + (itemAt file t (p .at) .size - p .rest) ≡ p .size - n + (itemAt file t (p .at) .size - (p .rest - n)) = omega (arith, placed .short, placed .within) in
+    back-fitting : FrontFits file t back
+    back-fitting =
+        let e : p .size + (itemAt file t (p .at) .size - p .rest) ≡ p .size - n + (itemAt file t (p .at) .size - (p .rest - n)) = omega (arith, fitting .short, fitting .within) in
         record {
-          below = placed .below;
-          sized = placed .sized ∙ ap Measured.Size e;
-          short = omega (arith, placed .short);
-          within = omega (arith, placed .within);
+          below = fitting .below;
+          sized = fitting .sized ∙ ap Measured.Size e;
+          short = omega (arith, fitting .short);
+          within = omega (arith, fitting .within);
         }
 
-    pub some-passed : 0 < n → n ≤ end - from → sameBytes (part (frontOf file t p) (p .size - n) n) (part file (end - n) n) ≡ true
+    pub some-passed : 0 < n → n ≤ end - from → sameBytes (part (frontBytes file t p) (p .size - n) n) (part file (end - n) n) ≡ true
         → StretchPassed file t p from end (Passed.Over back)
-    unfolding StretchPassed frontOf
+    unfolding StretchPassed frontBytes
     some-passed some room e =
-        let passed : p .size - (p .size - n) ≡ n = omega (arith, placed .within) in (
+        let passed : p .size - (p .size - n) ≡ n = omega (arith, fitting .within) in (
           record {
-            placed = back-placed;
+            fitting = back-fitting;
             fewer = omega arith;
-            nearer = omega (arith, placed .within);
+            nearer = omega (arith, fitting .within);
             front = sym (take-take (p .size - n) (p .size) _ (omega arith));
             same = rw passed (same-equal _ _ e);
           },
           omega (arith, passed),
         )
 
-    pub some-differs : n ≤ end - from → sameBytes (part (frontOf file t p) (p .size - n) n) (part file (end - n) n) ≡ false
+    pub some-differs : n ≤ end - from → sameBytes (part (frontBytes file t p) (p .size - n) n) (part file (end - n) n) ≡ false
         → StretchPassed file t p from end Passed.Differs
     unfolding StretchPassed
     some-differs room e = (n, room, e)
@@ -93,23 +93,23 @@ gone-turn d end to fits high = omega arith
 
 -- ---- the loop: the bytes from the present place to the first are those of the file from `end` to `to`
 
-pub record Passing (file : List ℕ) (t : Table) (p : Place) (from to : ℕ) (here : Place) (end : ℕ) : Type 0 where
-  pub placed : Placed file t here
+pub record Passing (file : List ℕ) (t : Table) (p : Front) (from to : ℕ) (here : Front) (end : ℕ) : Type 0 where
+  pub fitting : FrontFits file t here
   pub low : from ≤ end
   pub high : end ≤ to
   pub enough : to - from ≤ p .size
   pub even : here .size + to ≡ p .size + end
-  pub front : frontOf file t here ≡ take (here .size) (frontOf file t p)
-  pub same : part (frontOf file t p) (here .size) (p .size - here .size) ≡ part file end (to - end)
+  pub front : frontBytes file t here ≡ take (here .size) (frontBytes file t p)
+  pub same : part (frontBytes file t p) (here .size) (p .size - here .size) ≡ part file end (to - end)
 
-module _ (file : List ℕ) (t : Table) (p : Place) (from to : ℕ) where
-  pub pass-start : Placed file t p → from ≤ to → to - from ≤ p .size → Passing file t p from to p to
-  unfolding frontOf
-  pass-start placed ordered enough =
+module _ (file : List ℕ) (t : Table) (p : Front) (from to : ℕ) where
+  pub pass-start : FrontFits file t p → from ≤ to → to - from ≤ p .size → Passing file t p from to p to
+  unfolding frontBytes
+  pass-start fitting ordered enough =
       let none : p .size - p .size ≡ 0 = omega arith in
       let nothing : to - to ≡ 0 = omega arith in
       record {
-        placed = placed;
+        fitting = fitting;
         low = ordered;
         high = omega arith;
         enough = enough;
@@ -122,14 +122,14 @@ module _ (file : List ℕ) (t : Table) (p : Place) (from to : ℕ) where
   unfolding BackPassed
   pass-short inside short = by-order (omega arith)
     where
-      by-order : from + (to - from) ≤ length file → endsAt (frontOf file t p) (p .size) (part file from (to - from)) ≡ false
+      by-order : from + (to - from) ≤ length file → endsAt (frontBytes file t p) (p .size) (part file from (to - from)) ≡ false
       by-order l = ends-short _ _ _ (omega (arith, length-part file from (to - from) l))
 
-  module _ {here : Place} {end : ℕ} (i : Passing file t p from to here end) where
+  module _ {here : Front} {end : ℕ} (i : Passing file t p from to here end) where
     pub pass-room : end - from ≤ here .size
     pass-room = omega (arith, i .even, i .low, i .high, i .enough)
 
-    pub pass-turn : {next : Place} → StretchPassed file t here from end (Passed.Over next)
+    pub pass-turn : {next : Front} → StretchPassed file t here from end (Passed.Over next)
         → Passing file t p from to next (end - (here .size - next .size))
     unfolding StretchPassed
     pass-turn {next} (m, room) =
@@ -139,20 +139,20 @@ module _ (file : List ℕ) (t : Table) (p : Place) (from to : ℕ) where
         let up : next .size + d ≡ here .size = omega (arith, m .fewer) in
         let low = low-turn d from end room (i .low) in
         let gone = gone-turn d end to (low .0) (i .high) in
-        let mine : part (frontOf file t p) (next .size) d ≡ part file (end - d) d =
-        sym (ap (λ (l : List ℕ). part l (next .size) d) (i .front) ∙ part-front (frontOf file t p) (here .size) (next .size) d (omega (arith, m .fewer))) ∙ m .same in
+        let mine : part (frontBytes file t p) (next .size) d ≡ part file (end - d) d =
+        sym (ap (λ (l : List ℕ). part l (next .size) d) (i .front) ∙ part-front (frontBytes file t p) (here .size) (next .size) d (omega (arith, m .fewer))) ∙ m .same in
         record {
-          placed = m .placed;
+          fitting = m .fitting;
           low = low .1;
           high = omega (arith, i .high);
           enough = i .enough;
           even = even-turn _ _ _ _ _ _ up (i .even) (low .0);
           front = m .front ∙ ap (take (next .size)) (i .front) ∙ take-take (next .size) (here .size) _ (m .fewer);
           same =
-              ap (λ (k : ℕ). part (frontOf file t p) (next .size) k) all
-              ∙ part-join (frontOf file t p) (next .size) d e
-              ∙ ap (λ (l : List ℕ). l ++ part (frontOf file t p) (next .size + d) e) mine
-              ∙ ap (λ (k : ℕ). part file (end - d) d ++ part (frontOf file t p) k e) up
+              ap (λ (k : ℕ). part (frontBytes file t p) (next .size) k) all
+              ∙ part-join (frontBytes file t p) (next .size) d e
+              ∙ ap (λ (l : List ℕ). l ++ part (frontBytes file t p) (next .size + d) e) mine
+              ∙ ap (λ (k : ℕ). part file (end - d) d ++ part (frontBytes file t p) k e) up
               ∙ ap (λ (l : List ℕ). part file (end - d) d ++ l) (i .same)
               ∙ ap (λ (k : ℕ). part file (end - d) d ++ part file k (to - end)) (sym (gone .1))
               ∙ sym (part-join file (end - d) d (to - end))
@@ -160,7 +160,7 @@ module _ (file : List ℕ) (t : Table) (p : Place) (from to : ℕ) where
         }
 
     -- the bytes passed over are there, and fewer steps or bytes are left
-    pub pass-less : (next : Place) → StretchPassed file t here from end (Passed.Over next)
+    pub pass-less : (next : Front) → StretchPassed file t here from end (Passed.Over next)
         → (next .size ≤ here .size) × (here .size - next .size ≤ end) × (next .left + next .size < here .left + here .size)
     unfolding StretchPassed
     pass-less next (m, room) = (m .fewer, omega (arith, room, i .low), m .nearer)
@@ -175,24 +175,24 @@ module _ (file : List ℕ) (t : Table) (p : Place) (from to : ℕ) where
           let last : end ≡ from = omega (arith, i .low) in
           let size : here .size ≡ p .size - length (part file from (to - from)) = omega (arith, frag-long, i .even, i .low, i .high) in
           let gap : p .size - here .size ≡ length (part file from (to - from)) = omega (arith, frag-long, i .even, i .low, i .high) in
-          let same : part (frontOf file t p) (p .size - length (part file from (to - from))) (length (part file from (to - from))) ≡ part file from (to - from) =
-          ap (λ (k : ℕ). part (frontOf file t p) k (length (part file from (to - from)))) (sym size)
-          ∙ ap (λ (k : ℕ). part (frontOf file t p) (here .size) k) (sym gap)
+          let same : part (frontBytes file t p) (p .size - length (part file from (to - from))) (length (part file from (to - from))) ≡ part file from (to - from) =
+          ap (λ (k : ℕ). part (frontBytes file t p) k (length (part file from (to - from)))) (sym size)
+          ∙ ap (λ (k : ℕ). part (frontBytes file t p) (here .size) k) (sym gap)
           ∙ i .same ∙ ap (λ (k : ℕ). part file k (to - k)) last in
-          (i .placed, size, i .front, ends-part _ _ _ (omega (arith, frag-long, i .enough)) same)
+          (i .fitting, size, i .front, ends-part _ _ _ (omega (arith, frag-long, i .enough)) same)
 
       pub pass-differs : StretchPassed file t here from end Passed.Differs → BackPassed file t p (part file from (to - from)) Passed.Differs
       unfolding StretchPassed BackPassed
       pass-differs (n, few, other) =
           let f = part file from (to - from) in
           let at = end - n - from in
-          let mine : part (frontOf file t here) (here .size - n) n ≡ part (frontOf file t p) (p .size - length f + at) n =
-          let place : here .size - n ≡ p .size - length f + at = omega (arith, frag-long, i .even, i .low, i .high, i .enough) in
+          let mine : part (frontBytes file t here) (here .size - n) n ≡ part (frontBytes file t p) (p .size - length f + at) n =
+          let front : here .size - n ≡ p .size - length f + at = omega (arith, frag-long, i .even, i .low, i .high, i .enough) in
           ap (λ (l : List ℕ). part l (here .size - n) n) (i .front)
-          ∙ part-front (frontOf file t p) (here .size) (here .size - n) n (omega (arith, i .even, i .low, i .high, i .enough))
-          ∙ ap (λ (k : ℕ). part (frontOf file t p) k n) place in
+          ∙ part-front (frontBytes file t p) (here .size) (here .size - n) n (omega (arith, i .even, i .low, i .high, i .enough))
+          ∙ ap (λ (k : ℕ). part (frontBytes file t p) k n) front in
           let yours : part file (end - n) n ≡ part f at n =
-          let place : end - n ≡ from + at = omega (arith, i .low) in
-          ap (λ (k : ℕ). part file k n) place ∙ sym (part-part file from (to - from) at n (omega (arith, i .low, i .high))) in
-          ends-differs (frontOf file t p) (p .size) f at n (omega (arith, frag-long, i .enough)) (omega (arith, frag-long, i .low, i .high))
+          let front : end - n ≡ from + at = omega (arith, i .low) in
+          ap (λ (k : ℕ). part file k n) front ∙ sym (part-part file from (to - from) at n (omega (arith, i .low, i .high))) in
+          ends-differs (frontBytes file t p) (p .size) f at n (omega (arith, frag-long, i .enough)) (omega (arith, frag-long, i .low, i .high))
           (rw (mine, yours) at other)

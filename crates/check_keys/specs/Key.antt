@@ -9,15 +9,15 @@ use Rattle.layout.specs.Table.{InFile}
 use Rattle.read.specs.Chain.{Joined, keyOf}
 use Rattle.read.specs.declared.listing.Measured.{Measured}
 use Rattle.read.specs.Listing.{measure}
-use Rattle.check_keys.specs.declared.tally.Own.{Own}
+use Rattle.check_keys.specs.declared.tally.JoinedKey.{JoinedKey}
 
 unfoldable pub bytesOf : Joined → List ℕ
 bytesOf (Joined.joined k) = k
 bytesOf (Joined.broken why) = []
 
-unfoldable pub ownKey : (ℕ → ℕ) → Joined → Own
-ownKey rule (Joined.joined k) = Own.Key (hashBy rule k) (length k)
-ownKey rule (Joined.broken why) = Own.Broken
+unfoldable pub joinedKey : (ℕ → ℕ) → Joined → JoinedKey
+joinedKey rule (Joined.joined k) = JoinedKey.Key (hashBy rule k) (length k)
+joinedKey rule (Joined.broken why) = JoinedKey.Broken
 
 -- an item of the table that has a key of so many bytes
 pub record Keyed (file : List ℕ) (t : Table) (index size : ℕ) : Type 0 where

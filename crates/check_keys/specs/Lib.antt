@@ -1,3 +1,3 @@
 pub mod Tally
 pub mod Key
-pub mod Place
+pub mod Front

@@ -1,8 +1,8 @@
 // Looking up the key of an item, with no buffer for the key.
-use crate::place::Passed;
-use crate::place::Place;
-use crate::place::pass_back;
-use crate::place::place_at;
+use crate::front::Front;
+use crate::front::Passed;
+use crate::front::front_at;
+use crate::front::pass_back;
 use layout::item::item_at;
 use layout::table::Table;
 use read::chain::Step;
@@ -20,18 +20,18 @@ ghost use Rattle.layout.specs.Table.{InFile};
 ghost use Rattle.read.specs.Chain.{keyOf, names};
 ghost use Rattle.read.specs.Find.{itemMatches, firstOf, findItem};
 ghost use Rattle.check_keys.specs.Key.{bytesOf, Keyed};
-ghost use Rattle.check_keys.specs.Place.{Placed, ItemCompared};
+ghost use Rattle.check_keys.specs.Front.{FrontFits, ItemCompared};
 
 // What an item says of the key before a place: yes or no, or that the front is its parent's to name.
 pub enum Compared {
     Ended(bool),
-    Rest { parent: usize, place: Place },
+    Rest { parent: usize, front: Front },
 }
 
 // What the item at an index says of the key before a place. Its bytes are compared first, so that one that differs costs no more.
-fn compare_item(file: &[u8], table: Table, at: usize, place: Place) -> Compared
-    requires { ⌜ InFile (now file) table × Placed (now file) table place × (at < table .count) ⌝ }
-    ensures { λ r. ⌜ ItemCompared (now (file .entry)) table at place r ⌝ }
+fn compare_item(file: &[u8], table: Table, at: usize, front: Front) -> Compared
+    requires { ⌜ InFile (now file) table × FrontFits (now file) table front × (at < table .count) ⌝ }
+    ensures { λ r. ⌜ ItemCompared (now (file .entry)) table at front r ⌝ }
 {
     let item = item_at(file, table, at);
     let start = word_size(item.key);
@@ -39,14 +39,14 @@ fn compare_item(file: &[u8], table: Table, at: usize, place: Place) -> Compared
     if file.len() < end {
         return Compared::Ended(false);
     }
-    match pass_back(file, table, place, start, end) {
+    match pass_back(file, table, front, start, end) {
         Passed::Differs => Compared::Ended(false),
         Passed::Over(next) => match climb(file, table.count, item) {
             Step::Refused(_) => Compared::Ended(false),
             Step::Root => Compared::Ended(next.size == 0),
             Step::Up(parent) => Compared::Rest {
                 parent,
-                place: next,
+                front: next,
             },
         },
     }
@@ -58,7 +58,7 @@ fn same_key(file: &[u8], table: Table, at: usize, index: usize, size: usize) -> 
     ensures { λ r. ⌜ r ≡ names (keyOf (now (file .entry)) table (table .count) at) (bytesOf (keyOf (now (file .entry)) table (table .count) index)) ⌝ }
 {
     let count = table.count;
-    let mut here = place_at(file, table, index, size, count);
+    let mut here = front_at(file, table, index, size, count);
     let mut now_at = at;
     let mut left = count;
     while 0 < left {
@@ -66,9 +66,9 @@ fn same_key(file: &[u8], table: Table, at: usize, index: usize, size: usize) -> 
             Compared::Ended(answer) => {
                 return answer;
             }
-            Compared::Rest { parent, place } => {
+            Compared::Rest { parent, front } => {
                 now_at = parent;
-                here = place;
+                here = front;
             }
         }
         left -= 1;
@@ -77,7 +77,14 @@ fn same_key(file: &[u8], table: Table, at: usize, index: usize, size: usize) -> 
 }
 
 // Whether the item at a position has the hash, and its chain names the key of the item at an index.
-fn own_matches(file: &[u8], table: Table, index: usize, size: usize, hash: u32, at: usize) -> bool
+fn joined_matches(
+    file: &[u8],
+    table: Table,
+    index: usize,
+    size: usize,
+    hash: u32,
+    at: usize,
+) -> bool
     requires { ⌜ Keyed (now file) table index size × (at < table .count) × (hash ≡ hashOf (bytesOf (keyOf (now file) table (table .count) index))) ⌝ }
     ensures { λ r. ⌜ r ≡ itemMatches plain (now (file .entry)) table (bytesOf (keyOf (now (file .entry)) table (table .count) index)) at ⌝ }
 {
@@ -103,7 +110,7 @@ fn first_same(file: &[u8], table: Table, index: usize, size: usize, hash: u32, r
         if count <= at {
             return Found::Nothing;
         }
-        if own_matches(file, table, index, size, hash, at) {
+        if joined_matches(file, table, index, size, hash, at) {
             return Found::At(at);
         }
         at += 1;
@@ -112,7 +119,7 @@ fn first_same(file: &[u8], table: Table, index: usize, size: usize, hash: u32, r
 }
 
 // The item that the key of the item at an index names; the key's length and hash are known.
-pub fn find_own(file: &[u8], table: Table, index: usize, size: usize, hash: u32) -> Found
+pub fn find_joined(file: &[u8], table: Table, index: usize, size: usize, hash: u32) -> Found
     requires { ⌜ Keyed (now file) table index size × (hash ≡ hashOf (bytesOf (keyOf (now file) table (table .count) index))) ⌝ }
     ensures { λ r. ⌜ r ≡ findItem plain (now (file .entry)) table (bytesOf (keyOf (now (file .entry)) table (table .count) index)) ⌝ }
 {

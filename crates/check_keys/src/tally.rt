@@ -13,7 +13,7 @@ ghost use Rattle.words.specs.Hash.{plain};
 ghost use Rattle.layout.specs.Table.{InFile};
 ghost use Rattle.read.specs.Chain.{keyOf};
 ghost use Rattle.check_keys.specs.Tally.{before, prepend, finish};
-ghost use Rattle.check_keys.specs.Key.{ownKey};
+ghost use Rattle.check_keys.specs.Key.{joinedKey};
 
 // Of the bytes behind a place: what the hash of the bytes before them is multiplied by, and what is added.
 pub struct Tally {
@@ -22,7 +22,7 @@ pub struct Tally {
 }
 
 // An item's key by its hash and length, or that it does not read.
-pub enum Own {
+pub enum JoinedKey {
     Key { hash: u32, size: usize },
     Broken,
 }
@@ -61,9 +61,9 @@ fn finished(tally: Tally) -> u32
 }
 
 // The hash and the length of the key of the item at an index.
-pub fn own_key(file: &[u8], table: Table, index: usize) -> Own
+pub fn joined_key(file: &[u8], table: Table, index: usize) -> JoinedKey
     requires { ⌜ InFile (now file) table × (index < table .count) ⌝ }
-    ensures { λ r. ⌜ r ≡ ownKey plain (keyOf (now (file .entry)) table (table .count) index) ⌝ }
+    ensures { λ r. ⌜ r ≡ joinedKey plain (keyOf (now (file .entry)) table (table .count) index) ⌝ }
 {
     let count = table.count;
     let mut at = index;
@@ -78,10 +78,10 @@ pub fn own_key(file: &[u8], table: Table, index: usize) -> Own
         total += part;
         match climb(file, count, item) {
             Step::Refused(_) => {
-                return Own::Broken;
+                return JoinedKey::Broken;
             }
             Step::Root => {
-                return Own::Key {
+                return JoinedKey::Key {
                     hash: finished(prepend_all(&file[start..stop], tally)),
                     size: total,
                 };
@@ -93,5 +93,5 @@ pub fn own_key(file: &[u8], table: Table, index: usize) -> Own
         }
         left -= 1;
     }
-    Own::Broken
+    JoinedKey::Broken
 }

@@ -46,6 +46,6 @@ unfolding KeyText soughtAt indexOf bytesOf isJoined pick
 sought-text rule file t (Joined.joined k) text e = rw text
 sought-text rule file t (Joined.broken why) text e = cc
 
-pub sought-own : (rule : ℕ → ℕ) (file : List ℕ) (t : Table) (steps index : ℕ) → isJoined (keyOf file t steps index) ≡ true
+pub sought-joined : (rule : ℕ → ℕ) (file : List ℕ) (t : Table) (steps index : ℕ) → isJoined (keyOf file t steps index) ≡ true
     → soughtAt rule file t (keyOf file t steps index) ≡ findItem rule file t (bytesOf (keyOf file t steps index))
-sought-own rule file t steps index e = sought-text rule file t (keyOf file t steps index) (key-text file t steps index) e
+sought-joined rule file t steps index e = sought-text rule file t (keyOf file t steps index) (key-text file t steps index) e

@@ -1,4 +1,4 @@
-pub mod MarksLaws
+pub mod BitsLaws
 pub mod KeyText
 pub mod RuleLaws
 pub mod KeepLaws

@@ -23,41 +23,41 @@ use Rattle.read.specs.declared.chain.Step.{Step}
 use Rattle.read.specs.declared.lookup.Found.{Found}
 use Rattle.read.specs.Chain.{Joined, keyOf, parentOf}
 use Rattle.read.specs.Find.{findItem}
-use Rattle.check_keys.specs.declared.tally.Own.{Own}
+use Rattle.check_keys.specs.declared.tally.JoinedKey.{JoinedKey}
 use Rattle.check_table.specs.declared.check.Checked.{Checked}
-use Rattle.check_keys.specs.Key.{bytesOf, ownKey}
+use Rattle.check_keys.specs.Key.{bytesOf, joinedKey}
 use Rattle.check_table.specs.Survey.{keyRule}
 use Rattle.check_table.specs.Rules.{isJoined, isAt, keyLists, keyFinds, isInside, listOpens, valueOpens, childCount, among, childGood, childrenGood, listsIt, parentKeeps, parentGood, brokenRule, firstBroken, checkIn}
-use Rattle.check_table.proofs.KeyText.{sought-own}
+use Rattle.check_table.proofs.KeyText.{sought-joined}
 
 -- ---- rules 1 and 2, with the item's own key at hand
 
-joined-own : (rule : ℕ → ℕ) (j : Joined) {hash size : ℕ} → ownKey rule j ≡ Own.Key hash size → isJoined j ≡ true
-unfolding ownKey isJoined
-joined-own rule (Joined.joined k) e = refl
-joined-own rule (Joined.broken why) e = cc
+joined-there : (rule : ℕ → ℕ) (j : Joined) {hash size : ℕ} → joinedKey rule j ≡ JoinedKey.Key hash size → isJoined j ≡ true
+unfolding joinedKey isJoined
+joined-there rule (Joined.joined k) e = refl
+joined-there rule (Joined.broken why) e = cc
 
-broken-own : (rule : ℕ → ℕ) (j : Joined) → ownKey rule j ≡ Own.Broken → isJoined j ≡ false
-unfolding ownKey isJoined
-broken-own rule (Joined.joined k) e = cc
-broken-own rule (Joined.broken why) e = refl
+broken-joined : (rule : ℕ → ℕ) (j : Joined) → joinedKey rule j ≡ JoinedKey.Broken → isJoined j ≡ false
+unfolding joinedKey isJoined
+broken-joined rule (Joined.joined k) e = cc
+broken-joined rule (Joined.broken why) e = refl
 
 module _ (rule : ℕ → ℕ) (file : List ℕ) (t : Table) (index : ℕ) where
-  pub key-broken : ownKey rule (keyOf file t (t .count) index) ≡ Own.Broken → 1 ≡ keyRule rule file t index
+  pub key-broken : joinedKey rule (keyOf file t (t .count) index) ≡ JoinedKey.Broken → 1 ≡ keyRule rule file t index
   unfolding keyRule keyLists pick
-  key-broken e = rw (broken-own rule _ e)
+  key-broken e = rw (broken-joined rule _ e)
 
-  module _ {hash size : ℕ} (own : ownKey rule (keyOf file t (t .count) index) ≡ Own.Key hash size)
+  module _ {hash size : ℕ} (own : joinedKey rule (keyOf file t (t .count) index) ≡ JoinedKey.Key hash size)
       {f : Found} (found : findItem rule file t (bytesOf (keyOf file t (t .count) index)) ≡ f) where
     finds : isAt index f ≡ keyFinds rule file t index
     unfolding keyFinds
-    finds = ap (isAt index) (sym found ∙ sym (sought-own rule file t (t .count) index (joined-own rule _ own)))
+    finds = ap (isAt index) (sym found ∙ sym (sought-joined rule file t (t .count) index (joined-there rule _ own)))
 
     key-sought : pick (isAt index f) 0 2 ≡ keyRule rule file t index
     unfolding keyRule keyLists pick
-    key-sought = rw (joined-own rule _ own, finds)
+    key-sought = rw (joined-there rule _ own, finds)
 
-  module _ {hash size : ℕ} (own : ownKey rule (keyOf file t (t .count) index) ≡ Own.Key hash size) where
+  module _ {hash size : ℕ} (own : joinedKey rule (keyOf file t (t .count) index) ≡ JoinedKey.Key hash size) where
     pub key-nothing : findItem rule file t (bytesOf (keyOf file t (t .count) index)) ≡ Found.Nothing → 2 ≡ keyRule rule file t index
     unfolding isAt pick
     key-nothing e = key-sought own e

@@ -15,10 +15,10 @@ use Rattle.layout.specs.Table.{InFile}
 use Rattle.layout.specs.Item.{itemAt}
 use Rattle.read.specs.declared.chain.Step.{Step}
 use Rattle.read.specs.Chain.{parentOf}
-use Rattle.check_table.specs.Marks.{marked}
+use Rattle.check_table.specs.Bits.{hasBit}
 use Rattle.check_table.specs.Rules.{valueOpens, childrenGood, listsIt, parentKeeps, parentGood, brokenRule}
-use Rattle.check_table.specs.Survey.{fiveOrShut, Fresh, Marking, Survey, Blank}
-use Rattle.check_table.proofs.MarksLaws.{none-marked}
+use Rattle.check_table.specs.Survey.{fiveOrShut, Fresh, Surveying, Survey, Blank}
+use Rattle.check_table.proofs.BitsLaws.{none-bit-set}
 use Rattle.check_table.proofs.ChildLaws.{five-open}
 use Rattle.check_table.proofs.KeepLaws.{breaks-none-keeps}
 
@@ -33,27 +33,27 @@ unfolding parentOf UpIs
 up-parent count parent e = subst (UpIs parent) e (pick-with (UpIs parent) _ _ _ (λ _. tt) (λ _. pick-with (UpIs parent) _ _ _ (λ _. refl) (λ _. tt)))
 
 -- the survey of all containers
-pub record Surveyed (file : List ℕ) (t : Table) (at : ℕ) (marks : List ℕ) : Type 0 where
-  pub room : t .count ≤ 64 * length marks
+pub record Surveyed (file : List ℕ) (t : Table) (at : ℕ) (bits : List ℕ) : Type 0 where
+  pub room : t .count ≤ 64 * length bits
   pub sound : (i : ℕ) → i < at → fiveOrShut file t i (itemAt file t i) ≡ true
-  pub below : (c : ℕ) → c < t .count → itemAt file t c .parent < at → marked marks c ≡ listsIt file c (itemAt file t (itemAt file t c .parent))
-  pub above : (c : ℕ) → c < t .count → at ≤ itemAt file t c .parent → marked marks c ≡ false
+  pub below : (c : ℕ) → c < t .count → itemAt file t c .parent < at → hasBit bits c ≡ listsIt file c (itemAt file t (itemAt file t c .parent))
+  pub above : (c : ℕ) → c < t .count → at ≤ itemAt file t c .parent → hasBit bits c ≡ false
 
 module _ (file : List ℕ) (t : Table) where
-  pub survey-start : {marks : List ℕ} → Blank t marks → Surveyed file t 0 marks
+  pub survey-start : {bits : List ℕ} → Blank t bits → Surveyed file t 0 bits
   survey-start b = record { room = b .room; sound = λ i h. absurd (omega arith); below = λ c l h. absurd (omega arith); above = λ c l h. b .none c }
 
-  module _ {at : ℕ} {marks : List ℕ} (s : Surveyed file t at marks) where
-    pub survey-fresh : Fresh file t at marks
+  module _ {at : ℕ} {bits : List ℕ} (s : Surveyed file t at bits) where
+    pub survey-fresh : Fresh file t at bits
     survey-fresh = record { room = s .room; new = λ c l e. s .above c l (omega arith) }
 
-    pub survey-over : t .count ≤ at → at ≤ t .count → Survey file t (t .count) marks
+    pub survey-over : t .count ≤ at → at ≤ t .count → Survey file t (t .count) bits
     survey-over h l =
         let same : at ≡ t .count = omega arith in
         record { room = s .room; within = omega arith; sound = λ i k. s .sound i (omega arith); broken = λ k. absurd (omega arith); below = λ c k p. s .below c k (omega arith) }
 
     module _ {item : Item} (is : item ≡ itemAt file t at) {after : List ℕ} where
-      pub survey-stop : at < t .count → fiveOrShut file t at item ≡ false → Marking file t at (λ c. listsIt file c item) marks after false → Survey file t at after
+      pub survey-stop : at < t .count → fiveOrShut file t at item ≡ false → Surveying file t at (λ c. listsIt file c item) bits after false → Survey file t at after
       survey-stop h bad m = record {
         room = m .room;
         within = omega arith;
@@ -62,7 +62,7 @@ module _ (file : List ℕ) (t : Table) where
         below = λ c l p. m .others c l (λ e. omega arith) ∙ s .below c l p;
       }
 
-      pub survey-turn : fiveOrShut file t at item ≡ true → Marking file t at (λ c. listsIt file c item) marks after true → Surveyed file t (at + 1) after
+      pub survey-turn : fiveOrShut file t at item ≡ true → Surveying file t at (λ c. listsIt file c item) bits after true → Surveyed file t (at + 1) after
       survey-turn good m = record {
         room = m .room;
         sound = below-more (λ i. fiveOrShut file t i (itemAt file t i) ≡ true) at (s .sound) (rw is at good);
@@ -71,7 +71,7 @@ module _ (file : List ℕ) (t : Table) where
       }
         where
           below-turn : (c : ℕ) → c < t .count → itemAt file t c .parent < at + 1 → (b : Bool) → eqb (itemAt file t c .parent) at ≡ b
-              → marked after c ≡ listsIt file c (itemAt file t (itemAt file t c .parent))
+              → hasBit after c ≡ listsIt file c (itemAt file t (itemAt file t c .parent))
           below-turn c l p true e =
               let here : itemAt file t c .parent ≡ at = eqb-true _ _ e in
               m .own refl c l here ∙ ap (listsIt file c) (is ∙ ap (itemAt file t) (sym here))
@@ -80,7 +80,7 @@ module _ (file : List ℕ) (t : Table) where
               m .others c l ne ∙ s .below c l (omega arith)
 
   -- what the survey tells of rules 5 and 6
-  module _ {stop : ℕ} {marks : List ℕ} (s : Survey file t stop marks) {index : ℕ} (h : index < t .count) {item : Item} (is : item ≡ itemAt file t index) where
+  module _ {stop : ℕ} {bits : List ℕ} (s : Survey file t stop bits) {index : ℕ} (h : index < t .count) {item : Item} (is : item ≡ itemAt file t index) where
     pub five-fails : index ≡ stop → valueOpens file item ≡ true → childrenGood file t index item ≡ false
     five-fails e four =
         let here : stop < t .count = omega arith in
@@ -89,9 +89,9 @@ module _ (file : List ℕ) (t : Table) where
     pub five-holds : index ≤ stop → (index ≡ stop → ⊥) → valueOpens file item ≡ true → childrenGood file t index item ≡ true
     five-holds l n four = five-open file t index item four ∙ ap (fiveOrShut file t index) is ∙ s .sound index (omega arith)
 
-    pub six-marked : {parent : ℕ} → parentOf (t .count) (item .parent) ≡ Step.Up parent → parent < stop → marked marks index ≡ parentGood file t index item
+    pub six-bit-set : {parent : ℕ} → parentOf (t .count) (item .parent) ≡ Step.Up parent → parent < stop → hasBit bits index ≡ parentGood file t index item
     unfolding parentGood parentKeeps
-    six-marked {parent} up l =
+    six-bit-set {parent} up l =
         let named : itemAt file t index .parent ≡ parent = ap (λ (i : Item). i .parent) (sym is) ∙ up-parent (t .count) (item .parent) up in
         s .below index h (omega arith) ∙ rw (up, named)
 
@@ -111,7 +111,7 @@ module _ (file : List ℕ) (t : Table) where
 -- zeros hold no mark, and 10,923 words hold a bit for each item that a file can hold
 pub blank : (file : List ℕ) (t : Table) (n : ℕ) → InFile file t → 699050 ≤ 64 * n → Blank t (replicate n 0)
 blank file t n inside enough =
-    record { room = omega (arith, inside .items, inside .short, length-replicate {A = ℕ} n 0); none = none-marked n }
+    record { room = omega (arith, inside .items, inside .short, length-replicate {A = ℕ} n 0); none = none-bit-set n }
 
 pub enough : 699050 ≤ 64 * 10923
 enough = omega arith

@@ -1,4 +1,4 @@
-pub mod Marks
+pub mod Bits
 pub mod Rules
 pub mod Survey
 pub mod Answer

@@ -10,7 +10,7 @@ use Rattle.words.specs.Choice.{pick}
 use Rattle.layout.specs.declared.table.Table.{Table}
 use Rattle.layout.specs.declared.item.Item.{Item}
 use Rattle.layout.specs.Item.{itemAt}
-use Rattle.check_table.specs.Marks.{marked, withMark}
+use Rattle.check_table.specs.Bits.{hasBit, withBit}
 use Rattle.check_table.specs.Rules.{keyLists, keyFinds, valueOpens, childrenGood, listsIt}
 
 -- which of rules 1 and 2 an item breaks first; 0 for neither
@@ -19,36 +19,36 @@ keyRule rule file t index = pick (keyLists file t index) (pick (keyFinds rule fi
 
 -- an item that names the container and is not marked yet
 unfoldable pub freshChild : List ℕ → Table → ℕ → List ℕ → ℕ → Bool
-freshChild file t index marks child =
-    ltb child (t .count) && (eqb (itemAt file t child .parent) index && not (marked marks child))
+freshChild file t index bits child =
+    ltb child (t .count) && (eqb (itemAt file t child .parent) index && not (hasBit bits child))
 
 unfoldable pub afterChild : Bool → List ℕ → ℕ → List ℕ
-afterChild fresh marks child = pick fresh (withMark marks child) marks
+afterChild fresh bits child = pick fresh (withBit bits child) bits
 
 -- rule 5, of an item that keeps rule 4
 unfoldable pub fiveOrShut : List ℕ → Table → ℕ → Item → Bool
 fiveOrShut file t index item = pick (valueOpens file item) (childrenGood file t index item) true
 
 -- no mark yet
-pub record Blank (t : Table) (marks : List ℕ) : Type 0 where
-  pub room : t .count ≤ 64 * length marks
-  pub none : (c : ℕ) → marked marks c ≡ false
+pub record Blank (t : Table) (bits : List ℕ) : Type 0 where
+  pub room : t .count ≤ 64 * length bits
+  pub none : (c : ℕ) → hasBit bits c ≡ false
 
 -- no child of a container is marked yet
-pub record Fresh (file : List ℕ) (t : Table) (index : ℕ) (marks : List ℕ) : Type 0 where
-  pub room : t .count ≤ 64 * length marks
-  pub new : (c : ℕ) → c < t .count → itemAt file t c .parent ≡ index → marked marks c ≡ false
+pub record Fresh (file : List ℕ) (t : Table) (index : ℕ) (bits : List ℕ) : Type 0 where
+  pub room : t .count ≤ 64 * length bits
+  pub new : (c : ℕ) → c < t .count → itemAt file t c .parent ≡ index → hasBit bits c ≡ false
 
 -- a container's children are marked as wanted, if all went well, and no other item's mark has changed
-pub record Marking (file : List ℕ) (t : Table) (index : ℕ) (wanted : ℕ → Bool) (before after : List ℕ) (well : Bool) : Type 0 where
+pub record Surveying (file : List ℕ) (t : Table) (index : ℕ) (wanted : ℕ → Bool) (before after : List ℕ) (well : Bool) : Type 0 where
   pub room : t .count ≤ 64 * length after
-  pub others : (c : ℕ) → c < t .count → (itemAt file t c .parent ≡ index → ⊥) → marked after c ≡ marked before c
-  pub own : well ≡ true → (c : ℕ) → c < t .count → itemAt file t c .parent ≡ index → marked after c ≡ wanted c
+  pub others : (c : ℕ) → c < t .count → (itemAt file t c .parent ≡ index → ⊥) → hasBit after c ≡ hasBit before c
+  pub own : well ≡ true → (c : ℕ) → c < t .count → itemAt file t c .parent ≡ index → hasBit after c ≡ wanted c
 
 -- the containers before stop keep rule 5, and the marks of their children say whether they list them; stop is the count or breaks rule 5
-pub record Survey (file : List ℕ) (t : Table) (stop : ℕ) (marks : List ℕ) : Type 0 where
-  pub room : t .count ≤ 64 * length marks
+pub record Survey (file : List ℕ) (t : Table) (stop : ℕ) (bits : List ℕ) : Type 0 where
+  pub room : t .count ≤ 64 * length bits
   pub within : stop ≤ t .count
   pub sound : (i : ℕ) → i < stop → fiveOrShut file t i (itemAt file t i) ≡ true
   pub broken : stop < t .count → fiveOrShut file t stop (itemAt file t stop) ≡ false
-  pub below : (c : ℕ) → c < t .count → itemAt file t c .parent < stop → marked marks c ≡ listsIt file c (itemAt file t (itemAt file t c .parent))
+  pub below : (c : ℕ) → c < t .count → itemAt file t c .parent < stop → hasBit bits c ≡ listsIt file c (itemAt file t (itemAt file t c .parent))

@@ -1,9 +1,9 @@
 // The check: the first item that breaks a rule, with the first rule that it breaks.
-use crate::marks::is_marked;
+use crate::bits::has_bit;
 use crate::rules::key_rule;
 use crate::rules::lists_it;
 use crate::rules::value_opens;
-use crate::survey::mark_all;
+use crate::survey::survey_all;
 use layout::item::Item;
 use layout::item::item_at;
 use layout::kind::kind_known;
@@ -35,10 +35,10 @@ fn parent_good(
     index: usize,
     item: Item,
     stop: usize,
-    marks: &[usize],
+    bits: &[usize],
 ) -> bool
     requires { ⌜ InFile (now file) table × (index < table .count) × (item ≡ itemAt (now file) table index) ⌝ }
-    requires { ⌜ Survey (now file) table stop (now marks) ⌝ }
+    requires { ⌜ Survey (now file) table stop (now bits) ⌝ }
     ensures { λ r. ⌜ r ≡ parentGood (now (file .entry)) table index item ⌝ }
 {
     match parent_of(table.count, item.parent) {
@@ -46,7 +46,7 @@ fn parent_good(
         Step::Refused(_) => false,
         Step::Up(parent) => {
             if parent < stop {
-                is_marked(marks, index)
+                has_bit(bits, index)
             } else {
                 lists_it(file, index, item_at(file, table, parent))
             }
@@ -55,9 +55,9 @@ fn parent_good(
 }
 
 // The first rule that an item breaks, or 0.
-fn broken_rule(file: &[u8], table: Table, index: usize, stop: usize, marks: &[usize]) -> u32
+fn broken_rule(file: &[u8], table: Table, index: usize, stop: usize, bits: &[usize]) -> u32
     requires { ⌜ InFile (now file) table × (index < table .count) × (index ≤ stop) ⌝ }
-    requires { ⌜ Survey (now file) table stop (now marks) ⌝ }
+    requires { ⌜ Survey (now file) table stop (now bits) ⌝ }
     ensures { λ r. ⌜ r ≡ brokenRule plain (now (file .entry)) table index ⌝ }
 {
     let key = key_rule(file, table, index);
@@ -74,22 +74,22 @@ fn broken_rule(file: &[u8], table: Table, index: usize, stop: usize, marks: &[us
     if index == stop {
         return 5;
     }
-    if !parent_good(file, table, index, item, stop, marks) {
+    if !parent_good(file, table, index, item, stop, bits) {
         return 6;
     }
     0
 }
 
 // The first item of an open table that breaks a rule.
-fn check_marked(file: &[u8], table: Table, stop: usize, marks: &[usize]) -> Checked
+fn check_surveyed(file: &[u8], table: Table, stop: usize, bits: &[usize]) -> Checked
     requires { ⌜ InFile (now file) table ⌝ }
-    requires { ⌜ Survey (now file) table stop (now marks) ⌝ }
+    requires { ⌜ Survey (now file) table stop (now bits) ⌝ }
     ensures { λ r. ⌜ r ≡ checkIn plain (now (file .entry)) table ⌝ }
 {
     let count = table.count;
     let mut at = 0;
     while at < count {
-        let rule = broken_rule(file, table, at, stop, marks);
+        let rule = broken_rule(file, table, at, stop, bits);
         if rule != 0 {
             return Checked::Broken { rule, item: at };
         }
@@ -103,9 +103,9 @@ fn check_open(file: &[u8], table: Table) -> Checked
     requires { ⌜ InFile (now file) table ⌝ }
     ensures { λ r. ⌜ r ≡ checkIn plain (now (file .entry)) table ⌝ }
 {
-    let mut marks = [0usize; 10923];
-    let stop = mark_all(file, table, &mut marks);
-    check_marked(file, table, stop, &marks)
+    let mut bits = [0usize; 10923];
+    let stop = survey_all(file, table, &mut bits);
+    check_surveyed(file, table, stop, &bits)
 }
 
 // The check of the table at a pointer: opening, then 40 for the first item and its first broken rule.

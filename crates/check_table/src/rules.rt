@@ -1,7 +1,7 @@
 // The rules of an item that are tested by themselves: 1 and 2 of its key, 4 of its value, and whether a container lists an index.
-use check_keys::search::find_own;
-use check_keys::tally::Own;
-use check_keys::tally::own_key;
+use check_keys::search::find_joined;
+use check_keys::tally::JoinedKey;
+use check_keys::tally::joined_key;
 use layout::item::Item;
 use layout::pointer::Pointed;
 use layout::pointer::open_pointer;
@@ -26,9 +26,9 @@ pub fn key_rule(file: &[u8], table: Table, index: usize) -> u32
     requires { ⌜ InFile (now file) table × (index < table .count) ⌝ }
     ensures { λ r. ⌜ r ≡ keyRule plain (now (file .entry)) table index ⌝ }
 {
-    match own_key(file, table, index) {
-        Own::Broken => 1,
-        Own::Key { hash, size } => match find_own(file, table, index, size, hash) {
+    match joined_key(file, table, index) {
+        JoinedKey::Broken => 1,
+        JoinedKey::Key { hash, size } => match find_joined(file, table, index, size, hash) {
             Found::Nothing => 2,
             Found::At(found) => { if found == index { 0 } else { 2 } }
         },

@@ -17,17 +17,17 @@ use Rattle.model.specs.declared.Counted.{Counted}
 use Rattle.model.specs.Table.{Content, Has, rowsOf}
 use Rattle.model.specs.Builder as model
 use Rattle.build_memory.specs.Memory.{Memory, leastWords, tableTotal}
-use Rattle.build_memory.specs.Meaning.{meaning, shelfOf}
+use Rattle.build_memory.specs.Meaning.{meaning, standingOf}
 use Rattle.build_tables.specs.Table.{itemCount}
-use Rattle.build_rules.specs.Whole.{wholeSound}
-use Rattle.build_rules.proofs.WholeFacts.{whole-facts}
+use Rattle.build_rules.specs.Valid.{fullyValid}
+use Rattle.build_rules.proofs.ValidFacts.{whole-facts}
 use Rattle.image.specs.Image.{headerSize, depth}
 use Rattle.image.specs.Fits.{openedAs}
 use Rattle.laid.specs.Back.{endOf, tableOpened}
 use Rattle.laid.specs.Told.{TableBack, AllBack}
 use Rattle.laid.specs.Passing.{AllPass}
 use Rattle.write_numbers.specs.Roster.{stateOf}
-use Rattle.write.specs.Write.{isRoot, imageAfter}
+use Rattle.write.specs.Write.{freeStanding, imageAfter}
 use Rattle.write.proofs.StateLaws.{content-is, item-below}
 use Rattle.history.specs.Honest.{Honest}
 use Rattle.history.proofs.Model.{count-alike}
@@ -51,7 +51,7 @@ module _ (file ws ar : List ℕ) (t at : ℕ) (back : TableBack plain file (stat
   -- a key is told what stands under it; `inside` is what holds of a nested table
   told : (inside : ℕ → ℕ → ℕ → Type 0)
       → ((i u : ℕ) → Has (stateOf ws ar t .members) i → stateOf ws ar t .content i ≡ Content.nested u
-      → (from : ℕ) × (to : ℕ) × (lookupTable plain file at end (stateOf ws ar t .key i) ≡ Looked.Place from to) × inside u from to)
+      → (from : ℕ) × (to : ℕ) × (lookupTable plain file at end (stateOf ws ar t .key i) ≡ Looked.Pointer from to) × inside u from to)
       → (key : List ℕ) → isUtf8 key ≡ true → (h : Held) → heldIn (meaning ws ar .items) t key ≡ h → Tells inside file at end key h
   unfolding Tells
   told inside nest key text Held.nothing is = back .absent key text (no-item ws ar t key is)
@@ -72,9 +72,9 @@ counts : (ws ar : List ℕ) → Honest ws ar → (t : ℕ) → t < tableTotal ws
 unfolding model.itemCount stateOf rowsOf meaning
 counts ws ar honest t known =
     count-alike ws ar honest t
-    ∙ pick-true _ _ (lt-ltb t (length (meaning ws ar .tables)) (omega (arith, listed-length (shelfOf ws) (tableTotal ws))))
+    ∙ pick-true _ _ (lt-ltb t (length (meaning ws ar .tables)) (omega (arith, listed-length (standingOf ws) (tableTotal ws))))
 
-module _ (file ws ar : List ℕ) (whole : wholeSound ws ar ≡ true) where
+module _ (file ws ar : List ℕ) (whole : fullyValid ws ar ≡ true) where
   -- a table that an item holds is known
   guest-known : (t i u : ℕ) → Has (stateOf ws ar t .members) i → stateOf ws ar t .content i ≡ Content.nested u → u < tableTotal ws
   guest-known t i u has is =
@@ -88,7 +88,7 @@ module _ (ws ar : List ℕ) (long : leastWords ≤ length ws) (calls : List Call
   abbrev m : Memory
   m = after (started ws ar) calls
 
-  answers : wholeSound (m .words) (m .arena) ≡ true → (d t at : ℕ) → t < tableTotal (m .words) → AllBack plain file (stateOf (m .words) (m .arena)) d t at
+  answers : fullyValid (m .words) (m .arena) ≡ true → (d t at : ℕ) → t < tableTotal (m .words) → AllBack plain file (stateOf (m .words) (m .arena)) d t at
       → Answers (started ws ar) calls file d t at (endOf (stateOf (m .words) (m .arena)) t at)
   unfolding AllBack Answers openedAs
   answers whole zero t at known back = back
@@ -110,7 +110,7 @@ module _ (ws ar : List ℕ) (long : leastWords ≤ length ws) (calls : List Call
       )
 
 pub demand-2 : Demand2
-unfolding isRoot
+unfolding freeStanding
 demand-2 ws ar long calls t buffer start end size is =
     let m = after (started ws ar) calls in
     let s = success (m .words) (m .arena) t (length buffer) start end size is in
@@ -124,11 +124,11 @@ demand-2 ws ar long calls t buffer start end size is =
 -- ---- demand 3
 
 -- an answer with a place has no refusal's number
-placed-none : (l : Looked) (from to n : ℕ) → l ≡ Looked.Place from to → lookedNumber l ≡ suc n → ⊥
+placed-none : (l : Looked) (from to n : ℕ) → l ≡ Looked.Pointer from to → lookedNumber l ≡ suc n → ⊥
 unfolding lookedNumber
 placed-none l from to n is e = let z : _≡_ {A = ℕ} 0 (suc n) = sym (ap lookedNumber is) ∙ e in omega arith
 
-same-place : (l : Looked) (a b c d : ℕ) → l ≡ Looked.Place a b → l ≡ Looked.Place c d → (a ≡ c) × (b ≡ d)
+same-place : (l : Looked) (a b c d : ℕ) → l ≡ Looked.Pointer a b → l ≡ Looked.Pointer c d → (a ≡ c) × (b ≡ d)
 same-place l a b c d p q = (cc, cc)
 
 module _ (file ws ar : List ℕ) where
@@ -137,7 +137,7 @@ module _ (file ws ar : List ℕ) where
     pub guest : ℕ
     pub item : ItemOf ws ar t key (Content.nested guest)
 
-  nests : (t at : ℕ) → TableBack plain file (stateOf ws ar) t at → (key : List ℕ) (from to : ℕ) → lookupTable plain file at (endOf (stateOf ws ar) t at) key ≡ Looked.Place from to → Nests t key
+  nests : (t at : ℕ) → TableBack plain file (stateOf ws ar) t at → (key : List ℕ) (from to : ℕ) → lookupTable plain file at (endOf (stateOf ws ar) t at) key ≡ Looked.Pointer from to → Nests t key
   nests t at back key from to is = by-text (isUtf8 key) refl
     where
       by-held : (h : Held) → isUtf8 key ≡ true → heldIn (meaning ws ar .items) t key ≡ h → Nests t key
@@ -165,7 +165,7 @@ module _ (file ws ar : List ℕ) where
         let u = n .guest in
         let b = back .1 (x .item) u (x .has) (x .content) in
         let p = pass .1 (x .item) u (x .has) (x .content) in
-        let here : lookupTable plain file at (endOf (stateOf ws ar) t at) (stateOf ws ar t .key (x .item)) ≡ Looked.Place from to =
+        let here : lookupTable plain file at (endOf (stateOf ws ar) t at) (stateOf ws ar t .key (x .item)) ≡ Looked.Pointer from to =
         ap (lookupTable plain file at (endOf (stateOf ws ar) t at)) (x .key) ∙ is in
         let pb = same-place _ (b .0) (endOf (stateOf ws ar) u (b .0)) (p .0) (endOf (stateOf ws ar) u (p .0)) (b .1) (p .1) in
         let pp = same-place _ (p .0) (endOf (stateOf ws ar) u (p .0)) from to (p .1) here in

@@ -13,9 +13,9 @@ use Rattle.text.specs.Prefix.{prefixes}
 use Rattle.layout.specs.declared.refusal.Refusal.{Refusal}
 use Rattle.layout.specs.declared.refusal.Refusal.the-variants.{SeparatorOutside, TooManyTables}
 use Rattle.model.specs.declared.Inserted.{Inserted}
-use Rattle.model.specs.declared.Numbered.{Numbered}
+use Rattle.model.specs.declared.Added.{Added}
 use Rattle.model.specs.Table.{Content, Entry}
-use Rattle.model.specs.Builder.{Builder, Shelf, Result, result, noShelf, shelfAt, separatorOf}
+use Rattle.model.specs.Builder.{Builder, Standing, Result, result, noStanding, standingAt, separatorOf}
 use Rattle.model.specs.Builder as model
 use Rattle.build_memory.specs.Memory.{Memory, leastWords}
 use Rattle.build_memory.specs.Meaning.{meaning}
@@ -59,23 +59,23 @@ eqb-step a b = by (eqb a b) refl
     by true e = eq-eqb (suc a) (suc b) (ap suc (eqb-true a b e))
     by false e = let apart = eqb-false a b e in ne-eqb (suc a) (suc b) (λ (z : suc a ≡ suc b). apart (let w : a ≡ b = omega arith in w))
 
-snoc-at : (l : List Shelf) (x : Shelf) (t : ℕ) → getD (l ++ (x ∷ [])) t noShelf .separator ≡ pick (eqb (length l) t) (x .separator) (getD l t noShelf .separator)
+snoc-at : (l : List Standing) (x : Standing) (t : ℕ) → getD (l ++ (x ∷ [])) t noStanding .separator ≡ pick (eqb (length l) t) (x .separator) (getD l t noStanding .separator)
 snoc-at [] x zero = sym (pick-true _ _ (eq-eqb 0 0 refl))
 snoc-at [] x (suc t) = sym (pick-false _ _ (ne-eqb 0 (suc t) (λ (e : 0 ≡ suc t). omega arith)))
 snoc-at (y ∷ l) x zero = sym (pick-false _ _ (ne-eqb (suc (length l)) 0 (λ (e : suc (length l) ≡ 0). omega arith)))
-snoc-at (y ∷ l) x (suc t) = snoc-at l x t ∙ ap (λ (b : Bool). pick b (x .separator) (getD l t noShelf .separator)) (sym (eqb-step (length l) t))
+snoc-at (y ∷ l) x (suc t) = snoc-at l x t ∙ ap (λ (b : Bool). pick b (x .separator) (getD l t noStanding .separator)) (sym (eqb-step (length l) t))
 
 -- a new table has the separator that was given, and the others keep theirs; no item changes
-record NewTable (m : Builder) (given : List ℕ) (r : Result Numbered) : Type 0 where
-  pub seps : (t : ℕ) → shelfAt (r .after) t .separator ≡ pick (isTable (r .answer) t) (separatorOf given) (shelfAt m t .separator)
+record NewTable (m : Builder) (given : List ℕ) (r : Result Added) : Type 0 where
+  pub seps : (t : ℕ) → standingAt (r .after) t .separator ≡ pick (isTable (r .answer) t) (separatorOf given) (standingAt m t .separator)
   pub items : r .after .items ≡ m .items
 
-not-new : (m : Builder) (given : List ℕ) (why : Refusal) → NewTable m given (result (Numbered.Refused why) m)
+not-new : (m : Builder) (given : List ℕ) (why : Refusal) → NewTable m given (result (Added.Refused why) m)
 unfolding isTable pick
 not-new m given why = record { seps = λ t. refl; items = refl }
 
 new-table-is : (m : Builder) (given : List ℕ) → NewTable m given (model.newTable m given)
-unfolding model.newTable isTable shelfAt
+unfolding model.newTable isTable standingAt
 new-table-is m given =
     pick-with (NewTable m given) _ _ _ (λ _. not-new m given SeparatorOutside)
     (λ _. pick-with (NewTable m given) _ _ _ (λ _. not-new m given TooManyTables) (λ _. record { seps = λ t. snoc-at (m .tables) _ t; items = refl }))
@@ -91,33 +91,33 @@ module _ (m : Memory) (honest : Honest (m .words) (m .arena)) where
   stood t k = heldIn (b .items) t k
 
   abbrev becomes : Call → ℕ → List ℕ → Held
-  becomes call t k = orElse (puts call t k) (pick (passes (shelfAt b t .separator) call t k) (orElse (stood t k) (Held.holds Content.container)) (stood t k))
+  becomes call t k = orElse (puts call t k) (pick (passes (standingAt b t .separator) call t k) (orElse (stood t k) (Held.holds Content.container)) (stood t k))
 
   -- a call that puts nothing anywhere
-  still : (call : Call) (t : ℕ) (k : List ℕ) → puts call t k ≡ Held.nothing → passes (shelfAt b t .separator) call t k ≡ false → stood t k ≡ pick (accepted m call) (becomes call t k) (stood t k)
+  still : (call : Call) (t : ℕ) (k : List ℕ) → puts call t k ≡ Held.nothing → passes (standingAt b t .separator) call t k ≡ false → stood t k ≡ pick (accepted m call) (becomes call t k) (stood t k)
   unfolding orElse
   still call t k p q = sym (ap (λ (h : Held). pick (accepted m call) h (stood t k)) (rw p (pick-false _ _ q)) ∙ pick-same (accepted m call) (stood t k))
 
-  pub sep-step : (call : Call) (t : ℕ) → shelfAt (meant (leaves m call)) t .separator ≡ madeBy m call t (shelfAt b t .separator)
+  pub sep-step : (call : Call) (t : ℕ) → standingAt (meant (leaves m call)) t .separator ≡ madeBy m call t (standingAt b t .separator)
   unfolding leaves madeBy
   sep-step (Call.new-table given) t =
       let alike = table-alike (m .words) (m .arena) given honest in
-      ap (λ (x : Builder). shelfAt x t .separator) (alike .after)
+      ap (λ (x : Builder). standingAt x t .separator) (alike .after)
       ∙ new-table-is b given .seps t
-      ∙ ap (λ (a : Numbered). pick (isTable a t) (separatorOf given) (shelfAt b t .separator)) (sym (alike .answer))
+      ∙ ap (λ (a : Added). pick (isTable a t) (separatorOf given) (standingAt b t .separator)) (sym (alike .answer))
   sep-step (Call.insert-value u key value) t =
-      ap (λ (x : Builder). shelfAt x t .separator) (value-alike (m .words) (m .arena) honest u key value .after) ∙ value-took b u key value .seps t
+      ap (λ (x : Builder). standingAt x t .separator) (value-alike (m .words) (m .arena) honest u key value .after) ∙ value-took b u key value .seps t
   sep-step (Call.insert-table u key guest) t =
-      ap (λ (x : Builder). shelfAt x t .separator) (nest-alike (m .words) (m .arena) honest u key guest .after) ∙ table-took b u key guest .seps t
+      ap (λ (x : Builder). standingAt x t .separator) (nest-alike (m .words) (m .arena) honest u key guest .after) ∙ table-took b u key guest .seps t
   sep-step (Call.item-count u) t = refl
   sep-step (Call.write u buffer) t = refl
 
   -- the separator of the table that an insert goes into
-  own-sep : (u : ℕ) (key : List ℕ) (t : ℕ) (k : List ℕ) → (eqb u t && among (prefixes (shelfAt b u .separator) key) k) ≡ (eqb u t && among (prefixes (shelfAt b t .separator) key) k)
-  own-sep u key t k = by (eqb u t) refl
+  its-sep : (u : ℕ) (key : List ℕ) (t : ℕ) (k : List ℕ) → (eqb u t && among (prefixes (standingAt b u .separator) key) k) ≡ (eqb u t && among (prefixes (standingAt b t .separator) key) k)
+  its-sep u key t k = by (eqb u t) refl
     where
-      by : (q : Bool) → eqb u t ≡ q → (q && among (prefixes (shelfAt b u .separator) key) k) ≡ (q && among (prefixes (shelfAt b t .separator) key) k)
-      by true e = ap (λ (x : ℕ). among (prefixes (shelfAt b x .separator) key) k) (eqb-true u t e)
+      by : (q : Bool) → eqb u t ≡ q → (q && among (prefixes (standingAt b u .separator) key) k) ≡ (q && among (prefixes (standingAt b t .separator) key) k)
+      by true e = ap (λ (x : ℕ). among (prefixes (standingAt b x .separator) key) k) (eqb-true u t e)
       by false e = refl
 
   -- an insert that is accepted
@@ -128,7 +128,7 @@ module _ (m : Memory) (honest : Honest (m .words) (m .arena)) where
       let alike = value-alike (m .words) (m .arena) honest u key value in
       ap (λ (x : Builder). heldIn (x .items) t k) (alike .after)
       ∙ value-took b u key value .took (ap (λ (a : Inserted). eqb (insertedNumber a) 0) (sym (alike .answer)) ∙ yes-it-is) t k
-      ∙ ap (λ (q : Bool). orElse (pick (hit u key t k) (Held.holds (Content.bytes value)) Held.nothing) (pick q (orElse (stood t k) (Held.holds Content.container)) (stood t k))) (own-sep u key t k)
+      ∙ ap (λ (q : Bool). orElse (pick (hit u key t k) (Held.holds (Content.bytes value)) Held.nothing) (pick q (orElse (stood t k) (Held.holds Content.container)) (stood t k))) (its-sep u key t k)
 
   nest-step : (u : ℕ) (key : List ℕ) (guest t : ℕ) (k : List ℕ) → accepted m (Call.insert-table u key guest) ≡ true
       → heldIn (meant (leaves m (Call.insert-table u key guest)) .items) t k ≡ becomes (Call.insert-table u key guest) t k
@@ -137,7 +137,7 @@ module _ (m : Memory) (honest : Honest (m .words) (m .arena)) where
       let alike = nest-alike (m .words) (m .arena) honest u key guest in
       ap (λ (x : Builder). heldIn (x .items) t k) (alike .after)
       ∙ table-took b u key guest .took (ap (λ (a : Inserted). eqb (insertedNumber a) 0) (sym (alike .answer)) ∙ yes-it-is) t k
-      ∙ ap (λ (q : Bool). orElse (pick (hit u key t k) (Held.holds (Content.nested guest)) Held.nothing) (pick q (orElse (stood t k) (Held.holds Content.container)) (stood t k))) (own-sep u key t k)
+      ∙ ap (λ (q : Bool). orElse (pick (hit u key t k) (Held.holds (Content.nested guest)) Held.nothing) (pick q (orElse (stood t k) (Held.holds Content.container)) (stood t k))) (its-sep u key t k)
 
   -- a call that is refused changes nothing
   by-answer : (call : Call) (t : ℕ) (k : List ℕ) → (accepted m call ≡ true → heldIn (meant (leaves m call) .items) t k ≡ becomes call t k)
@@ -175,9 +175,9 @@ next-held true Held.nothing true Held.nothing true = refl
 next-held true Held.nothing true Held.nothing false = refl
 
 module _ (ws ar : List ℕ) (long : leastWords ≤ length ws) where
-  sep-is : (t : ℕ) (calls : List Call) → shelfAt (meant (after (started ws ar) calls)) t .separator ≡ separator (started ws ar) t calls
-  unfolding after separator started shelfAt
-  sep-is t [] = ap (λ (x : Builder). shelfAt x t .separator) (fresh-alike ws ar long)
+  sep-is : (t : ℕ) (calls : List Call) → standingAt (meant (after (started ws ar) calls)) t .separator ≡ separator (started ws ar) t calls
+  unfolding after separator started standingAt
+  sep-is t [] = ap (λ (x : Builder). standingAt x t .separator) (fresh-alike ws ar long)
   sep-is t (call ∷ earlier) =
       let m = after (started ws ar) earlier in
       sep-step m (after-honest ws ar long earlier) call t ∙ ap (madeBy m call t) (sep-is t earlier)

@@ -15,7 +15,7 @@ use Rattle.layout.specs.Refusal.{number}
 use Rattle.model.specs.declared.Inserted.{Inserted}
 use Rattle.model.specs.Table.{Content, Entry, noItem}
 use Rattle.model.specs.Walk.{Walked, walk}
-use Rattle.model.specs.Builder.{Builder, Shelf, noShelf, shelfAt, Result, result, refused, counted, atWalked, put, keyed, insertValue, place, whenAccepted, settled, insertTable, height, deepest}
+use Rattle.model.specs.Builder.{Builder, Standing, noStanding, standingAt, Result, result, refused, counted, atWalked, put, keyed, insertValue, place, whenAccepted, settled, insertTable, height, deepest}
 use Rattle.build_values.specs.Answer.{insertedNumber}
 use Rattle.demands.specs.Last.{Held, orElse, among}
 use Rattle.demands.proofs.HeldLaws.{heldIn, hit}
@@ -25,12 +25,12 @@ use Rattle.demands.proofs.WalkHeld.{walk-held}
 abbrev pub putHeld : Builder → ℕ → List ℕ → Content → ℕ → List ℕ → Held
 putHeld m t key content u k =
     orElse (pick (hit t key u k) (Held.holds content) Held.nothing)
-    (pick (eqb t u && among (prefixes (shelfAt m t .separator) key) k) (orElse (heldIn (m .items) u k) (Held.holds Content.container)) (heldIn (m .items) u k))
+    (pick (eqb t u && among (prefixes (standingAt m t .separator) key) k) (orElse (heldIn (m .items) u k) (Held.holds Content.container)) (heldIn (m .items) u k))
 
 module _ (m : Builder) (t : ℕ) (key : List ℕ) (content : Content) where
   pub record Took (r : Result Inserted) : Type 0 where
     pub took : eqb (insertedNumber (r .answer)) 0 ≡ true → (u : ℕ) (k : List ℕ) → heldIn (r .after .items) u k ≡ putHeld m t key content u k
-    pub seps : (u : ℕ) → shelfAt (r .after) u .separator ≡ shelfAt m u .separator
+    pub seps : (u : ℕ) → standingAt (r .after) u .separator ≡ standingAt m u .separator
 
   refused-took : (why : Refusal) → eqb (number why) 0 ≡ false → Took (refused why m)
   unfolding insertedNumber
@@ -39,15 +39,15 @@ module _ (m : Builder) (t : ℕ) (key : List ℕ) (content : Content) where
   pick-took : (b : Bool) (r s : Result Inserted) → Took r → Took s → Took (pick b r s)
   pick-took b r s x y = pick-with Took b r s (λ _. x) (λ _. y)
 
-  counted-took : (size : ℕ) (after : List Entry) → walk t content (prefixes (shelfAt m t .separator) key) (m .items) noItem ≡ Walked.walked after
+  counted-took : (size : ℕ) (after : List Entry) → walk t content (prefixes (standingAt m t .separator) key) (m .items) noItem ≡ Walked.walked after
       → Took (counted m t key size after)
-  unfolding counted shelfAt
+  unfolding counted standingAt
   counted-took size after is =
       pick-took _ _ _ (refused-took TooManyItems refl)
       (pick-took _ _ _ (refused-took ArenaFull refl)
-      (record { took = λ n u k. walk-held t content (shelfAt m t .separator) key (m .items) noItem after is u k; seps = λ u. refl }))
+      (record { took = λ n u k. walk-held t content (standingAt m t .separator) key (m .items) noItem after is u k; seps = λ u. refl }))
 
-  walked-took : (size : ℕ) (deep : Bool) (w : Walked) → walk t content (prefixes (shelfAt m t .separator) key) (m .items) noItem ≡ w → Took (atWalked w deep m t key size)
+  walked-took : (size : ℕ) (deep : Bool) (w : Walked) → walk t content (prefixes (standingAt m t .separator) key) (m .items) noItem ≡ w → Took (atWalked w deep m t key size)
   unfolding atWalked
   walked-took size deep Walked.blocked is = refused-took NotContainer refl
   walked-took size deep (Walked.walked after) is = pick-took _ _ _ (refused-took NestedTooDeep refl) (counted-took size after is)
@@ -68,16 +68,16 @@ value-took m t key value =
 
 -- ---- a table that is placed keeps its separator, and its items
 
-set-sep : (l : List Shelf) (g u : ℕ) (x : Shelf) → x .separator ≡ getD l g noShelf .separator → getD (set l g x) u noShelf .separator ≡ getD l u noShelf .separator
+set-sep : (l : List Standing) (g u : ℕ) (x : Standing) → x .separator ≡ getD l g noStanding .separator → getD (set l g x) u noStanding .separator ≡ getD l u noStanding .separator
 set-sep [] g u x e = refl
 set-sep (y ∷ l) zero zero x e = e
 set-sep (y ∷ l) zero (suc u) x e = refl
 set-sep (y ∷ l) (suc g) zero x e = refl
 set-sep (y ∷ l) (suc g) (suc u) x e = set-sep l g u x e
 
-placed-sep : (m : Builder) (g u : ℕ) → shelfAt (place m g) u .separator ≡ shelfAt m u .separator
-unfolding place shelfAt
-placed-sep m g u = set-sep (m .tables) g u (record { separator = shelfAt m g .separator; placed = true }) refl
+placed-sep : (m : Builder) (g u : ℕ) → standingAt (place m g) u .separator ≡ standingAt m u .separator
+unfolding place standingAt
+placed-sep m g u = set-sep (m .tables) g u (record { separator = standingAt m g .separator; placed = true }) refl
 
 placed-items : (m : Builder) (g : ℕ) → place m g .items ≡ m .items
 unfolding place

@@ -11,19 +11,19 @@ use Rattle.layout.specs.declared.refusal.Refusal.{Refusal}
 use Rattle.layout.specs.declared.refusal.Refusal.the-variants.{KeyNotUtf8, KeyTooLong, NotContainer, TooManyItems, ArenaFull, TableUnknown, TableInItself, NestedTooDeep}
 use Rattle.layout.specs.Refusal.{number}
 use Rattle.model.specs.declared.Inserted.{Inserted}
-use Rattle.model.specs.declared.Numbered.{Numbered}
+use Rattle.model.specs.declared.Added.{Added}
 use Rattle.model.specs.declared.Counted.{Counted}
-use Rattle.build_memory.specs.Memory.{Memory, sound, Outcome}
+use Rattle.build_memory.specs.Memory.{Memory, valid, Outcome}
 use Rattle.build_memory.specs.Item.{Stored}
 use Rattle.build_tables.specs.Table.{addTable, newTable, itemCount}
-use Rattle.build_tables.specs.Answer.{numberedNumber, countedNumber}
-use Rattle.build_values.specs.Insert.{keyed, insertWalked, insertAlong, insertNew, overwrite, insertSound, insertValue}
+use Rattle.build_tables.specs.Answer.{addedNumber, countedNumber}
+use Rattle.build_values.specs.Insert.{keyed, insertBelowPath, insertOrReplace, insertNew, overwrite, insertAtKey, insertValue}
 use Rattle.build_values.specs.Answer.{insertedNumber}
-use Rattle.build_nested.specs.Nest.{settled, nested, tableSound, insertTable}
-use Rattle.build_rules.specs.Whole.{wholeSound}
+use Rattle.build_nested.specs.Nest.{settled, nested, nestAtKey, insertTable}
+use Rattle.build_rules.specs.Valid.{fullyValid}
 use Rattle.write.specs.declared.Written.{Written}
 use Rattle.write.specs.Write.{writeAnswer, writtenNumber}
-use Rattle.history.proofs.History.{reached-sound, reached-whole}
+use Rattle.history.proofs.History.{reached-valid, reached-whole}
 use Rattle.demands.specs.Calls.{Call, answered, started, after}
 use Rattle.demands.specs.Demand1.{Never29}
 use Rattle.demands.proofs.Histories.{after-reached}
@@ -49,8 +49,8 @@ unfolding insertedNumber
 new = record { other = λ e. omega arith }
 
 module _ (ws ar : List ℕ) (t : ℕ) (key : List ℕ) where
-  walked-other : (c : Stored) (deep : Bool) → Other insertedNumber (insertWalked ws ar t key c deep .answer)
-  unfolding insertWalked insertAlong insertNew overwrite insertedNumber
+  walked-other : (c : Stored) (deep : Bool) → Other insertedNumber (insertBelowPath ws ar t key c deep .answer)
+  unfolding insertBelowPath insertOrReplace insertNew overwrite insertedNumber
   walked-other c deep =
       other-pick insertedNumber said _ _ _
       (other-pick insertedNumber said _ _ _ (no NestedTooDeep (λ e. omega arith))
@@ -63,16 +63,16 @@ module _ (ws ar : List ℕ) (t : ℕ) (key : List ℕ) where
   keyed-other o p =
       other-pick insertedNumber said _ _ _ (other-pick insertedNumber said _ _ _ (no KeyTooLong (λ e. omega arith)) p) (no KeyNotUtf8 (λ e. omega arith))
 
-  value-other : (value : List ℕ) → sound ws (length ar) ≡ true → Other insertedNumber (insertValue ws ar t key value .answer)
-  unfolding insertValue insertSound
+  value-other : (value : List ℕ) → valid ws (length ar) ≡ true → Other insertedNumber (insertValue ws ar t key value .answer)
+  unfolding insertValue insertAtKey
   value-other value ok =
-      rw (pick-true (insertSound ws ar t key value) _ ok)
+      rw (pick-true (insertAtKey ws ar t key value) _ ok)
       (other-pick insertedNumber said _ _ _ (keyed-other _ (walked-other _ _)) (no TableUnknown (λ e. omega arith)))
 
-  table-other : (guest : ℕ) → sound ws (length ar) ≡ true → Other insertedNumber (insertTable ws ar t key guest .answer)
-  unfolding insertTable tableSound nested settled
+  table-other : (guest : ℕ) → valid ws (length ar) ≡ true → Other insertedNumber (insertTable ws ar t key guest .answer)
+  unfolding insertTable nestAtKey nested settled
   table-other guest ok =
-      rw (pick-true (tableSound ws ar t key guest) _ ok)
+      rw (pick-true (nestAtKey ws ar t key guest) _ ok)
       (other-pick insertedNumber said _ _ _
       (other-pick insertedNumber said _ _ _
       (other-pick insertedNumber said _ _ _ (no TableInItself (λ e. omega arith)) (keyed-other _ (walked-other _ _)))
@@ -81,20 +81,20 @@ module _ (ws ar : List ℕ) (t : ℕ) (key : List ℕ) where
 
 -- ---- the others
 
-new-table-other : (ws ar given : List ℕ) → sound ws (length ar) ≡ true → Other numberedNumber (newTable ws ar given .answer)
-unfolding newTable addTable numberedNumber
+new-table-other : (ws ar given : List ℕ) → valid ws (length ar) ≡ true → Other addedNumber (newTable ws ar given .answer)
+unfolding newTable addTable addedNumber
 new-table-other ws ar given ok =
-    let say : Outcome Numbered → Numbered = λ (o : Outcome Numbered). o .answer in
+    let say : Outcome Added → Added = λ (o : Outcome Added). o .answer in
     rw (pick-true _ _ ok)
-    (other-pick numberedNumber say _ _ _ (record { other = λ e. omega arith })
-    (other-pick numberedNumber say _ _ _ (record { other = λ e. omega arith }) (record { other = λ e. omega arith })))
+    (other-pick addedNumber say _ _ _ (record { other = λ e. omega arith })
+    (other-pick addedNumber say _ _ _ (record { other = λ e. omega arith }) (record { other = λ e. omega arith })))
 
-count-other : (ws ar : List ℕ) (t : ℕ) → sound ws (length ar) ≡ true → Other countedNumber (itemCount ws ar t)
+count-other : (ws ar : List ℕ) (t : ℕ) → valid ws (length ar) ≡ true → Other countedNumber (itemCount ws ar t)
 unfolding itemCount countedNumber
 count-other ws ar t ok =
     rw (pick-true _ _ ok) (other-pick countedNumber (λ (a : Counted). a) _ _ _ (record { other = λ e. omega arith }) (record { other = λ e. omega arith }))
 
-write-other : (ws ar : List ℕ) (t room : ℕ) → wholeSound ws ar ≡ true → Other writtenNumber (writeAnswer ws ar t room)
+write-other : (ws ar : List ℕ) (t room : ℕ) → fullyValid ws ar ≡ true → Other writtenNumber (writeAnswer ws ar t room)
 unfolding writeAnswer writtenNumber
 write-other ws ar t room ok =
     let same : Written → Written = λ (a : Written). a in
@@ -108,12 +108,12 @@ pub never-29 : Never29
 unfolding answered
 never-29 ws ar long calls call e =
     let r = after-reached ws ar long calls in
-    by call (reached-sound _ _ r) (reached-whole _ _ r) e
+    by call (reached-valid _ _ r) (reached-whole _ _ r) e
   where
     m : Memory
     m = after (started ws ar) calls
 
-    by : (x : Call) → sound (m .words) (length (m .arena)) ≡ true → wholeSound (m .words) (m .arena) ≡ true → answered m x ≡ 29 → ⊥
+    by : (x : Call) → valid (m .words) (length (m .arena)) ≡ true → fullyValid (m .words) (m .arena) ≡ true → answered m x ≡ 29 → ⊥
     by (Call.new-table given) ok whole e = new-table-other (m .words) (m .arena) given ok .other e
     by (Call.insert-value t key value) ok whole e = value-other (m .words) (m .arena) t key value ok .other e
     by (Call.insert-table t key guest) ok whole e = table-other (m .words) (m .arena) t key guest ok .other e

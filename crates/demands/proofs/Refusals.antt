@@ -10,11 +10,11 @@ use Rattle.words.proofs.ChoiceLaws.{pick-with}
 use Rattle.layout.specs.declared.refusal.Refusal.{Refusal}
 use Rattle.layout.specs.declared.refusal.Refusal.the-variants.{SeparatorOutside, TooManyTables, MemoryBroken}
 use Rattle.model.specs.declared.Inserted.{Inserted}
-use Rattle.model.specs.declared.Numbered.{Numbered}
+use Rattle.model.specs.declared.Added.{Added}
 use Rattle.build_memory.specs.Memory.{leastWords, Memory, memory, Outcome, freshStart}
 use Rattle.build_memory.specs.Answer.{startedNumber}
-use Rattle.build_tables.specs.Table.{unnumbered, addTable, newTable}
-use Rattle.build_tables.specs.Answer.{numberedNumber}
+use Rattle.build_tables.specs.Table.{notAdded, addTable, newTable}
+use Rattle.build_tables.specs.Answer.{addedNumber}
 use Rattle.build_values.specs.Insert.{insertValue}
 use Rattle.build_values.specs.Answer.{insertedNumber}
 use Rattle.build_values.proofs.AnswerLaws.{Still, value-still}
@@ -35,14 +35,14 @@ inserted-still m o s (Inserted.Refused why) e n = s .same why e
 
 -- ---- a new table
 
-pub record TableStill (m : Memory) (o : Outcome Numbered) : Type 0 where
-  pub same : eqb (numberedNumber (o .answer)) 0 ≡ false → o .after ≡ m
+pub record TableStill (m : Memory) (o : Outcome Added) : Type 0 where
+  pub same : eqb (addedNumber (o .answer)) 0 ≡ false → o .after ≡ m
 
-table-stays : (m : Memory) (why : Refusal) → TableStill m (unnumbered why (m .words) (m .arena))
+table-stays : (m : Memory) (why : Refusal) → TableStill m (notAdded why (m .words) (m .arena))
 table-stays m why = record { same = λ n. refl }
 
 new-table-still : (m : Memory) (separator : List ℕ) → TableStill m (newTable (m .words) (m .arena) separator)
-unfolding newTable addTable numberedNumber
+unfolding newTable addTable addedNumber
 new-table-still m separator =
     pick-with (TableStill m) _ _ _
     (λ _. pick-with (TableStill m) _ _ _ (λ _. table-stays m SeparatorOutside)

@@ -8,7 +8,7 @@ use lib.ListN.{length, getD, length-append, List·getD-append}
 use lib.Seq.{getD-at}
 use Rattle.model.specs.Table.{Has}
 use Rattle.build_memory.specs.Memory.{itemTotal, itemTable}
-use Rattle.image.specs.Number.{indexIn}
+use Rattle.image.specs.Index.{indexIn}
 use Rattle.image.proofs.TimesLaws.{eq-or-ne, lt-or-ge, index-stands}
 use Rattle.write_numbers.specs.Roster.{stateOf}
 use Rattle.write.proofs.StateLaws.{among, among-hit, among-miss, among-none, members-are}

@@ -13,17 +13,17 @@ use Rattle.model.specs.Table.{Rows, Has, isChild, isContainer, noItem}
 use Rattle.model.specs.Builder.{longestKey, mostItems}
 use Rattle.build_memory.specs.Memory.{itemTotal, itemParent, keyOf}
 use Rattle.build_memory.specs.Find.{findKey}
-use Rattle.build_rules.specs.Whole.{wholeSound}
-use Rattle.build_rules.proofs.WholeFacts.{WholeFacts, whole-facts}
+use Rattle.build_rules.specs.Valid.{fullyValid}
+use Rattle.build_rules.proofs.ValidFacts.{WholeFacts, whole-facts}
 use Rattle.image.specs.WellFormed.{ChildFits, WellFormed}
 use Rattle.image.proofs.TimesLaws.{eq-or-ne}
 use Rattle.write_numbers.specs.Roster.{stateOf}
-use Rattle.write_numbers.proofs.StateLaws.{state-members, owned-few}
+use Rattle.write_numbers.proofs.StateLaws.{state-members, all-of-table-few}
 use Rattle.write_numbers.proofs.RosterLaws.{whole-fit}
 use Rattle.write.proofs.StateLaws.{key-length, key-is, above-is, content-past, member-once, has-item, item-below, item-table}
 use Rattle.demands.proofs.Rising.{member-earlier}
 
-module _ (ws ar : List ℕ) (whole : wholeSound ws ar ≡ true) (t : ℕ) where
+module _ (ws ar : List ℕ) (whole : fullyValid ws ar ≡ true) (t : ℕ) where
   facts : WholeFacts ws ar
   facts = whole-facts ws ar whole
 
@@ -31,7 +31,7 @@ module _ (ws ar : List ℕ) (whole : wholeSound ws ar ≡ true) (t : ℕ) where
   table = stateOf ws ar t
 
   few : length (table .members) ≤ mostItems
-  few = rw (state-members ws ar t) (owned-few ws t (whole-fit ws ar whole))
+  few = rw (state-members ws ar t) (all-of-table-few ws t (whole-fit ws ar whole))
 
   module _ (i : ℕ) (has : Has (table .members) i) where
     inside : i < itemTotal ws

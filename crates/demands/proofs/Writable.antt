@@ -12,15 +12,15 @@ use Rattle.words.proofs.ChoiceLaws.{both}
 use Rattle.model.specs.Table.{Content}
 use Rattle.build_memory.specs.Memory.{tableTotal, itemKind, itemGuest, valueStart, valueSize, valueKind, tableKind}
 use Rattle.build_memory.specs.Meaning.{contentOf}
-use Rattle.build_rules.specs.Whole.{heightLimit, wholeSound}
-use Rattle.build_rules.proofs.WholeLaws.{limit-loose, limit-placed}
-use Rattle.build_rules.proofs.WholeFacts.{whole-facts}
+use Rattle.build_rules.specs.Valid.{heightLimit, fullyValid}
+use Rattle.build_rules.proofs.ValidLaws.{limit-loose, limit-placed}
+use Rattle.build_rules.proofs.ValidFacts.{whole-facts}
 use Rattle.image.specs.Image.{depth}
 use Rattle.image.specs.WellFormed.{Writable}
 use Rattle.write_numbers.specs.Roster.{stateOf}
-use Rattle.write.specs.Write.{isRoot}
+use Rattle.write.specs.Write.{freeStanding}
 use Rattle.write.proofs.StateLaws.{content-is, item-below, item-table}
-use Rattle.demands.specs.Success.{RootsWritable}
+use Rattle.demands.specs.Success.{FreeStandingWritable}
 use Rattle.demands.proofs.WellFormed.{table-formed}
 
 -- what holds a table is an 'H', and the table is its guest
@@ -34,7 +34,7 @@ holds-guest ws ar i u is = by-kind (eqb (itemKind ws i) valueKind) (eqb (itemKin
     by-kind false true value e f = (eqb-true _ _ e, cc)
     by-kind false false value e f = absurd (let z : _≡_ {A = ℕ} 0 1 = cc in omega arith)
 
-module _ (ws ar : List ℕ) (whole : wholeSound ws ar ≡ true) where
+module _ (ws ar : List ℕ) (whole : fullyValid ws ar ≡ true) where
   -- a table that may hold tables lower than d only, may be written d deep
   pub limit-writable : (d t : ℕ) → 1 ≤ heightLimit ws t → heightLimit ws t ≤ d → Writable (stateOf ws ar) d t
   unfolding Writable
@@ -50,8 +50,8 @@ module _ (ws ar : List ℕ) (whole : wholeSound ws ar ≡ true) where
   )
 
 -- a table that is known and not placed: what a write takes
-pub root-writable : RootsWritable
-unfolding isRoot
-root-writable ws ar whole t root =
+pub free-standing-writable : FreeStandingWritable
+unfolding freeStanding
+free-standing-writable ws ar whole t root =
     let limit = limit-loose ws t (eqb-true _ _ (both (ltb t (tableTotal ws)) _ root .1)) in
     limit-writable ws ar whole depth t (omega arith) (omega arith)

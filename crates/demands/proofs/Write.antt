@@ -18,12 +18,12 @@ use Rattle.image.specs.Image.{headerSize, depth, imageOf}
 use Rattle.image.specs.WellFormed.{Writable}
 use Rattle.laid.proofs.ImageBack.{alone-back}
 use Rattle.laid.proofs.Passes.{alone-passes}
-use Rattle.build_rules.specs.Whole.{wholeSound}
+use Rattle.build_rules.specs.Valid.{fullyValid}
 use Rattle.write_numbers.specs.Roster.{stateOf}
 use Rattle.write.specs.declared.Written.{Written}
-use Rattle.write.specs.Write.{hasEmpty, isRoot, imageFor, tooLong, writeAnswer, laidBy, imageAfter}
+use Rattle.write.specs.Write.{hasEmpty, freeStanding, imageFor, tooLong, writeAnswer, laidBy, imageAfter}
 use Rattle.demands.specs.Success.{Success, SuccessSays, SuccessLays, SuccessReadsBack, SuccessPasses}
-use Rattle.demands.proofs.Writable.{root-writable}
+use Rattle.demands.proofs.Writable.{free-standing-writable}
 
 -- ---- what a success says
 
@@ -59,7 +59,7 @@ unfolding writeAnswer
 success ws ar t room start end size e =
     let image = length (imageFor ws ar t) in
     let good = Written.Image headerSize (headerSize + chunkSize (length (stateOf ws ar t .members))) image in
-    let p = passed good start end size (wholeSound ws ar) (isRoot ws t) (hasEmpty (stateOf ws ar) depth t) (tooLong room image) e in
+    let p = passed good start end size (fullyValid ws ar) (freeStanding ws t) (hasEmpty (stateOf ws ar) depth t) (tooLong room image) e in
     let (short, fits) = not-too-long room image (p .long-is) in
     let is = p .answer-is in
     let long : size ≡ image = cc in record {
@@ -91,7 +91,7 @@ module _ (ws ar buffer : List ℕ) (t start end size : ℕ) (e : writeAnswer ws 
   made = success ws ar t (length buffer) start end size e
 
   writable : Writable (stateOf ws ar) depth t
-  writable = root-writable ws ar (made .whole) t (made .root)
+  writable = free-standing-writable ws ar (made .whole) t (made .root)
 
   short-image : length (imageOf plain (stateOf ws ar) t) ≤ longestFile
   unfolding imageFor

@@ -7,7 +7,7 @@ use lib.Dec.{eqb}
 use lib.ListN.{length}
 use Rattle.build_memory.specs.Memory.{Memory, memory, freshWords}
 use Rattle.build_tables.specs.Table.{newTable, itemCount}
-use Rattle.build_tables.specs.Answer.{numberedNumber, countedNumber}
+use Rattle.build_tables.specs.Answer.{addedNumber, countedNumber}
 use Rattle.build_values.specs.Insert.{insertValue}
 use Rattle.build_values.specs.Answer.{insertedNumber}
 use Rattle.build_nested.specs.Nest.{insertTable}
@@ -23,7 +23,7 @@ pub data Call : Type 0 where
 
 -- the number that it answers: 0, or the refusal's
 unfoldable pub answered : Memory → Call → ℕ
-answered m (Call.new-table separator) = numberedNumber (newTable (m .words) (m .arena) separator .answer)
+answered m (Call.new-table separator) = addedNumber (newTable (m .words) (m .arena) separator .answer)
 answered m (Call.insert-value t key value) = insertedNumber (insertValue (m .words) (m .arena) t key value .answer)
 answered m (Call.insert-table t key guest) = insertedNumber (insertTable (m .words) (m .arena) t key guest .answer)
 answered m (Call.item-count t) = countedNumber (itemCount (m .words) (m .arena) t)

@@ -35,7 +35,7 @@ Tells inside file start end key (Held.holds (Content.bytes value)) =
     Views file (lookupValue plain file start end key) value × (lookedNumber (lookupTable plain file start end key) ≡ 13)
 Tells inside file start end key (Held.holds (Content.nested u)) =
     (lookedNumber (lookupValue plain file start end key) ≡ 13)
-    × ((from : ℕ) × (to : ℕ) × (lookupTable plain file start end key ≡ Looked.Place from to) × inside u from to)
+    × ((from : ℕ) × (to : ℕ) × (lookupTable plain file start end key ≡ Looked.Pointer from to) × inside u from to)
 Tells inside file start end key (Held.holds Content.container) = Both plain file start end key 13
 
 -- the table opens, with as many items as the builder counts in it

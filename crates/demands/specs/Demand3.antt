@@ -20,7 +20,7 @@ unfoldable pub AllSound : List ℕ → ℕ → ℕ → ℕ → Type 0
 AllSound file zero start end = ⊥
 AllSound file (suc d) start end =
     (checkTable plain file start end ≡ Checked.Sound)
-    × ((key : List ℕ) (from to : ℕ) → lookupTable plain file start end key ≡ Looked.Place from to → AllSound file d from to)
+    × ((key : List ℕ) (from to : ℕ) → lookupTable plain file start end key ≡ Looked.Pointer from to → AllSound file d from to)
 
 abbrev pub EveryImagePasses : Type 0
 EveryImagePasses =

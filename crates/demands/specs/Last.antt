@@ -7,7 +7,7 @@ use lib.Dec.{eqb}
 use Rattle.words.specs.Choice.{pick}
 use Rattle.text.specs.Compare.{sameBytes}
 use Rattle.text.specs.Prefix.{prefixes}
-use Rattle.model.specs.declared.Numbered.{Numbered}
+use Rattle.model.specs.declared.Added.{Added}
 use Rattle.model.specs.Table.{Content}
 use Rattle.model.specs.Builder.{noSeparator, separatorOf}
 use Rattle.build_memory.specs.Memory.{Memory}
@@ -49,9 +49,9 @@ passes separator (Call.write u buffer) t k = false
 -- ---- over a history, the latest call first
 
 -- what the call answers is table t
-unfoldable pub isTable : Numbered → ℕ → Bool
-isTable (Numbered.Table u) t = eqb u t
-isTable (Numbered.Refused why) t = false
+unfoldable pub isTable : Added → ℕ → Bool
+isTable (Added.Table u) t = eqb u t
+isTable (Added.Refused why) t = false
 
 -- the separator of table t, as the call that made it said
 unfoldable pub madeBy : Memory → Call → ℕ → ℕ → ℕ

@@ -12,14 +12,14 @@ use Rattle.image.specs.WellFormed.{Writable}
 use Rattle.laid.specs.Back.{endOf}
 use Rattle.laid.specs.Told.{AllBack}
 use Rattle.laid.specs.Passing.{AllPass}
-use Rattle.build_rules.specs.Whole.{wholeSound}
+use Rattle.build_rules.specs.Valid.{fullyValid}
 use Rattle.write_numbers.specs.Roster.{stateOf}
 use Rattle.write.specs.declared.Written.{Written}
-use Rattle.write.specs.Write.{hasEmpty, isRoot, imageFor, writeAnswer, imageAfter}
+use Rattle.write.specs.Write.{hasEmpty, freeStanding, imageFor, writeAnswer, imageAfter}
 
 -- a memory that the rules accept means only tables that can be laid and read back: each that a write takes, with all nested in it
-abbrev pub RootsWritable : Type 0
-RootsWritable = (ws ar : List ℕ) → wholeSound ws ar ≡ true → (t : ℕ) → isRoot ws t ≡ true → Writable (stateOf ws ar) depth t
+abbrev pub FreeStandingWritable : Type 0
+FreeStandingWritable = (ws ar : List ℕ) → fullyValid ws ar ≡ true → (t : ℕ) → freeStanding ws t ≡ true → Writable (stateOf ws ar) depth t
 
 -- what a success says of the memory, the table, the room and the answer
 pub record Success (ws ar : List ℕ) (t room start end size : ℕ) : Type 0 where
@@ -28,8 +28,8 @@ pub record Success (ws ar : List ℕ) (t room start end size : ℕ) : Type 0 whe
   pub ends : end ≡ endOf (stateOf ws ar) t headerSize
   pub long : size ≡ length (imageFor ws ar t)
   -- the memory keeps the rules, the table is known and not placed, and no item in it or in those nested in it has the empty key
-  pub whole : wholeSound ws ar ≡ true
-  pub root : isRoot ws t ≡ true
+  pub whole : fullyValid ws ar ≡ true
+  pub root : freeStanding ws t ≡ true
   pub named : hasEmpty (stateOf ws ar) depth t ≡ false
   -- the image fits the buffer, and is no longer than a file may be
   pub fits : size ≤ room

@@ -26,7 +26,7 @@ use Rattle.gvdb.specs.declared.building.GvdbCount.{GvdbCount}
 use Rattle.gvdb.specs.declared.writing.GvdbImage.{GvdbImage}
 use Rattle.gvdb.specs.Reading.{openedAnswer, lookedAnswer, listedAnswer, valuedAnswer}
 use Rattle.gvdb.specs.Checking.{checkedAnswer}
-use Rattle.gvdb.specs.Building.{told, numberedAnswer, insertedAnswer, countedAnswer}
+use Rattle.gvdb.specs.Building.{told, addedAnswer, insertedAnswer, countedAnswer}
 use Rattle.gvdb.specs.Writing.{writtenAnswer}
 
 -- two that equal one are equal
@@ -65,8 +65,8 @@ module _ (ws ar : List ℕ) where
   pub fresh-unique : (r s : ℕ) (m n : Memory) → outcome r m ≡ told startedNumber (freshStart ws ar) → outcome s n ≡ told startedNumber (freshStart ws ar) → (r ≡ s) × (m ≡ n)
   fresh-unique = outcome-unique (told startedNumber (freshStart ws ar))
 
-  pub new-table-unique : (separator : List ℕ) (r s : GvdbTable) (m n : Memory) → outcome r m ≡ told numberedAnswer (newTable ws ar separator) → outcome s n ≡ told numberedAnswer (newTable ws ar separator) → (r ≡ s) × (m ≡ n)
-  new-table-unique separator = outcome-unique (told numberedAnswer (newTable ws ar separator))
+  pub new-table-unique : (separator : List ℕ) (r s : GvdbTable) (m n : Memory) → outcome r m ≡ told addedAnswer (newTable ws ar separator) → outcome s n ≡ told addedAnswer (newTable ws ar separator) → (r ≡ s) × (m ≡ n)
+  new-table-unique separator = outcome-unique (told addedAnswer (newTable ws ar separator))
 
   pub insert-unique : (t : ℕ) (key value : List ℕ) (r s : GvdbInserted) (m n : Memory) → outcome r m ≡ told insertedAnswer (insertValue ws ar t key value) → outcome s n ≡ told insertedAnswer (insertValue ws ar t key value) → (r ≡ s) × (m ≡ n)
   insert-unique t key value = outcome-unique (told insertedAnswer (insertValue ws ar t key value))

@@ -1,9 +1,9 @@
 -- The document's number and values of each answer to a builder call, as they cross to C. Assumes nothing.
 use Rattle.model.specs.declared.Inserted.{Inserted}
-use Rattle.model.specs.declared.Numbered.{Numbered}
+use Rattle.model.specs.declared.Added.{Added}
 use Rattle.model.specs.declared.Counted.{Counted}
 use Rattle.build_memory.specs.Memory.{Outcome, outcome}
-use Rattle.build_tables.specs.Answer.{numberedNumber, numberedTable, countedNumber, countedItems}
+use Rattle.build_tables.specs.Answer.{addedNumber, addedTable, countedNumber, countedItems}
 use Rattle.build_values.specs.Answer.{insertedNumber, insertedKind}
 use Rattle.gvdb.specs.declared.building.GvdbTable.{GvdbTable}
 use Rattle.gvdb.specs.declared.building.GvdbInserted.{GvdbInserted}
@@ -13,8 +13,8 @@ use Rattle.gvdb.specs.declared.building.GvdbCount.{GvdbCount}
 unfoldable pub told : {A B : Type 0} → (A → B) → Outcome A → Outcome B
 told answer o = outcome (answer (o .answer)) (o .after)
 
-unfoldable pub numberedAnswer : Numbered → GvdbTable
-numberedAnswer numbered = record { number = numberedNumber numbered; table = numberedTable numbered }
+unfoldable pub addedAnswer : Added → GvdbTable
+addedAnswer numbered = record { number = addedNumber numbered; table = addedTable numbered }
 
 unfoldable pub insertedAnswer : Inserted → GvdbInserted
 insertedAnswer inserted = record { number = insertedNumber inserted; replaced = insertedKind inserted }

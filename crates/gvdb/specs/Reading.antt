@@ -15,7 +15,7 @@ openedAnswer (Opened.Table t) = record { number = 0; items = t .count; buckets =
 openedAnswer (Opened.Refused why) = record { number = number why; items = 0; buckets = 0; blooms = 0 }
 
 unfoldable pub lookedAnswer : Looked → GvdbPlace
-lookedAnswer (Looked.Place start end) = record { number = 0; start = start; end = end }
+lookedAnswer (Looked.Pointer start end) = record { number = 0; start = start; end = end }
 lookedAnswer (Looked.Refused why) = record { number = number why; start = 0; end = 0 }
 
 unfoldable pub listedAnswer : Listed → GvdbKey

@@ -2,9 +2,9 @@
 use build_memory::fresh::Started;
 use layout::kind::byte_of;
 use layout::refusal::number_of;
+use model::Added;
 use model::Counted;
 use model::Inserted;
-use model::Numbered;
 use words::wide::byte_word;
 ghost use mathlib.Core.Path.{_≡_};
 ghost use Rattle.build_memory.specs.Memory.{leastWords, memory, outcome, freshStart};
@@ -12,7 +12,7 @@ ghost use Rattle.build_memory.specs.Answer.{startedNumber};
 ghost use Rattle.build_tables.specs.Table.{newTable, itemCount};
 ghost use Rattle.build_values.specs.Insert.{insertValue};
 ghost use Rattle.build_nested.specs.Nest.{insertTable};
-ghost use Rattle.gvdb.specs.Building.{told, numberedAnswer, countedAnswer, insertedAnswer};
+ghost use Rattle.gvdb.specs.Building.{told, addedAnswer, countedAnswer, insertedAnswer};
 
 // A new table's number.
 #[repr(C)]
@@ -56,11 +56,11 @@ pub extern "C" fn gvdb_fresh(words: &mut [usize], arena: &[u8]) -> u32
 
 #[no_mangle]
 pub extern "C" fn gvdb_new_table(words: &mut [usize], arena: &[u8], separator: &[u8]) -> GvdbTable
-    ensures { λ r. ⌜ outcome r (memory (now (words .exit)) (now (arena .entry))) ≡ told numberedAnswer (newTable (now (words .entry)) (now (arena .entry)) (now (separator .entry))) ⌝ }
+    ensures { λ r. ⌜ outcome r (memory (now (words .exit)) (now (arena .entry))) ≡ told addedAnswer (newTable (now (words .entry)) (now (arena .entry)) (now (separator .entry))) ⌝ }
 {
     match build_tables::add::new_table(words, arena, separator) {
-        Numbered::Table(table) => GvdbTable { number: 0, table },
-        Numbered::Refused(why) => GvdbTable {
+        Added::Table(table) => GvdbTable { number: 0, table },
+        Added::Refused(why) => GvdbTable {
             number: number_of(why),
             table: 0,
         },

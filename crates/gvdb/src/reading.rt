@@ -73,7 +73,7 @@ fn place_of(looked: Looked) -> GvdbPlace
     ensures { λ r. ⌜ r ≡ lookedAnswer looked ⌝ }
 {
     match looked {
-        Looked::Place { start, end } => GvdbPlace {
+        Looked::Pointer { start, end } => GvdbPlace {
             number: 0,
             start,
             end,

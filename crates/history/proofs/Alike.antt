@@ -17,7 +17,7 @@ use Rattle.build_memory.specs.Find.{findKey}
 use Rattle.build_memory.specs.Item.{Stored, kindOf, replaceItem}
 use Rattle.build_values.specs.declared.walk.Way.{Way}
 use Rattle.build_values.specs.Walk.{way, descend, wayOf, sum}
-use Rattle.build_values.specs.Insert.{containers, refused, added, insertNew, overwrite, insertAlong, insertWalked}
+use Rattle.build_values.specs.Insert.{containers, refused, added, insertNew, overwrite, insertOrReplace, insertBelowPath}
 use mathlib.Core.List.{List, [], _∷_, _++_}
 use lib.ListN.{length, take, getD, set, length-set, length-append, drop-of-length-le}
 use lib.Seq.{drop-append-seam}
@@ -31,18 +31,18 @@ use Rattle.model.specs.Table as model
 use Rattle.model.specs.Walk as seen
 use Rattle.model.specs.Walk.{isThere, entry, putKey, Walked, walk, keyRoom}
 use Rattle.model.specs.Builder as told
-use Rattle.model.specs.Builder.{Builder, Shelf, noShelf, shelfAt, Result, result, withItems, news, usedAfter, counted, atWalked, put}
-use Rattle.build_memory.specs.Meaning.{shelfOf, meaning}
+use Rattle.model.specs.Builder.{Builder, Standing, noStanding, standingAt, Result, result, withItems, news, usedAfter, counted, atWalked, put}
+use Rattle.build_memory.specs.Meaning.{standingOf, meaning}
 use Rattle.history.specs.Items.{item, itemOf, Table}
 use Rattle.history.specs.Honest.{Good}
 use Rattle.history.proofs.Index.{find-within}
-use Rattle.history.proofs.Way.{end-sep, Missing, OnWay, way-right, item-found, item-missing}
+use Rattle.history.proofs.Way.{end-sep, Missing, OnWay, way-consistent, item-found, item-missing}
 use Rattle.history.proofs.Grow.{At, Fit, grown}
 use Rattle.history.proofs.Calls.{gone-all}
 use Rattle.history.proofs.Meaning.{contentFrom, aboveOf, entryFrom, itemsOf, tablesOf, builder-same, tables-same, items-count, listed-at, item-at, meaning-made, meaning-replaced}
 use Rattle.history.proofs.Found.{find-same, there-same}
 use Rattle.history.proofs.Walking as way
-use Rattle.history.proofs.Same.{kind-content, laid-entries, Down, way-down}
+use Rattle.history.proofs.Same.{kind-content, extended-entries, Down, way-down}
 
 -- what a call leaves is what the model's leaves
 pub record Alike {A : Type 0} (o : Outcome A) (r : Result A) : Type 0 where
@@ -65,22 +65,22 @@ meant-used : (ws ar : List ℕ) → (meaning ws ar .used ≡ roomUsed ws) × (me
 unfolding meaning
 meant-used ws ar = (refl, refl)
 
-pub meant-shelf : (ws ar : List ℕ) (t : ℕ) → t < tableTotal ws → shelfAt (meaning ws ar) t ≡ shelfOf ws t
-unfolding meaning shelfAt
-meant-shelf ws ar t h = listed-at (shelfOf ws) noShelf (tableTotal ws) t h
+pub meant-standing : (ws ar : List ℕ) (t : ℕ) → t < tableTotal ws → standingAt (meaning ws ar) t ≡ standingOf ws t
+unfolding meaning standingAt
+meant-standing ws ar t h = listed-at (standingOf ws) noStanding (tableTotal ws) t h
 
-shelf-separator : (ws : List ℕ) (t : ℕ) → shelfOf ws t .separator ≡ tableSeparator ws t
-unfolding shelfOf
-shelf-separator ws t = refl
+standing-separator : (ws : List ℕ) (t : ℕ) → standingOf ws t .separator ≡ tableSeparator ws t
+unfolding standingOf
+standing-separator ws t = refl
 
 meant-tables : (ws ar : List ℕ) → meaning ws ar .tables ≡ tablesOf ws
 unfolding meaning
 meant-tables ws ar = refl
 
-own-entry : (t : ℕ) (k : List ℕ) (parent : ℕ) (c : Stored)
+its-entry : (t : ℕ) (k : List ℕ) (parent : ℕ) (c : Stored)
     → entryFrom (item t k parent (c .kind) (c .value) (c .guest)) ≡ entry t k (contentFrom (c .kind) (c .value) (c .guest)) (aboveOf parent)
 unfolding entryFrom
-own-entry t k parent c = refl
+its-entry t k parent c = refl
 
 -- the counts, where the items after are so many and need so much
 counted-is : (m : Builder) (t : ℕ) (key : List ℕ) (size : ℕ) (after : List Entry) (n u : ℕ) → length after ≡ n → usedAfter m after size ≡ u
@@ -135,11 +135,11 @@ module _ (g : ℕ → Table) (ws ar : List ℕ) (t : ℕ) (k : List ℕ) (G : �
     at = record { good = good; known = known; chain = on .chain; above = on .above; proper = on .proper; gone = gone; free = free }
 
     nowhere : (key : List ℕ) → Missing (itemTotal ws) (itemOf ws ar) t key → seen.findKey items t key ≡ length items
-    nowhere key miss = sym (find-same g ws ar good t key) ∙ by-place (decLt (findKey ws ar t key) (itemTotal ws)) ∙ sym (items-count ws ar)
+    nowhere key miss = sym (find-same g ws ar good t key) ∙ by-field (decLt (findKey ws ar t key) (itemTotal ws)) ∙ sym (items-count ws ar)
       where
-        by-place : Dec (findKey ws ar t key < itemTotal ws) → findKey ws ar t key ≡ itemTotal ws
-        by-place (yes l) = let r = item-found ws ar (good .tidy) t key (findKey ws ar t key) refl l in absurd (miss (findKey ws ar t key) l (r .0) (r .1))
-        by-place (no l) = let b = find-within ws ar (good .tidy) t key in omega arith
+        by-field : Dec (findKey ws ar t key < itemTotal ws) → findKey ws ar t key ≡ itemTotal ws
+        by-field (yes l) = let r = item-found ws ar (good .tidy) t key (findKey ws ar t key) refl l in absurd (miss (findKey ws ar t key) l (r .0) (r .1))
+        by-field (no l) = let b = find-within ws ar (good .tidy) t key in omega arith
 
     abbrev new : List Entry
     new = way.newEntries t k C ends (length items) (aboveOf parent)
@@ -179,10 +179,10 @@ module _ (g : ℕ → Table) (ws ar : List ℕ) (t : ℕ) (k : List ℕ) (G : �
         let room′ : roomUsed v + length k + size ≤ length a = omega arith in
         meaning-made v a t (l .parent) k c tidy few′ room′
         ∙ builder-same (gr .arena ∙ sym (meant-used ws ar .1)) (let z : roomUsed v + length k + size ≡ roomUsed ws + sum ends + size = omega arith in z)
-        (meant-tables v a ∙ tables-same ws v (gr .lows) (good .right .tables) ∙ sym (meant-tables ws ar))
+        (meant-tables v a ∙ tables-same ws v (gr .lows) (good .consistent .tables) ∙ sym (meant-tables ws ar))
         (ap (λ (x : List Entry). x ++ (entryFrom (item t k (l .parent) (c .kind) (c .value) (c .guest)) ∷ [])) (meant-items v a)
-        ∙ ap (λ (x : Entry). itemsOf v a ++ (x ∷ [])) (own-entry t k (l .parent) c)
-        ∙ laid-entries g t k sep G sep-is loose text short C ws ar parent (w .from) at few (omega arith)
+        ∙ ap (λ (x : Entry). itemsOf v a ++ (x ∷ [])) (its-entry t k (l .parent) c)
+        ∙ extended-entries g t k sep G sep-is loose text short C ws ar parent (w .from) at few (omega arith)
         ∙ ap (λ (n : ℕ). items ++ way.newEntries t k C ends n (aboveOf parent)) (sym (items-count ws ar)))
 
     pub new-alike : Alike (insertNew ws ar t k c (w .from) parent) (counted m t k size (items ++ new))
@@ -212,7 +212,7 @@ module _ (g : ℕ → Table) (ws ar : List ℕ) (t : ℕ) (k : List ℕ) (G : �
             let long : length (itemOf ws ar i .key) ≡ length k = ap length (spot .1) in
             let at-sep : getD (itemOf ws ar i .key) (e - 1) 0 ≡ g (itemOf ws ar i .table) .sep =
             ap (λ (x : List ℕ). getD x (e - 1) 0) (spot .1) ∙ end-sep sep k (w .from) e h refl up u ∙ sym sep-is ∙ ap (λ (x : ℕ). g x .sep) (sym (spot .0)) in
-            let found = good .right .closed i there e (omega arith) (omega arith) at-sep in
+            let found = good .consistent .closed i there e (omega arith) (omega arith) at-sep in
             absurd (on .next clear u (found .index) (found .below) (found .of-table ∙ spot .0) (found .has-key ∙ ap (take e) (spot .1)))
         by-end (no u) = omega arith
 
@@ -274,17 +274,17 @@ module _ (g : ℕ → Table) (ws ar : List ℕ) (t : ℕ) (k : List ℕ) (G : �
     old-alike =
         subst (Alike (overwrite ws ar i c))
         (sym (counted-is m t k size (set items i changed) (itemTotal ws) (roomUsed ws + size) many-old cost-old
-        ∙ pick-false _ _ (le-ltb mostItems (itemTotal ws) (good .right .count))
+        ∙ pick-false _ _ (le-ltb mostItems (itemTotal ws) (good .consistent .count))
         ∙ ap (λ (r : ℕ). pick (ltb r (roomUsed ws + size)) (told.refused ArenaFull m) (result (news (m .items) t k) (withItems m (set items i changed) (roomUsed ws + size)))) (meant-used ws ar .1)))
         (alike-pick (ltb (length ar) (roomUsed ws + size)) _ _ _ _ (λ d. alike-refused ArenaFull ws ar)
         (λ d. record { answer = sym news-old; after = written-is (ltb-false (length ar) (roomUsed ws + size) d) }))
 
   -- ---- both, past 21 and 26
   abbrev Along : Way → Walked → Type 0
-  Along w x = (deep : Bool) → Alike (pick deep (refused NestedTooDeep ws ar) (insertAlong ws ar t k c (w .from) (w .parent))) (atWalked x deep m t k size)
+  Along w x = (deep : Bool) → Alike (pick deep (refused NestedTooDeep ws ar) (insertOrReplace ws ar t k c (w .from) (w .parent))) (atWalked x deep m t k size)
 
   along-alike : (w : Way) → OnWay (itemTotal ws) (itemOf ws ar) t sep k w → w .clear ≡ true → Along w (walk t C (way.along sep k (w .from)) items (aboveOf (w .parent)))
-  unfolding insertAlong atWalked
+  unfolding insertOrReplace atWalked
   along-alike w on clear = by-find (ltb (findKey ws ar t k) (itemTotal ws)) refl
     where
       by-find : (q : Bool) → ltb (findKey ws ar t k) (itemTotal ws) ≡ q → Along w (walk t C (way.along sep k (w .from)) items (aboveOf (w .parent)))
@@ -300,26 +300,26 @@ module _ (g : ℕ → Table) (ws ar : List ℕ) (t : ℕ) (k : List ℕ) (G : �
           (λ deep. alike-pick deep _ _ _ _ (λ d. alike-refused NestedTooDeep ws ar)
           (λ d. subst (λ (o : Outcome Inserted). Alike o (counted m t k size (items ++ new w on clear l))) (sym (pick-false _ _ q)) (new-alike w on clear l)))
 
-  start-is : walk t C (prefixes (shelfAt m t .separator) k) (m .items) noItem ≡ walk t C (way.along sep k 0) items (aboveOf 0)
+  start-is : walk t C (prefixes (standingAt m t .separator) k) (m .items) noItem ≡ walk t C (way.along sep k 0) items (aboveOf 0)
   unfolding aboveOf pick
   start-is =
-      ap (λ (s : ℕ). walk t C (prefixes s k) (m .items) noItem) (ap (λ (s : Shelf). s .separator) (meant-shelf ws ar t known) ∙ shelf-separator ws t)
+      ap (λ (s : ℕ). walk t C (prefixes s k) (m .items) noItem) (ap (λ (s : Standing). s .separator) (meant-standing ws ar t known) ∙ standing-separator ws t)
       ∙ ap (λ (l : List (List ℕ)). walk t C l (m .items) noItem) (way.prefixes-is sep k)
       ∙ ap (λ (l : List Entry). walk t C (way.along sep k 0) l noItem) (meant-items ws ar)
 
-  pub walked-alike : (deep : Bool) → Alike (insertWalked ws ar t k c deep) (put m t k C size deep)
-  unfolding insertWalked put wayOf
+  pub walked-alike : (deep : Bool) → Alike (insertBelowPath ws ar t k c deep) (put m t k C size deep)
+  unfolding insertBelowPath put wayOf
   walked-alike deep =
-      subst (λ (x : Walked). Alike (insertWalked ws ar t k c deep) (atWalked x deep m t k size)) (sym start-is)
-      (by-clear (descend ws ar t k (endsPast sep k 0) 0 0) (way-right ws ar (good .tidy) t sep k) (way-down g ws ar good t sep k C)
+      subst (λ (x : Walked). Alike (insertBelowPath ws ar t k c deep) (atWalked x deep m t k size)) (sym start-is)
+      (by-clear (descend ws ar t k (endsPast sep k 0) 0 0) (way-consistent ws ar (good .tidy) t sep k) (way-down g ws ar good t sep k C)
       (descend ws ar t k (endsPast sep k 0) 0 0 .clear) refl)
     where
       by-clear : (w : Way) → OnWay (itemTotal ws) (itemOf ws ar) t sep k w → Down g ws ar good t sep k C 0 0 w → (q : Bool) → w .clear ≡ q
-          → Alike (pick (w .clear) (pick deep (refused NestedTooDeep ws ar) (insertAlong ws ar t k c (w .from) (w .parent))) (refused NotContainer ws ar))
+          → Alike (pick (w .clear) (pick deep (refused NestedTooDeep ws ar) (insertOrReplace ws ar t k c (w .from) (w .parent))) (refused NotContainer ws ar))
           (atWalked (walk t C (way.along sep k 0) items (aboveOf 0)) deep m t k size)
       by-clear w on down true e =
-          subst (λ (x : Walked). Alike (pick (w .clear) (pick deep (refused NestedTooDeep ws ar) (insertAlong ws ar t k c (w .from) (w .parent))) (refused NotContainer ws ar)) (atWalked x deep m t k size)) (sym (down .clear e))
+          subst (λ (x : Walked). Alike (pick (w .clear) (pick deep (refused NestedTooDeep ws ar) (insertOrReplace ws ar t k c (w .from) (w .parent))) (refused NotContainer ws ar)) (atWalked x deep m t k size)) (sym (down .clear e))
           (subst (λ (o : Outcome Inserted). Alike o (atWalked (walk t C (way.along sep k (w .from)) items (aboveOf (w .parent))) deep m t k size)) (sym (pick-true _ _ e)) (along-alike w on e deep))
       by-clear w on down false e =
-          subst (λ (x : Walked). Alike (pick (w .clear) (pick deep (refused NestedTooDeep ws ar) (insertAlong ws ar t k c (w .from) (w .parent))) (refused NotContainer ws ar)) (atWalked x deep m t k size)) (sym (down .shut e))
+          subst (λ (x : Walked). Alike (pick (w .clear) (pick deep (refused NestedTooDeep ws ar) (insertOrReplace ws ar t k c (w .from) (w .parent))) (refused NotContainer ws ar)) (atWalked x deep m t k size)) (sym (down .shut e))
           (subst (λ (o : Outcome Inserted). Alike o (atWalked Walked.blocked deep m t k size)) (sym (pick-false _ _ e)) (blocked-alike ws ar deep t k size))

@@ -13,7 +13,7 @@ use Rattle.words.proofs.ChoiceLaws.{both, both-hold}
 use Rattle.text.specs.Utf8.{between, tail, isTwo, startsThree, startsFour, firstOf, sequenceLen, stepLen, oneMore, goodFrom, firstBad, isUtf8}
 use Rattle.text.proofs.Utf8Laws.{sequence-below}
 use Rattle.text.proofs.Utf8Parts.{utf8-whole}
-use Rattle.history.specs.Right.{isBytes}
+use Rattle.history.specs.Consistent.{isBytes}
 
 pub byte-at : (k : List ℕ) (i : ℕ) → isBytes k ≡ true → i < length k → getD k i 0 < 256
 unfolding isBytes

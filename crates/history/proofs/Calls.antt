@@ -21,16 +21,16 @@ use Rattle.build_memory.specs.Find.{findKey}
 use Rattle.build_memory.specs.Item.{Stored, kindOf, replaceItem}
 use Rattle.build_values.specs.declared.walk.Way.{Way}
 use Rattle.build_values.specs.Walk.{wayOf, sum}
-use Rattle.build_values.specs.Insert.{containers, refused, added, insertNew, overwrite, insertAlong, insertWalked}
+use Rattle.build_values.specs.Insert.{containers, refused, added, insertNew, overwrite, insertOrReplace, insertBelowPath}
 use Rattle.build_values.proofs.WalkLaws.{last}
 use Rattle.history.specs.Items.{item, itemOf, Table}
-use Rattle.history.specs.Right.{Right}
+use Rattle.history.specs.Consistent.{Consistent}
 use Rattle.history.specs.Honest.{Good}
 use Rattle.history.proofs.Index.{false-true}
 use Rattle.history.proofs.Made as made
 use Rattle.history.proofs.Replaced as old
-use Rattle.history.proofs.Right.{NewItem, right-set}
-use Rattle.history.proofs.Way.{end-sep, Missing, OnWay, way-right, item-found, item-missing}
+use Rattle.history.proofs.Consistent.{NewItem, consistent-set}
+use Rattle.history.proofs.Way.{end-sep, Missing, OnWay, way-consistent, item-found, item-missing}
 use Rattle.history.proofs.Grow.{Lows, lows-two, made-good, At, Fit, new-item, grown}
 
 -- an answer that is no refusal
@@ -105,11 +105,11 @@ module _ (g : ℕ → Table) (ws ar : List ℕ) (t : ℕ) (k : List ℕ) (G : �
   -- ---- an item that is there
   module _ (good : Good g ws ar) (fit : Fits (tableTotal ws)) (free : (i : ℕ) → i < itemTotal ws → itemOf ws ar i .kind ≡ 72 → itemOf ws ar i .guest ≡ G → ⊥)
       (i : ℕ) (there : i < itemTotal ws) (of-table : itemOf ws ar i .table ≡ t) (has-key : itemOf ws ar i .key ≡ k) where
-    own-item : roomUsed ws + length (c .value) ≤ length ar
+    its-item : roomUsed ws + length (c .value) ≤ length ar
         → itemOf (replaceItem (memory ws ar) i c .words) (replaceItem (memory ws ar) i c .arena) i
         ≡ item (itemOf ws ar i .table) (itemOf ws ar i .key) (itemOf ws ar i .parent) (c .kind) (c .value) (c .guest)
     unfolding itemOf
-    own-item room = old.old-item ws ar i c (good .tidy) there room
+    its-item room = old.old-item ws ar i c (good .tidy) there room
 
     old-good : (was : Kind) → was ≡ kindOf (itemOf ws ar i .kind) → roomUsed ws + length (c .value) ≤ length ar → After g ws ar t k c (outcome (Inserted.Replaced was) (replaceItem (memory ws ar) i c))
     old-good was kind-is room =
@@ -120,11 +120,11 @@ module _ (g : ℕ → Table) (ws ar : List ℕ) (t : ℕ) (k : List ℕ) (G : �
         record {
           good = λ z. record {
             tidy = old.old-tidy ws ar i c (good .tidy) there room;
-            right =
-                subst (λ (T : ℕ). Right T (itemTotal (m .words)) g (itemOf (m .words) (m .arena))) (sym (lows-two ws (m .words) lows))
-                (subst (λ (n : ℕ). Right (tableTotal ws) n g (itemOf (m .words) (m .arena))) (sym e3)
-                (right-set (tableTotal ws) (itemTotal ws) g f (itemOf (m .words) (m .arena)) i (c .kind) (c .value) (c .guest) (good .right) there
-                (old.else-item ws ar i c (good .tidy) there room) (own-item room)
+            consistent =
+                subst (λ (T : ℕ). Consistent T (itemTotal (m .words)) g (itemOf (m .words) (m .arena))) (sym (lows-two ws (m .words) lows))
+                (subst (λ (n : ℕ). Consistent (tableTotal ws) n g (itemOf (m .words) (m .arena))) (sym e3)
+                (consistent-set (tableTotal ws) (itemTotal ws) g f (itemOf (m .words) (m .arena)) i (c .kind) (c .value) (c .guest) (good .consistent) there
+                (old.else-item ws ar i c (good .tidy) there room) (its-item room)
                 (record {
                   loose = λ p. loose (ap (λ (x : ℕ). g x .placed) (sym of-table) ∙ p);
                   kind = fit .kind;
@@ -154,7 +154,7 @@ module _ (g : ℕ → Table) (ws ar : List ℕ) (t : ℕ) (k : List ℕ) (G : �
         let size : length (itemOf ws ar i .key) ≡ e = ap length b ∙ length-take-le e k top in
         let at-sep : getD (itemOf ws ar i .key) (e0 - 1) 0 ≡ g (itemOf ws ar i .table) .sep =
         ap (λ (x : List ℕ). getD x (e0 - 1) 0) b ∙ getD-take e k (e0 - 1) 0 (omega arith) ∙ end-sep (tableSeparator ws t) k from e0 h is up u ∙ sym sep-is ∙ ap (λ (x : ℕ). g x .sep) (sym a) in
-        let found = good .right .closed i below e0 (omega arith) (omega arith) at-sep in
+        let found = good .consistent .closed i below e0 (omega arith) (omega arith) at-sep in
         missing (found .index) (found .below) (found .of-table ∙ a) (found .has-key ∙ ap (take e0) b ∙ take-take e0 e k (omega arith))
 
     pub gone-all : (w : Way) → OnWay (itemTotal ws) (itemOf ws ar) t (tableSeparator ws t) k w → w .clear ≡ true → Missing (itemTotal ws) (itemOf ws ar) t k
@@ -174,8 +174,8 @@ module _ (g : ℕ → Table) (ws ar : List ℕ) (t : ℕ) (k : List ℕ) (G : �
             let z : length k ≡ e = omega arith in
             subst (λ (x : ℕ). Missing (itemTotal ws) (itemOf ws ar) t (take x k)) z (subst (Missing (itemTotal ws) (itemOf ws ar) t) (sym (take-all′ k)) missing)
 
-    along-after : (w : Way) → OnWay (itemTotal ws) (itemOf ws ar) t (tableSeparator ws t) k w → w .clear ≡ true → After g ws ar t k c (insertAlong ws ar t k c (w .from) (w .parent))
-    unfolding insertAlong pick
+    along-after : (w : Way) → OnWay (itemTotal ws) (itemOf ws ar) t (tableSeparator ws t) k w → w .clear ≡ true → After g ws ar t k c (insertOrReplace ws ar t k c (w .from) (w .parent))
+    unfolding insertOrReplace pick
     along-after w on clear = by-find (ltb (findKey ws ar t k) (itemTotal ws)) refl
       where
         by-find : (q : Bool) → ltb (findKey ws ar t k) (itemTotal ws) ≡ q
@@ -196,8 +196,8 @@ module _ (g : ℕ → Table) (ws ar : List ℕ) (t : ℕ) (k : List ℕ) (G : �
             })
             (item-missing ws ar (good .tidy) t k (ltb-false _ _ q)) fit
 
-    pub walked-after : (deep : Bool) → After g ws ar t k c (insertWalked ws ar t k c deep)
-    unfolding insertWalked wayOf
+    pub walked-after : (deep : Bool) → After g ws ar t k c (insertBelowPath ws ar t k c deep)
+    unfolding insertBelowPath wayOf
     walked-after deep =
         after-where g ws ar t k c _ _ _ (λ clear. after-not g ws ar t k c deep _ _
-        (λ low. along-after _ (way-right ws ar (good .tidy) t (tableSeparator ws t) k) clear))
+        (λ low. along-after _ (way-consistent ws ar (good .tidy) t (tableSeparator ws t) k) clear))

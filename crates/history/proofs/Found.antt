@@ -82,16 +82,16 @@ module _ (g : ℕ → Table) (ws ar : List ℕ) (honest : Good g ws ar) (t : ℕ
       ∙ hits-not t key (entryFrom (itemOf ws ar i)) (λ a b. n (sym (entry-spot (itemOf ws ar i) .0) ∙ a) (sym (entry-spot (itemOf ws ar i) .1) ∙ b))
 
   pub find-same : words.findKey ws ar t key ≡ findKey items t key
-  find-same = by-place (decLt (words.findKey ws ar t key) (itemTotal ws))
+  find-same = by-field (decLt (words.findKey ws ar t key) (itemTotal ws))
     where
-      by-place : Dec (words.findKey ws ar t key < itemTotal ws) → words.findKey ws ar t key ≡ findKey items t key
-      by-place (yes l) =
+      by-field : Dec (words.findKey ws ar t key < itemTotal ws) → words.findKey ws ar t key ≡ findKey items t key
+      by-field (yes l) =
           let i = words.findKey ws ar t key in
           let r = item-found ws ar (honest .tidy) t key i refl l in
           sym (find-first t key items i (omega (arith, items-count ws ar))
           (ap (hits t key) (at-is i l) ∙ hits-if t key (entryFrom (itemOf ws ar i)) (entry-spot (itemOf ws ar i) .0 ∙ r .0) (entry-spot (itemOf ws ar i) .1 ∙ r .1))
-          (λ j u. miss-by j (omega arith) (λ a b. let z : j ≡ i = honest .right .distinct j i (omega arith) l (a ∙ sym (r .0)) (b ∙ sym (r .1)) in omega arith)))
-      by-place (no l) =
+          (λ j u. miss-by j (omega arith) (λ a b. let z : j ≡ i = honest .consistent .distinct j i (omega arith) l (a ∙ sym (r .0)) (b ∙ sym (r .1)) in omega arith)))
+      by-field (no l) =
           let none = item-missing ws ar (honest .tidy) t key (omega arith) in
           none-is l ∙ sym (items-count ws ar) ∙ sym (find-none t key items (λ j u. let v : j < itemTotal ws = omega (arith, items-count ws ar) in miss-by j v (none j v)))
         where

@@ -18,14 +18,14 @@ use Rattle.build_memory.specs.Memory.{word, tableTotal, itemTotal, roomUsed, co
 use Rattle.build_memory.specs.Item.{Stored, stored, makeItem}
 use Rattle.build_memory.proofs.MadeLaws.{made-arena}
 use Rattle.build_values.specs.Walk.{sum}
-use Rattle.build_values.specs.Insert.{Laid, containers}
+use Rattle.build_values.specs.Insert.{Extended, containers}
 use Rattle.build_values.proofs.WalkLaws.{further, last, make-end, make-more}
 use Rattle.history.specs.Items.{Item, item, itemOf, Table}
-use Rattle.history.specs.Right.{There, Above, Right}
+use Rattle.history.specs.Consistent.{There, Above, Consistent}
 use Rattle.history.specs.Honest.{Good}
 use Rattle.history.proofs.Bytes.{byte-at, utf8-bytes}
 use Rattle.history.proofs.Made as made
-use Rattle.history.proofs.Right.{there-on, NewItem, right-add}
+use Rattle.history.proofs.Consistent.{there-on, NewItem, consistent-add}
 use Rattle.history.proofs.Way.{gap, end-sep, Missing, Chain, chain-on}
 
 sum-one : (n : ℕ) → sum (n ∷ []) ≡ n + 0
@@ -54,11 +54,11 @@ made-good g ws ar t parent k c good few room new =
     let e2 = lows-two ws (m .words) (made.made-table-word ws ar t parent k c tidy few room) in
     record {
       tidy = made.made-tidy ws ar t parent k c tidy few room;
-      right =
-          subst (λ (T : ℕ). Right T (itemTotal (m .words)) g (itemOf (m .words) (m .arena))) (sym e2)
-          (subst (λ (n : ℕ). Right (tableTotal ws) n g (itemOf (m .words) (m .arena))) (sym e3)
-          (right-add (tableTotal ws) (itemTotal ws) g (itemOf ws ar) (itemOf (m .words) (m .arena)) (item t k parent (c .kind) (c .value) (c .guest)) (good .right)
-          (made.other-item ws ar t parent k c tidy few room) (made.own-item ws ar t parent k c tidy few room) few new));
+      consistent =
+          subst (λ (T : ℕ). Consistent T (itemTotal (m .words)) g (itemOf (m .words) (m .arena))) (sym e2)
+          (subst (λ (n : ℕ). Consistent (tableTotal ws) n g (itemOf (m .words) (m .arena))) (sym e3)
+          (consistent-add (tableTotal ws) (itemTotal ws) g (itemOf ws ar) (itemOf (m .words) (m .arena)) (item t k parent (c .kind) (c .value) (c .guest)) (good .consistent)
+          (made.other-item ws ar t parent k c tidy few room) (made.its-item ws ar t parent k c tidy few room) few new));
     }
 
 module _ (g : ℕ → Table) (t : ℕ) (k : List ℕ) (sep G : ℕ) (sep-is : g t .sep ≡ sep) (loose : g t .placed ≡ 1 → ⊥) (text : isUtf8 k ≡ true)
@@ -135,7 +135,7 @@ module _ (g : ℕ → Table) (t : ℕ) (k : List ℕ) (sep G : ℕ) (sep-is : g 
     same = made.other-item ws ar t parent (take e k) (stored containerKind [] 0) (at .good .tidy) few room
 
     own : itemOf (m .words) (m .arena) (itemTotal ws) ≡ box
-    own = made.own-item ws ar t parent (take e k) (stored containerKind [] 0) (at .good .tidy) few room
+    own = made.its-item ws ar t parent (take e k) (stored containerKind [] 0) (at .good .tidy) few room
 
     abbrev same-place : (j : ℕ) → j < itemTotal ws → (itemOf (m .words) (m .arena) j .table ≡ itemOf ws ar j .table) × (itemOf (m .words) (m .arena) j .key ≡ itemOf ws ar j .key)
     same-place j l = (ap (λ (y : Item). y .table) (same j l), ap (λ (y : Item). y .key) (same j l))
@@ -173,7 +173,7 @@ module _ (g : ℕ → Table) (t : ℕ) (k : List ℕ) (sep G : ℕ) (sep-is : g 
         let at-sep : getD k (e - 1) 0 ≡ sep = end-sep sep k from e (at .above .within) is rise more in
         let up = rise in
         let byte = byte-at k (e - 1) (utf8-bytes k text) (omega arith) in
-        let low = at .good .right .seps t (at .known) (omega (arith, sep-is)) in
+        let low = at .good .consistent .seps t (at .known) (omega (arith, sep-is)) in
         let prev : suc (e - 1) ≡ e = omega arith in
         ap (λ (n : ℕ). isUtf8 (take n k)) (sym prev) ∙ utf8-cut k (e - 1) text (omega arith) (omega (arith, sep-is))
 
@@ -205,7 +205,7 @@ module _ (g : ℕ → Table) (t : ℕ) (k : List ℕ) (sep G : ℕ) (sep-is : g 
         further-rise = next-up sep k e more
 
   -- ---- all containers that are missing
-  pub record Grown (ws ar : List ℕ) (from : ℕ) (l : Laid) : Type 0 where
+  pub record Grown (ws ar : List ℕ) (from : ℕ) (l : Extended) : Type 0 where
     pub end : ℕ
     pub at : At (l .after .words) (l .after .arena) (l .parent) end
     pub last : length k ≤ nextEnd sep k end

@@ -17,10 +17,10 @@ use Rattle.build_memory.specs.Memory.{tableTotal, itemTotal, valueKind, tableKi
 use Rattle.build_memory.specs.Meaning.{meaning}
 use Rattle.build_nested.specs.Nest.{heldHeight}
 use Rattle.history.specs.Items.{Item, itemOf, tableOf}
-use Rattle.history.specs.Right.{heldItem, heldIn}
+use Rattle.history.specs.Consistent.{heldItem, heldIn}
 use Rattle.history.specs.Honest.{Honest}
 use Rattle.history.proofs.Index.{false-true}
-use Rattle.history.proofs.Right.{most-cong, item-cong}
+use Rattle.history.proofs.Consistent.{most-cong, item-cong}
 use Rattle.history.proofs.Nest.{held-is}
 use Rattle.history.proofs.Meaning.{contentFrom, entryFrom, itemsOf, items-count, tables-count, item-at}
 
@@ -123,30 +123,30 @@ module _ (ws ar : List ℕ) (honest : Honest ws ar) where
   level : (d u : ℕ) → ((i : ℕ) → i < itemTotal ws → itemOf ws ar i .table ≡ u → itemOf ws ar i .kind ≡ 72 → suc (told.heldIn items d (itemOf ws ar i .guest)) ≡ high (itemOf ws ar i .guest))
       → told.heldIn items (suc d) u ≡ heldIn (itemTotal ws) (itemOf ws ar) high u
   unfolding told.heldIn heldIn
-  level d u right =
+  level d u consistent =
       ap (most _) (items-count ws ar)
       ∙ most-cong _ (λ (i : ℕ). heldItem high u (itemOf ws ar i)) (itemTotal ws)
       (λ i l.
       ap (λ (e : Entry). pick (eqb (e .table) u) (heldBy (λ (v : ℕ). suc (told.heldIn items d v)) u (e .content)) 0) (item-at ws ar i l)
       ∙ one-same (λ (v : ℕ). suc (told.heldIn items d v)) u (itemOf ws ar i)
-      ∙ item-cong (λ (v : ℕ). suc (told.heldIn items d v)) high u (itemOf ws ar i) (right i l))
+      ∙ item-cong (λ (v : ℕ). suc (told.heldIn items d v)) high u (itemOf ws ar i) (consistent i l))
 
   placed-height : (d u : ℕ) → u < tableTotal ws → tableOf ws u .placed ≡ 1 → tally (lower (high u)) (tableTotal ws) < d → suc (told.heldIn items d u) ≡ high u
   placed-height zero u l p h = absurd (not-suc-le-zero h)
   placed-height (suc d) u l p h =
       ap suc (level d u (λ i b e k.
-      let r = honest .right .guests i b k in
-      let rank = honest .right .ranks i b k (ap (λ (x : ℕ). tableOf ws x .placed) e ∙ p) in
+      let r = honest .consistent .guests i b k in
+      let rank = honest .consistent .ranks i b k (ap (λ (x : ℕ). tableOf ws x .placed) e ∙ p) in
       let same = ap high e in
       let less = rank-less u (itemOf ws ar i .guest) (r .0) (r .1) (omega arith) in
       placed-height d (itemOf ws ar i .guest) (r .0) (r .1) (omega arith)))
-      ∙ sym (add-one (heldIn (itemTotal ws) (itemOf ws ar) high u)) ∙ sym (honest .right .exact u l p)
+      ∙ sym (add-one (heldIn (itemTotal ws) (itemOf ws ar) high u)) ∙ sym (honest .consistent .exact u l p)
 
   depth-by : (T : ℕ) → T ≡ tableTotal ws → (t : ℕ) → t < tableTotal ws → tableOf ws t .placed ≡ 0 → told.heldIn items T t ≡ heldHeight ws t
   depth-by zero e t l p = absurd (omega arith)
   depth-by (suc d) e t l p =
       level d t (λ i b at k.
-      let r = honest .right .guests i b k in
+      let r = honest .consistent .guests i b k in
       let v = itemOf ws ar i .guest in
       let below = tally-less (lower (high v)) (λ (u : ℕ). eqb (tableOf ws u .placed) 1) (tableTotal ws) v (r .0) (lower-self v) (eq-eqb (tableOf ws v .placed) 1 (r .1))
       (λ j x. both (eqb (tableOf ws j .placed) 1) (ltb (high j) (high v)) x .0) in

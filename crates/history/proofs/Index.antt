@@ -96,16 +96,16 @@ module _ (ws ar : List ℕ) (tidy : Tidy ws ar) where
   pub key-size : (i : ℕ) → i < itemTotal ws → length (keyOf ws ar i) ≡ keySize ws i
   unfolding keyOf
   key-size i h =
-      let s = tidy .sound-memory in
+      let s = tidy .valid-memory in
       let r = tidy .keys i h in
       length-take-le (keySize ws i) (drop (keyStart ws i) ar) (omega (arith, length-drop (keyStart ws i) ar))
 
   module _ (t : ℕ) (k : List ℕ) where
-    abbrev right : ℕ → Bool
-    right = isItem ws ar t (hashOf k) k
+    abbrev consistent : ℕ → Bool
+    consistent = isItem ws ar t (hashOf k) k
 
     -- an item that passes has the table, the hash and the key
-    pub passes : (i : ℕ) → right i ≡ true → (itemTable ws i ≡ t) × (itemHash ws i ≡ hashOf k) × (keyOf ws ar i ≡ k)
+    pub passes : (i : ℕ) → consistent i ≡ true → (itemTable ws i ≡ t) × (itemHash ws i ≡ hashOf k) × (keyOf ws ar i ≡ k)
     unfolding isItem
     passes i e =
         let r = both (eqb (itemTable ws i) t) _ e in
@@ -113,24 +113,24 @@ module _ (ws ar : List ℕ) (tidy : Tidy ws ar) where
         let u = both (eqb (keySize ws i) (length k)) (sameBytes (keyOf ws ar i) k) (s .1) in
         (eqb-true _ _ (r .0), eqb-true _ _ (s .0), same-equal (keyOf ws ar i) k (u .1))
 
-    in-bucket : (i : ℕ) → right i ≡ true → bucketOf ws i ≡ hashOf k % buckets
+    in-bucket : (i : ℕ) → consistent i ≡ true → bucketOf ws i ≡ hashOf k % buckets
     in-bucket i e = ap (λ (x : ℕ). x % buckets) (passes i e .1)
 
     find-last : findKey ws ar t k ≡ lastWith (isItem ws ar t (hashOf k) k) (itemTotal ws) (itemTotal ws)
     unfolding findKey
     find-last =
-        let s = tidy .sound-memory in
+        let s = tidy .valid-memory in
         ap (seek (isItem ws ar t (hashOf k) k) (itemOlder ws) (itemTotal ws) (itemTotal ws)) (tidy .heads (hashOf k % buckets) (mod-lt (hashOf k) (omega arith)))
         ∙ seek-last (isItem ws ar t (hashOf k) k) (itemOlder ws) (bucketOf ws) (itemTotal ws) (hashOf k % buckets) (itemTotal ws) (s .items) (tidy .olders) (λ i l e. in-bucket i e)
 
     -- what is found is of the table and has the key
     pub find-found : (i : ℕ) → i ≡ findKey ws ar t k → i < itemTotal ws → (itemTable ws i ≡ t) × (keyOf ws ar i ≡ k)
     find-found i is h =
-        let e : right i ≡ true = ap right (is ∙ find-last) ∙ with-hit right (itemTotal ws) (itemTotal ws) (subst (λ (x : ℕ). x < itemTotal ws) (is ∙ find-last) h) in
+        let e : consistent i ≡ true = ap consistent (is ∙ find-last) ∙ with-hit consistent (itemTotal ws) (itemTotal ws) (subst (λ (x : ℕ). x < itemTotal ws) (is ∙ find-last) h) in
         (passes i e .0, passes i e .2)
 
     -- an item of the table with the key passes
-    pub passing : (i : ℕ) → i < itemTotal ws → itemTable ws i ≡ t → keyOf ws ar i ≡ k → right i ≡ true
+    pub passing : (i : ℕ) → i < itemTotal ws → itemTable ws i ≡ t → keyOf ws ar i ≡ k → consistent i ≡ true
     unfolding isItem
     passing i l et ek =
         let eh : itemHash ws i ≡ hashOf k = tidy .hashes i l ∙ ap hashOf ek in
@@ -141,8 +141,8 @@ module _ (ws ar : List ℕ) (tidy : Tidy ws ar) where
     -- where nothing is found, no item is of the table and has the key
     pub find-missing : itemTotal ws ≤ findKey ws ar t k → (i : ℕ) → i < itemTotal ws → itemTable ws i ≡ t → keyOf ws ar i ≡ k → ⊥
     find-missing h i l et ek =
-        let e = with-miss right (itemTotal ws) (itemTotal ws) (omega arith) (subst (λ (x : ℕ). itemTotal ws ≤ x) find-last h) i l in
+        let e = with-miss consistent (itemTotal ws) (itemTotal ws) (omega arith) (subst (λ (x : ℕ). itemTotal ws ≤ x) find-last h) i l in
         false-true (sym e ∙ passing i l et ek)
 
     pub find-within : findKey ws ar t k ≤ itemTotal ws
-    find-within = subst (λ (x : ℕ). x ≤ itemTotal ws) (sym find-last) (with-within right (itemTotal ws) (itemTotal ws) (omega arith))
+    find-within = subst (λ (x : ℕ). x ≤ itemTotal ws) (sym find-last) (with-within consistent (itemTotal ws) (itemTotal ws) (omega arith))

@@ -3,7 +3,7 @@ pub mod Index
 pub mod Made
 pub mod Replaced
 pub mod Low
-pub mod Right
+pub mod Consistent
 pub mod Way
 pub mod Grow
 pub mod Calls

@@ -46,9 +46,9 @@ module _ (ws w ar : List ℕ) (tidy : Tidy ws ar) (same-length : length w ≡ le
 
   pub low-tidy : Tidy w ar
   low-tidy =
-      let s = tidy .sound-memory in
+      let s = tidy .valid-memory in
       record {
-        sound-memory = record { long = omega arith; words = omega arith; room = omega arith; tables = w2; items = omega arith; used = omega arith };
+        valid-memory = record { long = omega arith; words = omega arith; room = omega arith; tables = w2; items = omega arith; used = omega arith };
         keys = λ i l. omega (arith, tidy .keys i (omega arith), high (itemAt i + 3) (omega arith), high (itemAt i + 4) (omega arith));
         values = λ i l. omega (arith, tidy .values i (omega arith), high (itemAt i + 7) (omega arith), high (itemAt i + 8) (omega arith));
         hashes = λ i l. high (itemAt i + 1) (omega arith) ∙ tidy .hashes i (omega arith) ∙ ap hashOf (sym (low-key i));
@@ -119,7 +119,7 @@ module _ (ws ar : List ℕ) (long : leastWords ≤ length ws) where
       let w3 = fresh-three in
       let w4 : roomUsed fresh ≡ 0 = fresh-word 4 (omega arith) in
       record {
-        sound-memory = record { long = omega arith; words = omega arith; room = omega arith; tables = omega arith; items = omega arith; used = omega arith };
+        valid-memory = record { long = omega arith; words = omega arith; room = omega arith; tables = omega arith; items = omega arith; used = omega arith };
         keys = λ i l. absurd (omega arith);
         values = λ i l. absurd (omega arith);
         hashes = λ i l. absurd (let f : i < itemTotal fresh = l in omega arith);

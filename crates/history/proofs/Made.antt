@@ -14,7 +14,7 @@ use Rattle.words.specs.Store.{part}
 use Rattle.words.specs.Hash.{hashOf}
 use Rattle.build_memory.specs.Memory.{word, leastWords, headsFrom, itemAt, headAt, linkAt, itemTotal, roomUsed, itemOlder, keyOf, Memory, memory}
 use Rattle.build_memory.specs.Item.{Stored, makeItem}
-use Rattle.build_memory.proofs.MadeLaws.{made-length, made-arena, made-items, made-used, made-low, made-head, other-head, own-word, other-word, made-behind, old-part, key-part, value-part}
+use Rattle.build_memory.proofs.MadeLaws.{made-length, made-arena, made-items, made-used, made-low, made-head, other-head, its-word, other-word, made-behind, old-part, key-part, value-part}
 use Rattle.history.specs.Items.{item, itemOf}
 use Rattle.history.specs.Tidy.{lastIn, bucketOf, Tidy}
 use Rattle.history.proofs.Index.{last-cong}
@@ -34,10 +34,10 @@ module _ (ws ar : List ℕ) (t parent : ℕ) (k : List ℕ) (c : Stored) (tidy :
   m = makeItem (memory ws ar) t parent k c
 
   long : leastWords ≤ length ws
-  long = tidy .sound-memory .long
+  long = tidy .valid-memory .long
 
   abbrev own : (f : ℕ) → f < 10 → word (m .words) (itemAt (itemTotal ws) + f) ≡ word (t ∷ hashOf k ∷ word ws (headAt (hashOf k % 1024)) ∷ roomUsed ws ∷ length k ∷ parent ∷ c .kind ∷ (roomUsed ws + length k) ∷ length (c .value) ∷ c .guest ∷ []) f
-  own = own-word ws ar t parent k c long few
+  own = its-word ws ar t parent k c long few
 
   abbrev other : (j f : ℕ) → f < 12 → j < itemTotal ws → word (m .words) (itemAt j + f) ≡ word ws (itemAt j + f)
   other = other-word ws ar t parent k c long few
@@ -54,17 +54,17 @@ module _ (ws ar : List ℕ) (t parent : ℕ) (k : List ℕ) (c : Stored) (tidy :
   abbrev old : (at n : ℕ) → at + n ≤ roomUsed ws → part (m .arena) at n ≡ part ar at n
   old = old-part ws ar t parent k c
 
-  abbrev own-part : part (m .arena) (roomUsed ws) (length k) ≡ k
-  own-part = key-part ws ar t parent k c room
+  abbrev its-part : part (m .arena) (roomUsed ws) (length k) ≡ k
+  its-part = key-part ws ar t parent k c room
 
   abbrev held-part : part (m .arena) (roomUsed ws + length k) (length (c .value)) ≡ c .value
   held-part = value-part ws ar t parent k c room
 
-  pub own-key : keyOf (m .words) (m .arena) (itemTotal ws) ≡ k
+  pub its-key : keyOf (m .words) (m .arena) (itemTotal ws) ≡ k
   unfolding keyOf
-  own-key =
+  its-key =
       ap (λ (x : ℕ). part (m .arena) x (word (m .words) (itemAt (itemTotal ws) + 4))) (own 3 (omega arith))
-      ∙ ap (part (m .arena) (roomUsed ws)) (own 4 (omega arith)) ∙ own-part
+      ∙ ap (part (m .arena) (roomUsed ws)) (own 4 (omega arith)) ∙ its-part
 
   pub other-key : (j : ℕ) → j < itemTotal ws → keyOf (m .words) (m .arena) j ≡ keyOf ws ar j
   unfolding keyOf
@@ -72,11 +72,11 @@ module _ (ws ar : List ℕ) (t parent : ℕ) (k : List ℕ) (c : Stored) (tidy :
       ap (λ (x : ℕ). part (m .arena) x (word (m .words) (itemAt j + 4))) (other j 3 (omega arith) l)
       ∙ ap (part (m .arena) (word ws (itemAt j + 3))) (other j 4 (omega arith) l) ∙ old (word ws (itemAt j + 3)) (word ws (itemAt j + 4)) (tidy .keys j l)
 
-  pub own-item : itemOf (m .words) (m .arena) (itemTotal ws) ≡ item t k parent (c .kind) (c .value) (c .guest)
-  own-item =
+  pub its-item : itemOf (m .words) (m .arena) (itemTotal ws) ≡ item t k parent (c .kind) (c .value) (c .guest)
+  its-item =
       item-from (m .words) (m .arena) (itemTotal ws) t (roomUsed ws) (length k) parent (c .kind) (roomUsed ws + length k) (length (c .value)) (c .guest)
       (own 0 (omega arith)) (own 3 (omega arith)) (own 4 (omega arith)) (own 5 (omega arith)) (own 6 (omega arith)) (own 7 (omega arith)) (own 8 (omega arith)) (own 9 (omega arith))
-      ∙ ap (λ (x : List ℕ). item t x parent (c .kind) (part (m .arena) (roomUsed ws + length k) (length (c .value))) (c .guest)) own-part
+      ∙ ap (λ (x : List ℕ). item t x parent (c .kind) (part (m .arena) (roomUsed ws + length k) (length (c .value))) (c .guest)) its-part
       ∙ ap (λ (x : List ℕ). item t k parent (c .kind) x (c .guest)) held-part
 
   pub other-item : (j : ℕ) → j < itemTotal ws → itemOf (m .words) (m .arena) j ≡ itemOf ws ar j
@@ -90,8 +90,8 @@ module _ (ws ar : List ℕ) (t parent : ℕ) (k : List ℕ) (c : Stored) (tidy :
       ∙ sym (item-from ws ar j (w 0) (w 3) (w 4) (w 5) (w 6) (w 7) (w 8) (w 9) refl refl refl refl refl refl refl refl)
 
   -- ---- the index
-  own-bucket : bucketOf (m .words) (itemTotal ws) ≡ hashOf k % 1024
-  own-bucket = ap (λ (x : ℕ). x % 1024) (own 1 (omega arith))
+  its-bucket : bucketOf (m .words) (itemTotal ws) ≡ hashOf k % 1024
+  its-bucket = ap (λ (x : ℕ). x % 1024) (own 1 (omega arith))
 
   other-bucket : (j : ℕ) → j < itemTotal ws → bucketOf (m .words) j ≡ bucketOf ws j
   other-bucket j l = ap (λ (x : ℕ). x % 1024) (other j 1 (omega arith) l)
@@ -105,11 +105,11 @@ module _ (ws ar : List ℕ) (t parent : ℕ) (k : List ℕ) (c : Stored) (tidy :
   head-by b h false e =
       other-head ws ar t parent k c long few b h (λ (f : b ≡ hashOf k % 1024). eqb-false (hashOf k % 1024) b e (sym f)) ∙ tidy .heads b h ∙ same-last b (itemTotal ws) (omega arith)
 
-  head-right : (b : ℕ) → b < 1024 → word (m .words) (headAt b) ≡ lastIn (bucketOf (m .words)) b (itemTotal (m .words))
+  head-consistent : (b : ℕ) → b < 1024 → word (m .words) (headAt b) ≡ lastIn (bucketOf (m .words)) b (itemTotal (m .words))
   unfolding lastIn pick
-  head-right b h =
+  head-consistent b h =
       head-by b h (eqb (hashOf k % 1024) b) refl
-      ∙ ap (λ (x : ℕ). pick (eqb x b) (itemTotal ws) (lastIn (bucketOf (m .words)) b (itemTotal ws))) (sym own-bucket)
+      ∙ ap (λ (x : ℕ). pick (eqb x b) (itemTotal ws) (lastIn (bucketOf (m .words)) b (itemTotal ws))) (sym its-bucket)
       ∙ ap (lastIn (bucketOf (m .words)) b) (sym (add-one (itemTotal ws)) ∙ sym made-three)
 
   older-by : (i : ℕ) → i < itemTotal ws + 1 → (q : Bool) → eqb i (itemTotal ws) ≡ q → itemOlder (m .words) i ≡ lastIn (bucketOf (m .words)) (bucketOf (m .words) i) i
@@ -117,7 +117,7 @@ module _ (ws ar : List ℕ) (t parent : ℕ) (k : List ℕ) (c : Stored) (tidy :
       let f = eqb-true _ _ e in
       subst (λ (x : ℕ). itemOlder (m .words) x ≡ lastIn (bucketOf (m .words)) (bucketOf (m .words) x) x) (sym f)
       (own 2 (omega arith) ∙ tidy .heads (hashOf k % 1024) (mod-lt (hashOf k) (omega arith)) ∙ same-last (hashOf k % 1024) (itemTotal ws) (omega arith)
-      ∙ ap (λ (b : ℕ). lastIn (bucketOf (m .words)) b (itemTotal ws)) (sym own-bucket))
+      ∙ ap (λ (b : ℕ). lastIn (bucketOf (m .words)) b (itemTotal ws)) (sym its-bucket))
   older-by i h false e =
       let ne = eqb-false i (itemTotal ws) e in
       let l : i < itemTotal ws = omega arith in
@@ -146,7 +146,7 @@ module _ (ws ar : List ℕ) (t parent : ℕ) (k : List ℕ) (c : Stored) (tidy :
       omega (arith, made-four, tidy .values i l, other i 7 (omega arith) l, other i 8 (omega arith) l)
 
   hash-by : (i : ℕ) → i < itemTotal ws + 1 → (q : Bool) → eqb i (itemTotal ws) ≡ q → word (m .words) (itemAt i + 1) ≡ hashOf (keyOf (m .words) (m .arena) i)
-  hash-by i h true e = subst (λ (x : ℕ). word (m .words) (itemAt x + 1) ≡ hashOf (keyOf (m .words) (m .arena) x)) (sym (eqb-true _ _ e)) (own 1 (omega arith) ∙ ap hashOf (sym own-key))
+  hash-by i h true e = subst (λ (x : ℕ). word (m .words) (itemAt x + 1) ≡ hashOf (keyOf (m .words) (m .arena) x)) (sym (eqb-true _ _ e)) (own 1 (omega arith) ∙ ap hashOf (sym its-key))
   hash-by i h false e =
       let ne = eqb-false i (itemTotal ws) e in
       let l : i < itemTotal ws = omega arith in
@@ -154,7 +154,7 @@ module _ (ws ar : List ℕ) (t parent : ℕ) (k : List ℕ) (c : Stored) (tidy :
 
   pub made-tidy : Tidy (m .words) (m .arena)
   made-tidy =
-      let s = tidy .sound-memory in
+      let s = tidy .valid-memory in
       let lw = made-length ws ar t parent k c in
       let la = made-arena ws ar t parent k c in
       let w0 = made-table-word 0 (omega arith) (λ (e : 0 ≡ 3). omega arith) (λ (e : 0 ≡ 4). omega arith) in
@@ -163,11 +163,11 @@ module _ (ws ar : List ℕ) (t parent : ℕ) (k : List ℕ) (c : Stored) (tidy :
       let w3 = made-three in
       let w4 = made-four in
       record {
-        sound-memory = record { long = omega arith; words = omega arith; room = omega arith; tables = omega arith; items = omega arith; used = omega arith };
+        valid-memory = record { long = omega arith; words = omega arith; room = omega arith; tables = omega arith; items = omega arith; used = omega arith };
         keys = λ i l. key-by i (subst (λ (x : ℕ). i < x) w3 l) (eqb i (itemTotal ws)) refl;
         values = λ i l. value-by i (subst (λ (x : ℕ). i < x) w3 l) (eqb i (itemTotal ws)) refl;
         hashes = λ i l. hash-by i (subst (λ (x : ℕ). i < x) w3 l) (eqb i (itemTotal ws)) refl;
-        heads = head-right;
+        heads = head-consistent;
         olders = λ i l. older-by i (subst (λ (x : ℕ). i < x) w3 l) (eqb i (itemTotal ws)) refl;
         clear = λ j h. made-behind ws ar t parent k c long few (linkAt j) (omega arith) ∙ tidy .clear j h;
       }

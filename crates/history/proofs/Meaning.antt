@@ -13,11 +13,11 @@ use lib.ListN.{length, getD, set, length-append, List·getD-append}
 use lib.Seq.{getD-at, set-at, set-append-left}
 use Rattle.words.specs.Choice.{pick}
 use Rattle.model.specs.Table.{Content, Entry, noItem, entryAt}
-use Rattle.model.specs.Builder.{Shelf, Builder, mostItems}
+use Rattle.model.specs.Builder.{Standing, Builder, mostItems}
 use Rattle.model.specs.Walk.{entry}
 use Rattle.build_memory.specs.Memory.{tableTotal, itemTotal, roomUsed, itemTable, itemParent, keyOf, valueKind, tableKind, Memory, memory}
 use Rattle.build_memory.specs.Item.{Stored, makeItem, replaceItem}
-use Rattle.build_memory.specs.Meaning.{contentOf, entryOf, shelfOf, listed, meaning}
+use Rattle.build_memory.specs.Meaning.{contentOf, entryOf, standingOf, listed, meaning}
 use Rattle.build_memory.proofs.MadeLaws.{made-arena}
 use Rattle.history.specs.Items.{Item, item, itemOf, Table, tableOf}
 use Rattle.history.specs.Tidy.{Tidy}
@@ -37,13 +37,13 @@ module _ {A : Type 0} where
   pub listed-at : (f : ℕ → A) (d : A) (n i : ℕ) → i < n → getD (listed f n) i d ≡ f i
   unfolding listed
   listed-at f d zero i h = absurd (not-suc-le-zero h)
-  listed-at f d (suc n) i h = by-place (eqb i n) refl (listed-at f d n i)
+  listed-at f d (suc n) i h = by-field (eqb i n) refl (listed-at f d n i)
     where
-      by-place : (q : Bool) → eqb i n ≡ q → (i < n → getD (listed f n) i d ≡ f i) → getD (listed f n ++ (f n ∷ [])) i d ≡ f i
-      by-place true e ih =
+      by-field : (q : Bool) → eqb i n ≡ q → (i < n → getD (listed f n) i d ≡ f i) → getD (listed f n ++ (f n ∷ [])) i d ≡ f i
+      by-field true e ih =
           let z = eqb-true i n e in
           getD-at (listed f n) (f n) [] d i (listed-length f n ∙ sym z) ∙ ap f (sym z)
-      by-place false e ih =
+      by-field false e ih =
           let ne = eqb-false i n e in
           List·getD-append (listed f n) (f n ∷ []) d i (omega (arith, listed-length f n)) ∙ ih (omega arith)
 
@@ -63,15 +63,15 @@ module _ {A : Type 0} where
   pub listed-set : (f g : ℕ → A) (n o : ℕ) (x : A) → o < n → ((i : ℕ) → i < n → (i ≡ o → ⊥) → g i ≡ f i) → g o ≡ x → listed g n ≡ set (listed f n) o x
   unfolding listed
   listed-set f g zero o x l h e = absurd (not-suc-le-zero l)
-  listed-set f g (suc n) o x l h e = by-place (eqb o n) refl (λ (u : o < n). listed-set f g n o x u (λ i v w. h i (omega arith) w) e)
+  listed-set f g (suc n) o x l h e = by-field (eqb o n) refl (λ (u : o < n). listed-set f g n o x u (λ i v w. h i (omega arith) w) e)
     where
-      by-place : (q : Bool) → eqb o n ≡ q → (o < n → listed g n ≡ set (listed f n) o x) → listed g n ++ (g n ∷ []) ≡ set (listed f n ++ (f n ∷ [])) o x
-      by-place true q ih =
+      by-field : (q : Bool) → eqb o n ≡ q → (o < n → listed g n ≡ set (listed f n) o x) → listed g n ++ (g n ∷ []) ≡ set (listed f n ++ (f n ∷ [])) o x
+      by-field true q ih =
           let z = eqb-true o n q in
           ap (λ (l : List A). l ++ (g n ∷ [])) (listed-cong g f n (λ i u. h i (omega arith) (λ (y : i ≡ o). omega arith)))
           ∙ ap (λ (y : A). listed f n ++ (y ∷ [])) (ap g (sym z) ∙ e)
           ∙ sym (set-at (listed f n) (f n) [] x o (listed-length f n ∙ sym z))
-      by-place false q ih =
+      by-field false q ih =
           let ne = eqb-false o n q in
           ap (λ (l : List A). l ++ (g n ∷ [])) (ih (omega arith))
           ∙ ap (λ (y : A). set (listed f n) o x ++ (y ∷ [])) (h n (omega arith) (λ (y : n ≡ o). ne (sym y)))
@@ -89,29 +89,29 @@ aboveOf parent = pick (eqb parent 0) noItem (parent - 1)
 unfoldable pub entryFrom : Item → Entry
 entryFrom x = entry (x .table) (x .key) (contentFrom (x .kind) (x .value) (x .guest)) (aboveOf (x .parent))
 
-unfoldable pub shelfFrom : Table → Shelf
-shelfFrom x = record { separator = x .sep; placed = not (eqb (x .placed) 0) }
+unfoldable pub standingFrom : Table → Standing
+standingFrom x = record { separator = x .sep; placed = not (eqb (x .placed) 0) }
 
 pub entry-is : (ws ar : List ℕ) (i : ℕ) → entryOf ws ar i ≡ entryFrom (itemOf ws ar i)
 unfolding entryOf contentOf entryFrom itemOf contentFrom aboveOf
 entry-is ws ar i = refl
 
-pub shelf-is : (ws : List ℕ) (t : ℕ) → shelfOf ws t ≡ shelfFrom (tableOf ws t)
-unfolding shelfOf shelfFrom tableOf
-shelf-is ws t = refl
+pub standing-is : (ws : List ℕ) (t : ℕ) → standingOf ws t ≡ standingFrom (tableOf ws t)
+unfolding standingOf standingFrom tableOf
+standing-is ws t = refl
 
 -- ---- the parts of what memory means
 
-abbrev pub builder : ℕ → ℕ → List Shelf → List Entry → Builder
+abbrev pub builder : ℕ → ℕ → List Standing → List Entry → Builder
 builder room used tables items = record { room = room; used = used; tables = tables; items = items }
 
 abbrev pub itemsOf : List ℕ → List ℕ → List Entry
 itemsOf ws ar = listed (entryOf ws ar) (itemTotal ws)
 
-abbrev pub tablesOf : List ℕ → List Shelf
-tablesOf ws = listed (shelfOf ws) (tableTotal ws)
+abbrev pub tablesOf : List ℕ → List Standing
+tablesOf ws = listed (standingOf ws) (tableTotal ws)
 
-pub builder-same : {r r′ u u′ : ℕ} {T T′ : List Shelf} {I I′ : List Entry} → r ≡ r′ → u ≡ u′ → T ≡ T′ → I ≡ I′ → builder r u T I ≡ builder r′ u′ T′ I′
+pub builder-same : {r r′ u u′ : ℕ} {T T′ : List Standing} {I I′ : List Entry} → r ≡ r′ → u ≡ u′ → T ≡ T′ → I ≡ I′ → builder r u T I ≡ builder r′ u′ T′ I′
 builder-same a b c d = cc
 
 pub items-count : (ws ar : List ℕ) → length (itemsOf ws ar) ≡ itemTotal ws
@@ -122,13 +122,13 @@ unfolding entryAt
 item-at ws ar i h = listed-at (entryOf ws ar) _ (itemTotal ws) i h ∙ entry-is ws ar i
 
 pub tables-count : (ws : List ℕ) → length (tablesOf ws) ≡ tableTotal ws
-tables-count ws = listed-length (shelfOf ws) (tableTotal ws)
+tables-count ws = listed-length (standingOf ws) (tableTotal ws)
 
 -- tables that are told the same
 pub tables-same : (ws w : List ℕ) → Lows ws w → tableTotal ws ≤ 64 → tablesOf w ≡ tablesOf ws
 tables-same ws w l few =
-    ap (listed (shelfOf w)) (lows-two ws w l)
-    ∙ listed-cong (shelfOf w) (shelfOf ws) (tableTotal ws) (λ i u. shelf-is w i ∙ ap shelfFrom (lows-table ws w l i (omega arith)) ∙ sym (shelf-is ws i))
+    ap (listed (standingOf w)) (lows-two ws w l)
+    ∙ listed-cong (standingOf w) (standingOf ws) (tableTotal ws) (λ i u. standing-is w i ∙ ap standingFrom (lows-table ws w l i (omega arith)) ∙ sym (standing-is ws i))
 
 -- ---- an item made
 
@@ -142,7 +142,7 @@ module _ (ws ar : List ℕ) (t parent : ℕ) (k : List ℕ) (c : Stored) (tidy :
       ap (listed (entryOf (m .words) (m .arena))) (made.made-three ws ar t parent k c tidy few room)
       ∙ listed-more (entryOf ws ar) (entryOf (m .words) (m .arena)) (itemTotal ws) (entryFrom (item t k parent (c .kind) (c .value) (c .guest)))
       (λ i l. entry-is (m .words) (m .arena) i ∙ ap entryFrom (made.other-item ws ar t parent k c tidy few room i l) ∙ sym (entry-is ws ar i))
-      (entry-is (m .words) (m .arena) (itemTotal ws) ∙ ap entryFrom (made.own-item ws ar t parent k c tidy few room))
+      (entry-is (m .words) (m .arena) (itemTotal ws) ∙ ap entryFrom (made.its-item ws ar t parent k c tidy few room))
 
   pub meaning-made : meaning (m .words) (m .arena)
       ≡ builder (length ar) (roomUsed ws + length k + length (c .value)) (meaning ws ar .tables)
@@ -150,7 +150,7 @@ module _ (ws ar : List ℕ) (t parent : ℕ) (k : List ℕ) (c : Stored) (tidy :
   unfolding meaning
   meaning-made =
       builder-same (made-arena ws ar t parent k c) (made.made-four ws ar t parent k c tidy few room)
-      (tables-same ws (m .words) (made.made-table-word ws ar t parent k c tidy few room) (tidy .sound-memory .tables)) items-made
+      (tables-same ws (m .words) (made.made-table-word ws ar t parent k c tidy few room) (tidy .valid-memory .tables)) items-made
 
 -- ---- an item written again
 
@@ -173,4 +173,4 @@ module _ (ws ar : List ℕ) (i : ℕ) (c : Stored) (tidy : Tidy ws ar) (there : 
   unfolding meaning
   meaning-replaced =
       builder-same (old.old-arena ws ar i c tidy there room) (old.old-four ws ar i c tidy there room)
-      (tables-same ws (n .words) (old.old-table-word ws ar i c tidy there room) (tidy .sound-memory .tables)) items-replaced
+      (tables-same ws (n .words) (old.old-table-word ws ar i c tidy there room) (tidy .valid-memory .tables)) items-replaced

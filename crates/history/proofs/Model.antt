@@ -12,28 +12,28 @@ use Rattle.model.specs.declared.Inserted.{Inserted}
 use Rattle.model.specs.Builder.{mostTables, longestKey, separatorOf}
 use Rattle.build_memory.specs.Memory.{leastWords, freshWords, tableTotal, itemTotal, roomUsed, tableSeparator, tablePlaced, itemTable, valueKind, Outcome}
 use Rattle.build_memory.specs.Item.{stored}
-use Rattle.build_tables.specs.Table.{takes, addTable, newTable, unnumbered}
-use Rattle.build_tables.proofs.TableLaws.{takes-facts}
-use Rattle.build_values.specs.Insert.{refused, insertWalked, keyed, insertSound, insertValue}
+use Rattle.build_tables.specs.Table.{freeStanding, addTable, newTable, notAdded}
+use Rattle.build_tables.proofs.TableLaws.{free-standing-facts}
+use Rattle.build_values.specs.Insert.{refused, insertBelowPath, keyed, insertAtKey, insertValue}
 use mathlib.Core.List.{List, [], _∷_, _++_}
 use lib.ListN.{length, length-append}
 use Rattle.words.specs.Choice.{pick}
 use Rattle.words.proofs.ChoiceLaws.{pick-true}
 use Rattle.layout.specs.declared.refusal.Refusal.the-variants.{TableUnknown, KeyNotUtf8, KeyTooLong, SeparatorOutside, TooManyTables}
 use Rattle.model.specs.declared.Counted.{Counted}
-use Rattle.model.specs.declared.Numbered.{Numbered}
+use Rattle.model.specs.declared.Added.{Added}
 use Rattle.model.specs.Table.{Content, Entry, entryAt, membersBelow}
 use Rattle.model.specs.Builder as told
-use Rattle.model.specs.Builder.{Shelf, shelfAt, Result, result, put}
+use Rattle.model.specs.Builder.{Standing, standingAt, Result, result, put}
 use Rattle.build_tables.specs.Table as tables
-use Rattle.build_memory.specs.Meaning.{entryOf, shelfOf, listed, meaning}
+use Rattle.build_memory.specs.Meaning.{entryOf, standingOf, listed, meaning}
 use Rattle.history.specs.Items.{itemOf, Table, tableOf}
 use Rattle.history.specs.Honest.{Honest}
 use Rattle.history.proofs.Low as low
 use Rattle.history.proofs.Value.{sep-same, placed-word, tabled, two, three, kept-low, kept-high, size, loose, mark, same-table, sep-domain}
-use Rattle.history.proofs.History.{honest-sound}
-use Rattle.history.proofs.Meaning.{contentFrom, entryFrom, shelfFrom, shelf-is, entry-is, itemsOf, tablesOf, builder, builder-same, items-count, tables-count, item-at, listed-more, listed-cong}
-use Rattle.history.proofs.Alike.{Alike, alike-pick, alike-refused, meant-shelf, walked-alike}
+use Rattle.history.proofs.History.{honest-valid}
+use Rattle.history.proofs.Meaning.{contentFrom, entryFrom, standingFrom, standing-is, entry-is, itemsOf, tablesOf, builder, builder-same, items-count, tables-count, item-at, listed-more, listed-cong}
+use Rattle.history.proofs.Alike.{Alike, alike-pick, alike-refused, meant-standing, walked-alike}
 
 meant-count : (ws ar : List ℕ) → length (meaning ws ar .tables) ≡ tableTotal ws
 unfolding meaning
@@ -43,23 +43,23 @@ meant-sizes : (ws ar : List ℕ) → (meaning ws ar .used ≡ roomUsed ws) × (m
 unfolding meaning
 meant-sizes ws ar = (refl, refl)
 
-shelf-placed : (ws : List ℕ) (t : ℕ) → not (shelfOf ws t .placed) ≡ eqb (tablePlaced ws t) 0
-unfolding shelfOf
-shelf-placed ws t = by-test (eqb (tablePlaced ws t) 0)
+standing-placed : (ws : List ℕ) (t : ℕ) → not (standingOf ws t .placed) ≡ eqb (tablePlaced ws t) 0
+unfolding standingOf
+standing-placed ws t = by-test (eqb (tablePlaced ws t) 0)
   where
     by-test : (q : Bool) → not (not q) ≡ q
     by-test true = refl
     by-test false = refl
 
-pub takes-same : (ws ar : List ℕ) (t : ℕ) → takes ws t ≡ told.takes (meaning ws ar) t
-unfolding takes told.takes
-takes-same ws ar t = by-place (ltb t (tableTotal ws)) refl ∙ ap (λ (n : ℕ). ltb t n && not (shelfAt (meaning ws ar) t .placed)) (sym (meant-count ws ar))
+pub free-standing-same : (ws ar : List ℕ) (t : ℕ) → freeStanding ws t ≡ told.freeStanding (meaning ws ar) t
+unfolding freeStanding told.freeStanding
+free-standing-same ws ar t = by-field (ltb t (tableTotal ws)) refl ∙ ap (λ (n : ℕ). ltb t n && not (standingAt (meaning ws ar) t .placed)) (sym (meant-count ws ar))
   where
-    by-place : (q : Bool) → ltb t (tableTotal ws) ≡ q → (ltb t (tableTotal ws) && eqb (tablePlaced ws t) 0) ≡ (ltb t (tableTotal ws) && not (shelfAt (meaning ws ar) t .placed))
-    by-place true q =
+    by-field : (q : Bool) → ltb t (tableTotal ws) ≡ q → (ltb t (tableTotal ws) && eqb (tablePlaced ws t) 0) ≡ (ltb t (tableTotal ws) && not (standingAt (meaning ws ar) t .placed))
+    by-field true q =
         ap (λ (b : Bool). ltb t (tableTotal ws) && b)
-        (sym (shelf-placed ws t) ∙ ap (λ (s : Shelf). not (s .placed)) (sym (meant-shelf ws ar t (ltb-true t (tableTotal ws) q))))
-    by-place false q = ap (λ (b : Bool). b && eqb (tablePlaced ws t) 0) q ∙ sym (ap (λ (b : Bool). b && not (shelfAt (meaning ws ar) t .placed)) q)
+        (sym (standing-placed ws t) ∙ ap (λ (s : Standing). not (s .placed)) (sym (meant-standing ws ar t (ltb-true t (tableTotal ws) q))))
+    by-field false q = ap (λ (b : Bool). b && eqb (tablePlaced ws t) 0) q ∙ sym (ap (λ (b : Bool). b && not (standingAt (meaning ws ar) t .placed)) q)
 
 pub keyed-alike : (ws ar k : List ℕ) (o : Outcome Inserted) (r : Result Inserted) → (isUtf8 k ≡ true → length k ≤ longestKey → Alike o r)
     → Alike (keyed ws ar k o) (told.keyed (meaning ws ar) k r)
@@ -76,25 +76,25 @@ value-content v = refl
 -- ---- the insert of a value
 
 module _ (ws ar : List ℕ) (honest : Honest ws ar) (t : ℕ) (k v : List ℕ) where
-  sound-alike : Alike (insertSound ws ar t k v) (told.insertValue (meaning ws ar) t k v)
-  unfolding insertSound told.insertValue
-  sound-alike =
-      subst (λ (b : Bool). Alike (insertSound ws ar t k v)
-      (pick b (told.keyed (meaning ws ar) k (put (meaning ws ar) t k (Content.bytes v) (length v) false)) (told.refused TableUnknown (meaning ws ar)))) (takes-same ws ar t)
-      (alike-pick (takes ws t) _ _ _ _
+  valid-alike : Alike (insertAtKey ws ar t k v) (told.insertValue (meaning ws ar) t k v)
+  unfolding insertAtKey told.insertValue
+  valid-alike =
+      subst (λ (b : Bool). Alike (insertAtKey ws ar t k v)
+      (pick b (told.keyed (meaning ws ar) k (put (meaning ws ar) t k (Content.bytes v) (length v) false)) (told.refused TableUnknown (meaning ws ar)))) (free-standing-same ws ar t)
+      (alike-pick (freeStanding ws t) _ _ _ _
       (λ b. keyed-alike ws ar k _ _ (λ text short.
-      let free = takes-facts ws t b in
-      subst (λ (c : Content). Alike (insertWalked ws ar t k (stored valueKind v 0) false) (put (meaning ws ar) t k c (length v) false)) (value-content v)
+      let free = free-standing-facts ws t b in
+      subst (λ (c : Content). Alike (insertBelowPath ws ar t k (stored valueKind v 0) false) (put (meaning ws ar) t k c (length v) false)) (value-content v)
       (walked-alike (tableOf ws) ws ar t k 64 (sep-same ws t)
       (λ p. let z : _≡_ {A = ℕ} 1 0 = sym p ∙ placed-word ws t ∙ free .1 in omega arith)
       text short (stored valueKind v 0) honest (free .0)
       (record { kind = refl; guest = λ (z : _≡_ {A = ℕ} 118 72). absurd (omega arith) })
-      (λ i l x y. let g = honest .right .guests i l x .0 in let few = honest .right .tables in omega arith) false)))
+      (λ i l x y. let g = honest .consistent .guests i l x .0 in let few = honest .consistent .tables in omega arith) false)))
       (λ b. alike-refused TableUnknown ws ar))
 
   pub value-alike : Alike (insertValue ws ar t k v) (told.insertValue (meaning ws ar) t k v)
   unfolding insertValue
-  value-alike = subst (λ (o : Outcome Inserted). Alike o (told.insertValue (meaning ws ar) t k v)) (sym (pick-true _ _ (honest-sound ws ar honest))) sound-alike
+  value-alike = subst (λ (o : Outcome Inserted). Alike o (told.insertValue (meaning ws ar) t k v)) (sym (pick-true _ _ (honest-valid ws ar honest))) valid-alike
 
 -- ---- the count of items
 
@@ -122,7 +122,7 @@ members-count ws ar t (suc n) h = by-test (eqb (itemTable ws n) t) (table-at ws 
 pub count-alike : (ws ar : List ℕ) → Honest ws ar → (t : ℕ) → tables.itemCount ws ar t ≡ told.itemCount (meaning ws ar) t
 unfolding tables.itemCount told.itemCount meaning
 count-alike ws ar honest t =
-    pick-true _ _ (honest-sound ws ar honest)
+    pick-true _ _ (honest-valid ws ar honest)
     ∙ ap (λ (n : ℕ). pick (ltb t n) (Counted.Items (tables.countOf ws t (itemTotal ws))) (Counted.Refused TableUnknown)) (sym (tables-count ws))
     ∙ ap (λ (n : ℕ). pick (ltb t (length (tablesOf ws))) (Counted.Items n) (Counted.Refused TableUnknown))
     (members-count ws ar t (itemTotal ws) (omega arith) ∙ ap (λ (n : ℕ). length (membersBelow (itemsOf ws ar) t n)) (sym (items-count ws ar)))
@@ -133,18 +133,18 @@ module _ (ws ar : List ℕ) (sep : ℕ) (honest : Honest ws ar) (few : tableTota
   abbrev w : List ℕ
   w = tabled ws ar sep honest few domain
 
-  own-shelf : shelfOf w (tableTotal ws) ≡ record { separator = sep; placed = false }
-  unfolding shelfOf
-  own-shelf =
+  its-standing : standingOf w (tableTotal ws) ≡ record { separator = sep; placed = false }
+  unfolding standingOf
+  its-standing =
       let a : tableSeparator w (tableTotal ws) ≡ sep = mark ws ar sep honest few domain in
       let b : not (eqb (tablePlaced w (tableTotal ws)) 0) ≡ false = ap not (eq-eqb (tablePlaced w (tableTotal ws)) 0 (loose ws ar sep honest few domain)) in
       cc
 
   tables-added : tablesOf w ≡ tablesOf ws ++ (record { separator = sep; placed = false } ∷ [])
   tables-added =
-      ap (listed (shelfOf w)) (two ws ar sep honest few domain)
-      ∙ listed-more (shelfOf ws) (shelfOf w) (tableTotal ws) (record { separator = sep; placed = false })
-      (λ t l. shelf-is w t ∙ ap shelfFrom (same-table ws ar sep honest few domain t l) ∙ sym (shelf-is ws t)) own-shelf
+      ap (listed (standingOf w)) (two ws ar sep honest few domain)
+      ∙ listed-more (standingOf ws) (standingOf w) (tableTotal ws) (record { separator = sep; placed = false })
+      (λ t l. standing-is w t ∙ ap standingFrom (same-table ws ar sep honest few domain t l) ∙ sym (standing-is ws t)) its-standing
 
   items-stay : itemsOf w ar ≡ itemsOf ws ar
   items-stay =
@@ -163,19 +163,19 @@ module _ (ws ar : List ℕ) (sep : ℕ) (honest : Honest ws ar) (few : tableTota
   unfolding meaning
   meaning-added = builder-same refl (kept-low ws ar sep honest few domain 4 (omega arith) (λ (e : 4 ≡ 2). omega arith)) tables-added items-stay
 
-alike-unnumbered : (why : Refusal) (ws ar : List ℕ) → Alike (unnumbered why ws ar) (result (Numbered.Refused why) (meaning ws ar))
-alike-unnumbered why ws ar = record { answer = refl; after = refl }
+alike-not-added : (why : Refusal) (ws ar : List ℕ) → Alike (notAdded why ws ar) (result (Added.Refused why) (meaning ws ar))
+alike-not-added why ws ar = record { answer = refl; after = refl }
 
 pub table-alike : (ws ar separator : List ℕ) → Honest ws ar → Alike (newTable ws ar separator) (told.newTable (meaning ws ar) separator)
 unfolding newTable addTable told.newTable
 table-alike ws ar separator honest =
-    subst (λ (o : Outcome Numbered). Alike o (told.newTable (meaning ws ar) separator)) (sym (pick-true _ _ (honest-sound ws ar honest)))
-    (alike-pick (eqb (separatorOf separator) 0) _ _ _ _ (λ a. alike-unnumbered SeparatorOutside ws ar)
+    subst (λ (o : Outcome Added). Alike o (told.newTable (meaning ws ar) separator)) (sym (pick-true _ _ (honest-valid ws ar honest)))
+    (alike-pick (eqb (separatorOf separator) 0) _ _ _ _ (λ a. alike-not-added SeparatorOutside ws ar)
     (λ a. subst (λ (n : ℕ). Alike (addTable ws ar (separatorOf separator))
-    (pick (leb mostTables n) (result (Numbered.Refused TooManyTables) (meaning ws ar))
-    (result (Numbered.Table n) (builder (meaning ws ar .room) (meaning ws ar .used)
+    (pick (leb mostTables n) (result (Added.Refused TooManyTables) (meaning ws ar))
+    (result (Added.Table n) (builder (meaning ws ar .room) (meaning ws ar .used)
     (meaning ws ar .tables ++ (record { separator = separatorOf separator; placed = false } ∷ [])) (meaning ws ar .items))))) (sym (meant-count ws ar))
-    (alike-pick (leb mostTables (tableTotal ws)) _ _ _ _ (λ b. alike-unnumbered TooManyTables ws ar)
+    (alike-pick (leb mostTables (tableTotal ws)) _ _ _ _ (λ b. alike-not-added TooManyTables ws ar)
     (λ b. record {
       answer = refl;
       after =
@@ -189,4 +189,4 @@ pub fresh-alike : (ws ar : List ℕ) → leastWords ≤ length ws → meaning (f
 unfolding meaning listed
 fresh-alike ws ar long =
     let w = freshWords ws (length ar) in
-    builder-same refl (low.fresh-word ws ar long 4 (omega arith)) (ap (listed (shelfOf w)) (low.fresh-two ws ar long)) (ap (listed (entryOf w ar)) (low.fresh-three ws ar long))
+    builder-same refl (low.fresh-word ws ar long 4 (omega arith)) (ap (listed (standingOf w)) (low.fresh-two ws ar long)) (ap (listed (entryOf w ar)) (low.fresh-three ws ar long))

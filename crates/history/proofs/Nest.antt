@@ -16,21 +16,21 @@ use Rattle.text.specs.Utf8.{isUtf8}
 use Rattle.layout.specs.declared.refusal.Refusal.{Refusal}
 use Rattle.model.specs.declared.Inserted.{Inserted}
 use Rattle.model.specs.Builder.{most, longestKey, deepest}
-use Rattle.build_memory.specs.Memory.{word, tableAt, tableTotal, itemTotal, tableSeparator, tablePlaced, tableHeight, itemTable, itemKind, itemGuest, tableKind, sound, Memory, memory, Outcome, outcome}
+use Rattle.build_memory.specs.Memory.{word, tableAt, tableTotal, itemTotal, tableSeparator, tablePlaced, tableHeight, itemTable, itemKind, itemGuest, tableKind, valid, Memory, memory, Outcome, outcome}
 use Rattle.build_memory.specs.Item.{stored}
-use Rattle.build_tables.specs.Table.{takes}
-use Rattle.build_tables.proofs.TableLaws.{takes-facts}
+use Rattle.build_tables.specs.Table.{freeStanding}
+use Rattle.build_tables.proofs.TableLaws.{free-standing-facts}
 use Rattle.build_values.specs.Walk.{wayOf}
-use Rattle.build_values.specs.Insert.{refused, insertWalked, keyed}
-use Rattle.build_nested.specs.Nest.{heldAt, heldHeight, placeTable, whenAccepted, settled, nested, tableSound, insertTable}
+use Rattle.build_values.specs.Insert.{refused, insertBelowPath, keyed}
+use Rattle.build_nested.specs.Nest.{heldAt, heldHeight, placeTable, whenAccepted, settled, nested, nestAtKey, insertTable}
 use Rattle.history.specs.Items.{Item, itemOf, Table, tableOf}
-use Rattle.history.specs.Right.{heldItem, heldIn, Right}
+use Rattle.history.specs.Consistent.{heldItem, heldIn, Consistent}
 use Rattle.layout.specs.declared.refusal.Refusal.the-variants.{MemoryBroken, TableUnknown, TableInItself, KeyNotUtf8, KeyTooLong, NotContainer, NestedTooDeep}
 use Rattle.build_nested.proofs.NestLaws.{held-other, held-kind, held-guest}
 use Rattle.history.specs.Honest.{Good, Honest}
 use Rattle.history.proofs.Low as low
 use Rattle.history.proofs.Index.{false-true}
-use Rattle.history.proofs.Right.{right-place, right-grow, most-cong, item-else, item-kind, item-holds}
+use Rattle.history.proofs.Consistent.{ranges-of, consistent-grow, most-cong, item-else, item-kind, item-holds}
 use Rattle.history.proofs.Calls.{accepted, After, walked-after}
 use Rattle.history.proofs.Value.{table-same, lows-table, sep-same, placed-word, height-word}
 
@@ -71,8 +71,8 @@ module _ (ws ar : List ℕ) (honest : Honest ws ar) (t : ℕ) where
           let w = item-words ws ar i in
           let at = eqb-true (itemOf ws ar i .table) t a in
           let bt = eqb-true (itemOf ws ar i .kind) 72 b in
-          let r = honest .right .guests i l bt .0 in
-          let few = honest .right .tables in
+          let r = honest .consistent .guests i l bt .0 in
+          let few = honest .consistent .tables in
           let g = w .2 in
           sym (held-guest ws t i (itemTable ws i) refl (sym (w .0) ∙ at) (itemKind ws i) refl (sym (w .1) ∙ bt) (itemGuest ws i) refl (omega arith))
           ∙ sym (ap high g ∙ height-word ws (itemGuest ws i))
@@ -117,12 +117,12 @@ module _ (ws ar : List ℕ) (honest : Honest ws ar) (t : ℕ) (k : List ℕ) (G 
   h = heldHeight ws G + 1
 
   abbrev pub o : Outcome Inserted
-  o = insertWalked ws ar t k (stored tableKind [] G) (ltb deepest (h + 1))
+  o = insertBelowPath ws ar t k (stored tableKind [] G) (ltb deepest (h + 1))
 
   -- no item holds the guest
   pub alone : (i : ℕ) → i < itemTotal ws → itemOf ws ar i .kind ≡ 72 → itemOf ws ar i .guest ≡ G → ⊥
   alone i l a b =
-      let r = honest .right .guests i l a in
+      let r = honest .consistent .guests i l a in
       let z : _≡_ {A = ℕ} 1 0 = sym (r .1) ∙ ap (λ (x : ℕ). tableOf ws x .placed) b ∙ placed-word ws G ∙ guest-free in
       omega arith
 
@@ -131,8 +131,8 @@ module _ (ws ar : List ℕ) (honest : Honest ws ar) (t : ℕ) (k : List ℕ) (G 
   unfolding heldHeight
   lower i l a b =
       let w = item-words ws ar i in
-      let r = honest .right .guests i l b .0 in
-      let few = honest .right .tables in
+      let r = honest .consistent .guests i l b .0 in
+      let few = honest .consistent .tables in
       let g = w .2 in
       let e = held-guest ws G i (itemTable ws i) refl (sym (w .0) ∙ a) (itemKind ws i) refl (sym (w .1) ∙ b) (itemGuest ws i) refl (omega arith) in
       let m = most-upper (heldAt ws G) (itemTotal ws) i l in
@@ -146,9 +146,9 @@ module _ (ws ar : List ℕ) (honest : Honest ws ar) (t : ℕ) (k : List ℕ) (G 
   pub g′ : ℕ → Table
   g′ x = pick (eqb x G) placed-guest (tableOf ws x)
 
-  pub g-own : g′ G ≡ placed-guest
+  pub g-its : g′ G ≡ placed-guest
   unfolding g′ pick
-  g-own = simp (eq-eqb G G refl)
+  g-its = simp (eq-eqb G G refl)
 
   pub g-other : (x : ℕ) → (x ≡ G → ⊥) → g′ x ≡ tableOf ws x
   unfolding g′ pick
@@ -160,7 +160,7 @@ module _ (ws ar : List ℕ) (honest : Honest ws ar) (t : ℕ) (k : List ℕ) (G 
       by-test : (q : Bool) → eqb x G ≡ q → g′ x .sep ≡ tableOf ws x .sep
       by-test true e =
           let f = eqb-true x G e in
-          ap (λ (y : ℕ). g′ y .sep) f ∙ ap (λ (y : Table). y .sep) g-own ∙ sym (sep-same ws G) ∙ ap (λ (y : ℕ). tableOf ws y .sep) (sym f)
+          ap (λ (y : ℕ). g′ y .sep) f ∙ ap (λ (y : Table). y .sep) g-its ∙ sym (sep-same ws G) ∙ ap (λ (y : ℕ). tableOf ws y .sep) (sym f)
       by-test false e = ap (λ (y : Table). y .sep) (g-other x (eqb-false x G e))
 
   module _ (shallow : heldHeight ws G < 7) where
@@ -168,8 +168,8 @@ module _ (ws ar : List ℕ) (honest : Honest ws ar) (t : ℕ) (k : List ℕ) (G 
     good =
         record {
           tidy = honest .tidy;
-          right = right-place (tableTotal ws) (itemTotal ws) (tableOf ws) g′ (itemOf ws ar) G h (honest .right) (placed-word ws G ∙ guest-free) (omega arith)
-              (λ x l ne. g-other x ne) (λ x l. g-sep x) (ap (λ (y : Table). y .placed) g-own) (ap (λ (y : Table). y .height) g-own) lower (ap (λ (x : ℕ). x + 1) (held-is ws ar honest G));
+          consistent = ranges-of (tableTotal ws) (itemTotal ws) (tableOf ws) g′ (itemOf ws ar) G h (honest .consistent) (placed-word ws G ∙ guest-free) (omega arith)
+              (λ x l ne. g-other x ne) (λ x l. g-sep x) (ap (λ (y : Table). y .placed) g-its) (ap (λ (y : Table). y .height) g-its) lower (ap (λ (x : ℕ). x + 1) (held-is ws ar honest G));
         }
 
     pub after : After g′ ws ar t k (stored tableKind [] G) o
@@ -179,7 +179,7 @@ module _ (ws ar : List ℕ) (honest : Honest ws ar) (t : ℕ) (k : List ℕ) (G 
         text short (stored tableKind [] G) good known
         (record {
           kind = refl;
-          guest = λ z. (refl, guest-known, ap (λ (y : Table). y .placed) g-own, (let e = ap (λ (y : Table). y .height) g-own in omega arith));
+          guest = λ z. (refl, guest-known, ap (λ (y : Table). y .placed) g-its, (let e = ap (λ (y : Table). y .height) g-its in omega arith));
         })
         alone (ltb deepest (h + 1))
 
@@ -201,10 +201,10 @@ module _ (ws ar : List ℕ) (honest : Honest ws ar) (t : ℕ) (k : List ℕ) (G 
       went = after .good yes-it
 
       bound : tableAt G + 1 + 2 ≤ length w
-      bound = let s = went .tidy .sound-memory in let few = honest .right .tables in omega arith
+      bound = let s = went .tidy .valid-memory in let few = honest .consistent .tables in omega arith
 
       small : G < 64
-      small = let few = honest .right .tables in omega arith
+      small = let few = honest .consistent .tables in omega arith
 
       before : (p : ℕ) → p < tableAt G + 1 → word done p ≡ word w p
       unfolding placeTable
@@ -229,8 +229,8 @@ module _ (ws ar : List ℕ) (honest : Honest ws ar) (t : ℕ) (k : List ℕ) (G 
       unfolding tableOf
       table-from x s p y e f z = cc
 
-      own-table : tableOf done G ≡ placed-guest
-      own-table =
+      its-table : tableOf done G ≡ placed-guest
+      its-table =
           table-from G (tableSeparator ws G) 1 h
           (before (tableAt G + 0) (omega arith) ∙ low-same (tableAt G + 0) (omega (arith, small)) (λ (e : tableAt G + 0 ≡ 3). omega arith) (λ (e : tableAt G + 0 ≡ 4). omega arith))
           (ap (word done) (sym (add-zero (tableAt G + 1))) ∙ own 0 (omega arith))
@@ -252,8 +252,8 @@ module _ (ws ar : List ℕ) (honest : Honest ws ar) (t : ℕ) (k : List ℕ) (G 
       tables x l = by-test (eqb x G) refl
         where
           by-test : (q : Bool) → eqb x G ≡ q → tableOf done x ≡ g′ x
-          by-test true e = let f = eqb-true x G e in ap (tableOf done) f ∙ own-table ∙ sym g-own ∙ ap g′ (sym f)
-          by-test false e = let few = went .right .tables in other-table x (omega arith) (eqb-false x G e) ∙ sym (g-other x (eqb-false x G e))
+          by-test true e = let f = eqb-true x G e in ap (tableOf done) f ∙ its-table ∙ sym g-its ∙ ap g′ (sym f)
+          by-test false e = let few = went .consistent .tables in other-table x (omega arith) (eqb-false x G e) ∙ sym (g-other x (eqb-false x G e))
 
       done-honest : Honest done a
       done-honest =
@@ -262,15 +262,15 @@ module _ (ws ar : List ℕ) (honest : Honest ws ar) (t : ℕ) (k : List ℕ) (G 
           let w2 = before 2 (omega arith) in
           let w3 = before 3 (omega arith) in
           let w4 = before 4 (omega arith) in
-          let few = went .right .tables in
+          let few = went .consistent .tables in
           let high : (p : ℕ) → 264 ≤ p → word done p ≡ word w p = λ p l. behind p (omega (arith, small)) in
           let t2 : tableTotal done ≤ 64 = omega arith in
           record {
             tidy = low.low-tidy w done a (went .tidy) size w0 w1 t2 w3 w4 high;
-            right =
-                subst (λ (f : ℕ → Item). Right (tableTotal done) (itemTotal done) (tableOf done) f) (sym (low.low-items w done a (went .tidy) size w0 w1 t2 w3 w4 high))
-                (subst (λ (n : ℕ). Right (tableTotal done) n (tableOf done) (itemOf w a)) (sym w3)
-                (right-grow (tableTotal w) (tableTotal done) (itemTotal w) g′ (tableOf done) (itemOf w a) (went .right) (omega arith) t2 tables (λ x l u. absurd (omega arith)) (λ x l u e. omega arith)));
+            consistent =
+                subst (λ (f : ℕ → Item). Consistent (tableTotal done) (itemTotal done) (tableOf done) f) (sym (low.low-items w done a (went .tidy) size w0 w1 t2 w3 w4 high))
+                (subst (λ (n : ℕ). Consistent (tableTotal done) n (tableOf done) (itemOf w a)) (sym w3)
+                (consistent-grow (tableTotal w) (tableTotal done) (itemTotal w) g′ (tableOf done) (itemOf w a) (went .consistent) (omega arith) t2 tables (λ x l u. absurd (omega arith)) (λ x l u e. omega arith)));
           }
 
   -- a guest that is too high is refused, and nothing is written
@@ -318,7 +318,7 @@ module _ (ws ar : List ℕ) (honest : Honest ws ar) (t : ℕ) (k : List ℕ) (G 
   deep-refused false b e x = still NotContainer
 
   deep : 7 ≤ heldHeight ws G → Nested ws ar t k G (settled G h o)
-  unfolding insertWalked
+  unfolding insertBelowPath
   deep l = deep-refused (wayOf ws ar t k .clear) (ltb deepest (h + 1)) (lt-ltb deepest (h + 1) (omega arith)) _
 
   pub nested-honest : Nested ws ar t k G (nested ws ar t k G)
@@ -326,23 +326,23 @@ module _ (ws ar : List ℕ) (honest : Honest ws ar) (t : ℕ) (k : List ℕ) (G 
   nested-honest = by-height (decLt (heldHeight ws G) 7)
     where
       by-height : Dec (heldHeight ws G < 7) → Nested ws ar t k G (settled G h o)
-      by-height (yes l) = settle o (done-honest l) (λ y. ap (λ (z : Table). z .placed) (own-table l y)) (λ e. after l .same e)
+      by-height (yes l) = settle o (done-honest l) (λ y. ap (λ (z : Table). z .placed) (its-table l y)) (λ e. after l .same e)
       by-height (no l) = deep (omega arith)
 
 module _ (ws ar : List ℕ) (honest : Honest ws ar) (t : ℕ) (k : List ℕ) (G : ℕ) where
-  pub nest-right : Nested ws ar t k G (insertTable ws ar t k G)
-  unfolding insertTable tableSound keyed
-  nest-right =
+  pub nest-consistent : Nested ws ar t k G (insertTable ws ar t k G)
+  unfolding insertTable nestAtKey keyed
+  nest-consistent =
       let same : (why : Refusal) → Nested ws ar t k G (refused why ws ar) = λ why. record { honest = honest; placed = λ z. false-true z; same = λ z. refl } in
       let row = stays-by ws ar t k G in
-      row (sound ws (length ar)) _ _ (λ a.
-      row (takes ws t) _ _ (λ b.
-      row (takes ws G) _ _ (λ c.
+      row (valid ws (length ar)) _ _ (λ a.
+      row (freeStanding ws t) _ _ (λ b.
+      row (freeStanding ws G) _ _ (λ c.
       row (eqb t G) _ _ (λ d. same TableInItself) (λ d.
       row (isUtf8 k) _ _ (λ e.
       row (ltb longestKey (length k)) _ _ (λ f. same KeyTooLong) (λ f.
-      let r = takes-facts ws t b in
-      let s = takes-facts ws G c in
+      let r = free-standing-facts ws t b in
+      let s = free-standing-facts ws G c in
       nested-honest ws ar honest t k G (r .0) (r .1) (s .0) (s .1) (eqb-false t G d) e (ltb-false longestKey (length k) f)))
       (λ e. same KeyNotUtf8)))
       (λ c. same TableUnknown))
@@ -350,4 +350,4 @@ module _ (ws ar : List ℕ) (honest : Honest ws ar) (t : ℕ) (k : List ℕ) (G 
       (λ a. same MemoryBroken)
 
   pub nest-honest : Honest (insertTable ws ar t k G .after .words) (insertTable ws ar t k G .after .arena)
-  nest-honest = nest-right .honest
+  nest-honest = nest-consistent .honest

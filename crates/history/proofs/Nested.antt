@@ -15,11 +15,11 @@ use Rattle.model.specs.Builder.{longestKey, deepest}
 use Rattle.build_memory.specs.Memory.{word, tableAt, tableTotal, itemTotal, tableSeparator, tablePlaced, valueKind, tableKind, Outcome}
 use Rattle.build_memory.specs.Find.{findKey}
 use Rattle.build_memory.specs.Item.{Stored, stored}
-use Rattle.build_tables.specs.Table.{takes}
-use Rattle.build_tables.proofs.TableLaws.{takes-facts}
+use Rattle.build_tables.specs.Table.{freeStanding}
+use Rattle.build_tables.proofs.TableLaws.{free-standing-facts}
 use Rattle.build_values.specs.Walk.{wayOf}
-use Rattle.build_values.specs.Insert.{refused, insertWalked, keyed}
-use Rattle.build_nested.specs.Nest.{heldHeight, placeTable, whenAccepted, settled, nested, tableSound, insertTable}
+use Rattle.build_values.specs.Insert.{refused, insertBelowPath, keyed}
+use Rattle.build_nested.specs.Nest.{heldHeight, placeTable, whenAccepted, settled, nested, nestAtKey, insertTable}
 use mathlib.Core.List.{List, [], _∷_, _++_}
 use lib.ListN.{length, set}
 use Rattle.words.specs.Choice.{pick}
@@ -29,8 +29,8 @@ use Rattle.model.specs.Table.{Content, Entry, entryAt, noItem, isContainer}
 use Rattle.model.specs.Walk.{Walked, walk, isThere, entry}
 use Rattle.model.specs.Walk as seen
 use Rattle.model.specs.Builder as told
-use Rattle.model.specs.Builder.{Builder, Shelf, shelfAt, Result, put, atWalked}
-use Rattle.build_memory.specs.Meaning.{entryOf, shelfOf, listed, meaning}
+use Rattle.model.specs.Builder.{Builder, Standing, standingAt, Result, put, atWalked}
+use Rattle.build_memory.specs.Meaning.{entryOf, standingOf, listed, meaning}
 use Rattle.history.specs.Items.{Table, tableOf}
 use Rattle.history.specs.Tidy.{Tidy}
 use Rattle.history.specs.Honest.{Honest}
@@ -40,11 +40,11 @@ use Rattle.history.proofs.Grow.{lows-two}
 use Rattle.history.proofs.Calls.{accepted}
 use Rattle.history.proofs.Value.{sep-same, placed-word}
 use Rattle.history.proofs.Nest as nest
-use Rattle.history.proofs.History.{honest-sound}
+use Rattle.history.proofs.History.{honest-valid}
 use Rattle.history.proofs.Meaning.{contentFrom, entryFrom, entry-is, itemsOf, tablesOf, builder-same, listed-set, listed-cong}
-use Rattle.history.proofs.Alike.{Alike, alike-pick, alike-refused, meant-shelf, walked-alike}
+use Rattle.history.proofs.Alike.{Alike, alike-pick, alike-refused, meant-standing, walked-alike}
 use Rattle.history.proofs.Height.{height-same}
-use Rattle.history.proofs.Model.{takes-same, keyed-alike}
+use Rattle.history.proofs.Model.{free-standing-same, keyed-alike}
 
 -- ---- a table placed
 
@@ -65,7 +65,7 @@ module _ (w a : List ℕ) (tidy : Tidy w a) (G h : ℕ) (known : G < tableTotal 
 
   mark : tablePlaced done G ≡ 1
   unfolding placeTable
-  mark = let s = tidy .sound-memory in ap (word done) (sym (add-zero (tableAt G + 1))) ∙ get-put w (tableAt G + 1) row 0 (omega arith) (omega arith)
+  mark = let s = tidy .valid-memory in ap (word done) (sym (add-zero (tableAt G + 1))) ∙ get-put w (tableAt G + 1) row 0 (omega arith) (omega arith)
 
   side : (x f : ℕ) → f < 3 → (x ≡ G → ⊥) → word done (tableAt x + f) ≡ word w (tableAt x + f)
   side x f l ne = by-side (decLt x G)
@@ -74,32 +74,32 @@ module _ (w a : List ℕ) (tidy : Tidy w a) (G h : ℕ) (known : G < tableTotal 
       by-side (yes u) = before (tableAt x + f) (omega arith)
       by-side (no u) = behind (tableAt x + f) (omega arith)
 
-  abbrev shelf : Shelf
-  shelf = record { separator = tableSeparator w G; placed = true }
+  abbrev standing : Standing
+  standing = record { separator = tableSeparator w G; placed = true }
 
-  other-shelf : (x : ℕ) → (x ≡ G → ⊥) → shelfOf done x ≡ shelfOf w x
-  unfolding shelfOf
-  other-shelf x ne =
+  other-standing : (x : ℕ) → (x ≡ G → ⊥) → standingOf done x ≡ standingOf w x
+  unfolding standingOf
+  other-standing x ne =
       let e = side x 0 (omega arith) ne in
       let f = side x 1 (omega arith) ne in
       cc
 
-  own-shelf : shelfOf done G ≡ shelf
-  unfolding shelfOf
-  own-shelf =
+  its-standing : standingOf done G ≡ standing
+  unfolding standingOf
+  its-standing =
       let e = before (tableAt G + 0) (omega arith) in
       let f : not (eqb (tablePlaced done G) 0) ≡ true = ap (λ (n : ℕ). not (eqb n 0)) mark in
       cc
 
-  tables-placed : tablesOf done ≡ set (tablesOf w) G shelf
+  tables-placed : tablesOf done ≡ set (tablesOf w) G standing
   tables-placed =
-      ap (listed (shelfOf done)) (before 2 (omega arith))
-      ∙ listed-set (shelfOf w) (shelfOf done) (tableTotal w) G shelf known (λ x l ne. other-shelf x ne) own-shelf
+      ap (listed (standingOf done)) (before 2 (omega arith))
+      ∙ listed-set (standingOf w) (standingOf done) (tableTotal w) G standing known (λ x l ne. other-standing x ne) its-standing
 
   items-placed : itemsOf done a ≡ itemsOf w a
   unfolding placeTable
   items-placed =
-      let few = tidy .sound-memory .tables in
+      let few = tidy .valid-memory .tables in
       let e2 = before 2 (omega arith) in
       let t2 : tableTotal done ≤ 64 = omega arith in
       ap (listed (entryOf done a)) (before 3 (omega arith))
@@ -109,14 +109,14 @@ module _ (w a : List ℕ) (tidy : Tidy w a) (G h : ℕ) (known : G < tableTotal 
       (λ p u. behind p (omega arith)) i)
       ∙ sym (entry-is w a i))
 
-  shelf-is-told : record { separator = shelfAt (meaning w a) G .separator; placed = true } ≡ shelf
-  unfolding shelfOf
-  shelf-is-told = ap (λ (s : Shelf). record { separator = s .separator; placed = true }) (meant-shelf w a G known)
+  standing-is-told : record { separator = standingAt (meaning w a) G .separator; placed = true } ≡ standing
+  unfolding standingOf
+  standing-is-told = ap (λ (s : Standing). record { separator = s .separator; placed = true }) (meant-standing w a G known)
 
   pub meaning-placed : meaning done a ≡ told.place (meaning w a) G
   unfolding told.place meaning
   meaning-placed =
-      builder-same refl (before 4 (omega arith)) (tables-placed ∙ ap (set (tablesOf w) G) (sym shelf-is-told)) items-placed
+      builder-same refl (before 4 (omega arith)) (tables-placed ∙ ap (set (tablesOf w) G) (sym standing-is-told)) items-placed
 
 settled-by : (G h : ℕ) (o : Outcome Inserted) (r : Result Inserted) → Alike o r
     → (accepted (o .answer) ≡ true → Tidy (o .after .words) (o .after .arena) × (G < tableTotal (o .after .words))) → (x : Inserted) → o .answer ≡ x
@@ -171,8 +171,8 @@ put-deep : (m : Builder) (t : ℕ) (key : List ℕ) (size : ℕ) (c c′ : Conte
 unfolding put
 put-deep m t key size c c′ = deep-same m t key size c c′ _ (m .items) noItem
 
-walked-deep : (ws ar : List ℕ) (t : ℕ) (k : List ℕ) (c c′ : Stored) → insertWalked ws ar t k c true ≡ insertWalked ws ar t k c′ true
-unfolding insertWalked pick
+walked-deep : (ws ar : List ℕ) (t : ℕ) (k : List ℕ) (c c′ : Stored) → insertBelowPath ws ar t k c true ≡ insertBelowPath ws ar t k c′ true
+unfolding insertBelowPath pick
 walked-deep ws ar t k c c′ = refl
 
 table-content : (G : ℕ) → contentFrom tableKind [] G ≡ Content.nested G
@@ -203,30 +203,30 @@ module _ (ws ar : List ℕ) (honest : Honest ws ar) (t : ℕ) (k : List ℕ) (G 
   abbrev g′ : ℕ → Table
   g′ = nest.g′ ws ar honest t k G known free guest-known guest-free two text short
 
-  g-own : g′ G ≡ record { sep = tableSeparator ws G; placed = 1; height = high }
-  g-own = nest.g-own ws ar honest t k G known free guest-known guest-free two text short
+  g-its : g′ G ≡ record { sep = tableSeparator ws G; placed = 1; height = high }
+  g-its = nest.g-its ws ar honest t k G known free guest-known guest-free two text short
 
-  shallow-alike : heldHeight ws G < 7 → Alike (insertWalked ws ar t k c (ltb deepest (high + 1))) (put m t k (Content.nested G) 0 (ltb deepest (high + 1)))
+  shallow-alike : heldHeight ws G < 7 → Alike (insertBelowPath ws ar t k c (ltb deepest (high + 1))) (put m t k (Content.nested G) 0 (ltb deepest (high + 1)))
   shallow-alike low =
-      subst (λ (x : Content). Alike (insertWalked ws ar t k c (ltb deepest (high + 1))) (put m t k x 0 (ltb deepest (high + 1)))) (table-content G)
+      subst (λ (x : Content). Alike (insertBelowPath ws ar t k c (ltb deepest (high + 1))) (put m t k x 0 (ltb deepest (high + 1)))) (table-content G)
       (walked-alike g′ ws ar t k G (nest.g-sep ws ar honest t k G known free guest-known guest-free two text short t ∙ sep-same ws t)
       (λ p. let z : _≡_ {A = ℕ} 1 0 = sym p ∙ ap (λ (y : Table). y .placed) (nest.g-other ws ar honest t k G known free guest-known guest-free two text short t two) ∙ placed-word ws t ∙ free in omega arith)
       text short c (nest.good ws ar honest t k G known free guest-known guest-free two text short low) known
-      (record { kind = refl; guest = λ z. (refl, guest-known, ap (λ (y : Table). y .placed) g-own, (let e = ap (λ (y : Table). y .height) g-own in omega arith)) })
+      (record { kind = refl; guest = λ z. (refl, guest-known, ap (λ (y : Table). y .placed) g-its, (let e = ap (λ (y : Table). y .height) g-its in omega arith)) })
       (nest.alone ws ar honest t k G known free guest-known guest-free two text short) (ltb deepest (high + 1)))
 
-  deep-alike : Alike (insertWalked ws ar t k c true) (put m t k (Content.nested G) 0 true)
+  deep-alike : Alike (insertBelowPath ws ar t k c true) (put m t k (Content.nested G) 0 true)
   deep-alike =
-      subst (Alike (insertWalked ws ar t k c true)) (put-deep m t k 0 (contentFrom valueKind [] 0) (Content.nested G))
+      subst (Alike (insertBelowPath ws ar t k c true)) (put-deep m t k 0 (contentFrom valueKind [] 0) (Content.nested G))
       (subst (λ (o : Outcome Inserted). Alike o (put m t k (contentFrom valueKind [] 0) 0 true)) (walked-deep ws ar t k (stored valueKind [] 0) c)
       (walked-alike (tableOf ws) ws ar t k 64 (sep-same ws t)
       (λ p. let z : _≡_ {A = ℕ} 1 0 = sym p ∙ placed-word ws t ∙ free in omega arith)
       text short (stored valueKind [] 0) honest known
       (record { kind = refl; guest = λ (z : _≡_ {A = ℕ} 118 72). absurd (omega arith) })
-      (λ i l x y. let g = honest .right .guests i l x .0 in let few = honest .right .tables in omega arith) true))
+      (λ i l x y. let g = honest .consistent .guests i l x .0 in let few = honest .consistent .tables in omega arith) true))
 
-  deep-refused : (q : Bool) → q ≡ true → accepted (insertWalked ws ar t k c q .answer) ≡ true → ⊥
-  unfolding insertWalked
+  deep-refused : (q : Bool) → q ≡ true → accepted (insertBelowPath ws ar t k c q .answer) ≡ true → ⊥
+  unfolding insertBelowPath
   deep-refused q e a = no-by (wayOf ws ar t k .clear) q e _ a
     where
       no-by : (p q : Bool) → q ≡ true → (x : Outcome Inserted) → accepted (pick p (pick q (refused NestedTooDeep ws ar) x) (refused NotContainer ws ar) .answer) ≡ true → ⊥
@@ -241,30 +241,30 @@ module _ (ws ar : List ℕ) (honest : Honest ws ar) (t : ℕ) (k : List ℕ) (G 
       subst (λ (b : Bool). Alike (nested ws ar t k G) (told.settled G (put m t k (Content.nested G) 0 b))) (sym height-told) (by-height (decLt (heldHeight ws G) 7))
     where
       by-height : Dec (heldHeight ws G < 7)
-          → Alike (settled G high (insertWalked ws ar t k c (ltb deepest (high + 1)))) (told.settled G (put m t k (Content.nested G) 0 (ltb deepest (high + 1))))
+          → Alike (settled G high (insertBelowPath ws ar t k c (ltb deepest (high + 1)))) (told.settled G (put m t k (Content.nested G) 0 (ltb deepest (high + 1))))
       by-height (yes low) =
           let after = nest.after ws ar honest t k G known free guest-known guest-free two text short low in
           settled-alike G high _ _ (shallow-alike low)
-          (λ a. (after .good a .tidy, (let e = lows-two ws (insertWalked ws ar t k c (ltb deepest (high + 1)) .after .words) (after .lows) in omega arith)))
+          (λ a. (after .good a .tidy, (let e = lows-two ws (insertBelowPath ws ar t k c (ltb deepest (high + 1)) .after .words) (after .lows) in omega arith)))
       by-height (no l) =
           let e : ltb deepest (high + 1) ≡ true = lt-ltb deepest (high + 1) (omega arith) in
           settled-alike G high _ _
-          (subst (λ (b : Bool). Alike (insertWalked ws ar t k c b) (put m t k (Content.nested G) 0 b)) (sym e) deep-alike)
+          (subst (λ (b : Bool). Alike (insertBelowPath ws ar t k c b) (put m t k (Content.nested G) 0 b)) (sym e) deep-alike)
           (λ a. absurd (deep-refused (ltb deepest (high + 1)) e a))
 
 pub nest-alike : (ws ar : List ℕ) → Honest ws ar → (t : ℕ) (k : List ℕ) (G : ℕ)
     → Alike (insertTable ws ar t k G) (told.insertTable (meaning ws ar) t k G)
-unfolding insertTable tableSound told.insertTable
+unfolding insertTable nestAtKey told.insertTable
 nest-alike ws ar honest t k G =
-    subst (λ (o : Outcome Inserted). Alike o (told.insertTable (meaning ws ar) t k G)) (sym (pick-true _ _ (honest-sound ws ar honest)))
-    (subst (λ (b : Bool). Alike (tableSound ws ar t k G) (pick b (rest (told.takes (meaning ws ar) G)) (told.refused TableUnknown (meaning ws ar)))) (takes-same ws ar t)
-    (subst (λ (b : Bool). Alike (tableSound ws ar t k G) (pick (takes ws t) (rest b) (told.refused TableUnknown (meaning ws ar)))) (takes-same ws ar G)
-    (alike-pick (takes ws t) _ _ _ _ (λ a.
-    alike-pick (takes ws G) _ _ _ _ (λ b.
+    subst (λ (o : Outcome Inserted). Alike o (told.insertTable (meaning ws ar) t k G)) (sym (pick-true _ _ (honest-valid ws ar honest)))
+    (subst (λ (b : Bool). Alike (nestAtKey ws ar t k G) (pick b (rest (told.freeStanding (meaning ws ar) G)) (told.refused TableUnknown (meaning ws ar)))) (free-standing-same ws ar t)
+    (subst (λ (b : Bool). Alike (nestAtKey ws ar t k G) (pick (freeStanding ws t) (rest b) (told.refused TableUnknown (meaning ws ar)))) (free-standing-same ws ar G)
+    (alike-pick (freeStanding ws t) _ _ _ _ (λ a.
+    alike-pick (freeStanding ws G) _ _ _ _ (λ b.
     alike-pick (eqb t G) _ _ _ _ (λ d. alike-refused TableInItself ws ar)
     (λ d. keyed-alike ws ar k _ _ (λ text short.
-    let r = takes-facts ws t a in
-    let s = takes-facts ws G b in
+    let r = free-standing-facts ws t a in
+    let s = free-standing-facts ws G b in
     nested-alike ws ar honest t k G (r .0) (r .1) (s .0) (s .1) (eqb-false t G d) text short)))
     (λ b. alike-refused TableUnknown ws ar))
     (λ a. alike-refused TableUnknown ws ar))))

@@ -32,11 +32,11 @@ module _ (ws ar : List ℕ) (i : ℕ) (c : Stored) (tidy : Tidy ws ar) (there : 
   counts = itemTotal ws ∷ (roomUsed ws + length (c .value)) ∷ []
 
   one-length : length one ≡ length ws
-  one-length = let s = tidy .sound-memory in length-put ws (itemAt i + 6) row
+  one-length = let s = tidy .valid-memory in length-put ws (itemAt i + 6) row
 
   pub old-length : length (m .words) ≡ length ws
   unfolding replaceItem
-  old-length = let s = tidy .sound-memory in length-put one 3 counts ∙ one-length
+  old-length = let s = tidy .valid-memory in length-put one 3 counts ∙ one-length
 
   pub old-arena : length (m .arena) ≡ length ar
   unfolding replaceItem
@@ -44,28 +44,28 @@ module _ (ws ar : List ℕ) (i : ℕ) (c : Stored) (tidy : Tidy ws ar) (there : 
 
   pub old-three : itemTotal (m .words) ≡ itemTotal ws
   unfolding replaceItem
-  old-three = let s = tidy .sound-memory in get-put one 3 counts 0 (omega (arith, one-length)) (omega arith)
+  old-three = let s = tidy .valid-memory in get-put one 3 counts 0 (omega (arith, one-length)) (omega arith)
 
   pub old-four : roomUsed (m .words) ≡ roomUsed ws + length (c .value)
   unfolding replaceItem
-  old-four = let s = tidy .sound-memory in get-put one 3 counts 1 (omega (arith, one-length)) (omega arith)
+  old-four = let s = tidy .valid-memory in get-put one 3 counts 1 (omega (arith, one-length)) (omega arith)
 
   high : (p : ℕ) → 5 ≤ p → word (m .words) p ≡ word one p
   unfolding replaceItem
-  high p h = let s = tidy .sound-memory in get-after one 3 counts p (omega arith)
+  high p h = let s = tidy .valid-memory in get-after one 3 counts p (omega arith)
 
   low : (p : ℕ) → p < 3 → word (m .words) p ≡ word ws p
   unfolding replaceItem
   low p h =
-      let s = tidy .sound-memory in
+      let s = tidy .valid-memory in
       get-before one 3 counts p h ∙ get-before ws (itemAt i + 6) row p (omega arith)
 
   -- a word before what the record holds is as it was
   before : (p : ℕ) → 5 ≤ p → p < itemAt i + 6 → word (m .words) p ≡ word ws p
-  before p h l = let s = tidy .sound-memory in high p h ∙ get-before ws (itemAt i + 6) row p l
+  before p h l = let s = tidy .valid-memory in high p h ∙ get-before ws (itemAt i + 6) row p l
 
   behind : (p : ℕ) → itemAt i + 10 ≤ p → word (m .words) p ≡ word ws p
-  behind p l = let s = tidy .sound-memory in high p (omega arith) ∙ get-after ws (itemAt i + 6) row p (omega arith)
+  behind p l = let s = tidy .valid-memory in high p (omega arith) ∙ get-after ws (itemAt i + 6) row p (omega arith)
 
   pub old-table-word : (p : ℕ) → p < 264 → (p ≡ 3 → ⊥) → (p ≡ 4 → ⊥) → word (m .words) p ≡ word ws p
   old-table-word p h n3 n4 = by-side (decLt p 3)
@@ -75,7 +75,7 @@ module _ (ws ar : List ℕ) (i : ℕ) (c : Stored) (tidy : Tidy ws ar) (there : 
       by-side (no b) = before p (omega arith) (omega arith)
 
   own : (f : ℕ) → f < 4 → word (m .words) (itemAt i + 6 + f) ≡ word row f
-  own f h = let s = tidy .sound-memory in high (itemAt i + 6 + f) (omega arith) ∙ get-put ws (itemAt i + 6) row f (omega arith) h
+  own f h = let s = tidy .valid-memory in high (itemAt i + 6 + f) (omega arith) ∙ get-put ws (itemAt i + 6) row f (omega arith) h
 
   -- where an item stands is as it was, its own too
   place-word : (j f : ℕ) → f < 6 → word (m .words) (itemAt j + f) ≡ word ws (itemAt j + f)
@@ -146,7 +146,7 @@ module _ (ws ar : List ℕ) (i : ℕ) (c : Stored) (tidy : Tidy ws ar) (there : 
 
   pub old-tidy : Tidy (m .words) (m .arena)
   old-tidy =
-      let s = tidy .sound-memory in
+      let s = tidy .valid-memory in
       let lw = old-length in
       let la = old-arena in
       let w0 = low 0 (omega arith) in
@@ -155,7 +155,7 @@ module _ (ws ar : List ℕ) (i : ℕ) (c : Stored) (tidy : Tidy ws ar) (there : 
       let w3 = old-three in
       let w4 = old-four in
       record {
-        sound-memory = record { long = omega arith; words = omega arith; room = omega arith; tables = omega arith; items = omega arith; used = omega arith };
+        valid-memory = record { long = omega arith; words = omega arith; room = omega arith; tables = omega arith; items = omega arith; used = omega arith };
         keys = λ j l. omega (arith, tidy .keys j (subst (λ (x : ℕ). j < x) w3 l), place-word j 3 (omega arith), place-word j 4 (omega arith));
         values = λ j l. value-by j (subst (λ (x : ℕ). j < x) w3 l) (eqb j i) refl;
         hashes = λ j l. let h = subst (λ (x : ℕ). j < x) w3 l in place-word j 1 (omega arith) ∙ tidy .hashes j h ∙ ap hashOf (sym (same-key j h));

@@ -18,7 +18,7 @@ use Rattle.build_memory.specs.Item.{stored, kindOf, makeItem}
 use Rattle.build_memory.proofs.MadeLaws.{made-arena}
 use Rattle.build_values.specs.declared.walk.Way.{Way}
 use Rattle.build_values.specs.Walk.{way, descend, sum}
-use Rattle.build_values.specs.Insert.{Laid, containers}
+use Rattle.build_values.specs.Insert.{Extended, containers}
 use Rattle.build_nested.specs.Nest.{nested}
 use mathlib.Core.List.{List, [], _∷_, _++_, append-assoc}
 use lib.ListN.{length, take}
@@ -98,7 +98,7 @@ module _ (g : ℕ → Table) (ws ar : List ℕ) (good : Good g ws ar) (t sep : �
   pub box-same : (i : ℕ) → i < itemTotal ws → isContainer (entryAt items i .content) ≡ eqb (itemKind ws i) containerKind
   box-same i h =
       let x = itemOf ws ar i in
-      ap (λ (e : Entry). isContainer (e .content)) (item-at ws ar i h) ∙ ap isContainer (entry-content x) ∙ box-content (x .kind) (x .value) (x .guest) (good .right .kinds i h)
+      ap (λ (e : Entry). isContainer (e .content)) (item-at ws ar i h) ∙ ap isContainer (entry-content x) ∙ box-content (x .kind) (x .value) (x .guest) (good .consistent .kinds i h)
       ∙ ap (λ (n : ℕ). eqb n containerKind) (kind-of ws ar i)
 
   fall-step : (from parent : ℕ) → from ≤ length k → ((f p : ℕ) → from < f → f ≤ length k → Falls f p) → Falls from parent
@@ -129,14 +129,14 @@ module _ (g : ℕ → Table) (ws ar : List ℕ) (good : Good g ws ar) (t sep : �
           subst (Down from parent) (walk-block sep k from h e refl ws ar t parent u i is l (eqb-false (itemKind ws i) containerKind q))
           (record { clear = λ z. false-true z; shut = λ z. way.walk-blocks sep k from h t c items (aboveOf parent) e refl u (r .0) box })
 
-      by-place : nextEnd sep k from < length k → Dec (findKey ws ar t (take (nextEnd sep k from) k) < itemTotal ws) → Falls from parent
-      by-place u (yes l) =
+      by-field : nextEnd sep k from < length k → Dec (findKey ws ar t (take (nextEnd sep k from) k) < itemTotal ws) → Falls from parent
+      by-field u (yes l) =
           by-kind (findKey ws ar t (take (nextEnd sep k from) k)) refl l u (eqb (itemKind ws (findKey ws ar t (take (nextEnd sep k from) k))) containerKind) refl
-      by-place u (no l) =
+      by-field u (no l) =
           subst (Down from parent) (walk-miss sep k from h (nextEnd sep k from) refl ws ar t parent u (findKey ws ar t (take (nextEnd sep k from) k)) refl (omega arith)) stop
 
       by-end : Dec (nextEnd sep k from < length k) → Falls from parent
-      by-end (yes u) = by-place u (decLt (findKey ws ar t (take (nextEnd sep k from) k)) (itemTotal ws))
+      by-end (yes u) = by-field u (decLt (findKey ws ar t (take (nextEnd sep k from) k)) (itemTotal ws))
       by-end (no u) = subst (Down from parent) (walk-end sep k from h (nextEnd sep k from) refl ws ar t parent (omega arith)) stop
 
   fall-fuel : (fuel from parent : ℕ) → length k ≤ from + fuel → from ≤ length k → Falls from parent
@@ -157,7 +157,7 @@ module _ (g : ℕ → Table) (t : ℕ) (k : List ℕ) (sep G : ℕ) (sep-is : g 
   abbrev Here : List ℕ → List ℕ → ℕ → ℕ → Type 0
   Here ws ar parent from = At g t k sep G sep-is loose text short ws ar parent from
 
-  abbrev Adds : List ℕ → List ℕ → ℕ → ℕ → Laid → Type 0
+  abbrev Adds : List ℕ → List ℕ → ℕ → ℕ → Extended → Type 0
   Adds ws ar parent from l =
       itemsOf (l .after .words) (l .after .arena) ++ (entry t k c (aboveOf (l .parent)) ∷ []) ≡ itemsOf ws ar ++ way.newEntries t k c (endsPast sep k from) (itemTotal ws) (aboveOf parent)
 
@@ -207,6 +207,6 @@ module _ (g : ℕ → Table) (t : ℕ) (k : List ℕ) (sep G : ℕ) (sep-is : g 
   lay-fuel zero ws ar parent from b at few room = lay-step ws ar parent from at few room (λ w a p f l z x y. absurd (let h = z .above .within in omega arith))
   lay-fuel (suc fuel) ws ar parent from b at few room = lay-step ws ar parent from at few room (λ w a p f l z x y. lay-fuel fuel w a p f (omega arith) z x y)
 
-  pub laid-entries : (ws ar : List ℕ) (parent from : ℕ) → Here ws ar parent from → itemTotal ws + length (endsPast sep k from) ≤ mostItems
+  pub extended-entries : (ws ar : List ℕ) (parent from : ℕ) → Here ws ar parent from → itemTotal ws + length (endsPast sep k from) ≤ mostItems
       → roomUsed ws + sum (endsPast sep k from) ≤ length ar → Lays ws ar parent from
-  laid-entries ws ar parent from at few room = lay-fuel (length k) ws ar parent from (omega arith) at few room
+  extended-entries ws ar parent from at few room = lay-fuel (length k) ws ar parent from (omega arith) at few room

@@ -14,19 +14,19 @@ use Rattle.words.proofs.ChoiceLaws.{pick-with}
 use Rattle.words.proofs.StoreLaws.{length-put, get-put, get-before, get-after}
 use Rattle.text.specs.Utf8.{isUtf8}
 use Rattle.model.specs.declared.Inserted.{Inserted}
-use Rattle.model.specs.declared.Numbered.{Numbered}
+use Rattle.model.specs.declared.Added.{Added}
 use Rattle.model.specs.Builder.{mostTables, longestKey, separatorOf}
-use Rattle.build_memory.specs.Memory.{word, leastWords, tableAt, tableTotal, itemTotal, tableSeparator, tablePlaced, tableHeight, valueKind, sound, freshWords, Memory, Outcome}
+use Rattle.build_memory.specs.Memory.{word, leastWords, tableAt, tableTotal, itemTotal, tableSeparator, tablePlaced, tableHeight, valueKind, valid, freshWords, Memory, Outcome}
 use Rattle.build_memory.specs.Item.{Stored, stored}
-use Rattle.build_tables.specs.Table.{takes, addTable, newTable}
-use Rattle.build_tables.proofs.TableLaws.{takes-facts}
-use Rattle.build_values.specs.Insert.{keyed, insertSound, insertValue}
+use Rattle.build_tables.specs.Table.{freeStanding, addTable, newTable}
+use Rattle.build_tables.proofs.TableLaws.{free-standing-facts}
+use Rattle.build_values.specs.Insert.{keyed, insertAtKey, insertValue}
 use Rattle.history.specs.Items.{Item, itemOf, Table, tableOf}
-use Rattle.history.specs.Right.{Right}
+use Rattle.history.specs.Consistent.{Consistent}
 use Rattle.layout.specs.declared.refusal.Refusal.the-variants.{MemoryBroken, TableUnknown, KeyNotUtf8, KeyTooLong}
 use Rattle.history.specs.Honest.{Honest}
 use Rattle.history.proofs.Low as low
-use Rattle.history.proofs.Right.{right-grow, right-none}
+use Rattle.history.proofs.Consistent.{consistent-grow, consistent-none}
 use Rattle.history.proofs.Grow.{Lows}
 use Rattle.history.proofs.Calls.{accepted, After, after-not, after-where, walked-after}
 
@@ -61,11 +61,11 @@ after-honest ws ar t k c o honest after = by-answer (accepted (o .answer)) refl
     by-answer : (q : Bool) → accepted (o .answer) ≡ q → Honest (o .after .words) (o .after .arena)
     by-answer true e =
         let good = after .good e in
-        let few = good .right .tables in
+        let few = good .consistent .tables in
         record {
           tidy = good .tidy;
-          right = right-grow (tableTotal (o .after .words)) (tableTotal (o .after .words)) (itemTotal (o .after .words)) (tableOf ws) (tableOf (o .after .words)) (itemOf (o .after .words) (o .after .arena))
-              (good .right) (omega arith) few (λ t l. lows-table ws (o .after .words) (after .lows) t (omega arith)) (λ t l u. absurd (omega arith)) (λ t l u e. omega arith);
+          consistent = consistent-grow (tableTotal (o .after .words)) (tableTotal (o .after .words)) (itemTotal (o .after .words)) (tableOf ws) (tableOf (o .after .words)) (itemOf (o .after .words) (o .after .arena))
+              (good .consistent) (omega arith) few (λ t l. lows-table ws (o .after .words) (after .lows) t (omega arith)) (λ t l u. absurd (omega arith)) (λ t l u e. omega arith);
         }
     by-answer false e = subst (λ (m : Memory). Honest (m .words) (m .arena)) (sym (after .same e)) honest
 
@@ -81,17 +81,17 @@ module _ (ws ar : List ℕ) (honest : Honest ws ar) (t : ℕ) (k v : List ℕ) w
   c = stored valueKind v 0
 
   pub value-after : After (tableOf ws) ws ar t k c (insertValue ws ar t k v)
-  unfolding insertValue insertSound
+  unfolding insertValue insertAtKey
   value-after =
-      after-where (tableOf ws) ws ar t k c (sound ws (length ar)) MemoryBroken _ (λ a.
-      after-where (tableOf ws) ws ar t k c (takes ws t) TableUnknown _ (λ b.
+      after-where (tableOf ws) ws ar t k c (valid ws (length ar)) MemoryBroken _ (λ a.
+      after-where (tableOf ws) ws ar t k c (freeStanding ws t) TableUnknown _ (λ b.
       keyed-after (tableOf ws) ws ar t k c _ (λ text short.
-      let free = takes-facts ws t b in
+      let free = free-standing-facts ws t b in
       walked-after (tableOf ws) ws ar t k 64 (sep-same ws t)
       (λ p. let z : _≡_ {A = ℕ} 1 0 = sym p ∙ placed-word ws t ∙ free .1 in omega arith)
       text short c honest (free .0)
       (record { kind = refl; guest = λ (z : _≡_ {A = ℕ} 118 72). absurd (omega arith) })
-      (λ i l x y. let g = honest .right .guests i l x .0 in let few = honest .right .tables in omega arith) false)))
+      (λ i l x y. let g = honest .consistent .guests i l x .0 in let few = honest .consistent .tables in omega arith) false)))
 
   pub value-honest : Honest (insertValue ws ar t k v .after .words) (insertValue ws ar t k v .after .arena)
   value-honest = after-honest ws ar t k c (insertValue ws ar t k v) honest value-after
@@ -108,40 +108,40 @@ module _ (ws ar : List ℕ) (sep : ℕ) (honest : Honest ws ar) (few : tableTota
   tabled = putAt first 2 ((tableTotal ws + 1) ∷ [])
 
   first-length : length first ≡ length ws
-  first-length = let s = honest .tidy .sound-memory in length-put ws (tableAt (tableTotal ws)) row
+  first-length = let s = honest .tidy .valid-memory in length-put ws (tableAt (tableTotal ws)) row
 
   -- a word before the new table, the count left aside
   pub kept-low : (p : ℕ) → p < tableAt (tableTotal ws) → (p ≡ 2 → ⊥) → word tabled p ≡ word ws p
-  kept-low p h ne = by-side (decLt p 2) ∙ (let s = honest .tidy .sound-memory in get-before ws (tableAt (tableTotal ws)) row p h)
+  kept-low p h ne = by-side (decLt p 2) ∙ (let s = honest .tidy .valid-memory in get-before ws (tableAt (tableTotal ws)) row p h)
     where
       by-side : Dec (p < 2) → word tabled p ≡ word first p
-      by-side (yes l) = let s = honest .tidy .sound-memory in get-before first 2 ((tableTotal ws + 1) ∷ []) p l
-      by-side (no l) = let s = honest .tidy .sound-memory in get-after first 2 ((tableTotal ws + 1) ∷ []) p (omega arith)
+      by-side (yes l) = let s = honest .tidy .valid-memory in get-before first 2 ((tableTotal ws + 1) ∷ []) p l
+      by-side (no l) = let s = honest .tidy .valid-memory in get-after first 2 ((tableTotal ws + 1) ∷ []) p (omega arith)
 
   pub kept-high : (p : ℕ) → 264 ≤ p → word tabled p ≡ word ws p
   kept-high p h =
-      let s = honest .tidy .sound-memory in
+      let s = honest .tidy .valid-memory in
       get-after first 2 ((tableTotal ws + 1) ∷ []) p (omega arith)
       ∙ get-after ws (tableAt (tableTotal ws)) row p (omega arith)
 
   pub two : tableTotal tabled ≡ tableTotal ws + 1
-  two = let s = honest .tidy .sound-memory in get-put first 2 ((tableTotal ws + 1) ∷ []) 0 (omega (arith, first-length)) (omega arith)
+  two = let s = honest .tidy .valid-memory in get-put first 2 ((tableTotal ws + 1) ∷ []) 0 (omega (arith, first-length)) (omega arith)
 
   pub three : itemTotal tabled ≡ itemTotal ws
   three = kept-low 3 (omega arith) (λ (e : 3 ≡ 2). omega arith)
 
   pub size : length tabled ≡ length ws
-  size = let s = honest .tidy .sound-memory in length-put first 2 ((tableTotal ws + 1) ∷ []) ∙ first-length
+  size = let s = honest .tidy .valid-memory in length-put first 2 ((tableTotal ws + 1) ∷ []) ∙ first-length
 
   pub loose : word tabled (tableAt (tableTotal ws) + 1) ≡ 0
   loose =
-      let s = honest .tidy .sound-memory in
+      let s = honest .tidy .valid-memory in
       get-after first 2 ((tableTotal ws + 1) ∷ []) (tableAt (tableTotal ws) + 1) (omega arith)
       ∙ get-put ws (tableAt (tableTotal ws)) row 1 (omega arith) (omega arith)
 
   pub mark : word tabled (tableAt (tableTotal ws) + 0) ≡ sep
   mark =
-      let s = honest .tidy .sound-memory in
+      let s = honest .tidy .valid-memory in
       get-after first 2 ((tableTotal ws + 1) ∷ []) (tableAt (tableTotal ws) + 0) (omega arith)
       ∙ get-put ws (tableAt (tableTotal ws)) row 0 (omega arith) (omega arith)
 
@@ -158,10 +158,10 @@ module _ (ws ar : List ℕ) (sep : ℕ) (honest : Honest ws ar) (few : tableTota
       let w2 : tableTotal tabled ≤ 64 = omega (arith, two) in
       record {
         tidy = low.low-tidy ws tabled ar (honest .tidy) size w0 w1 w2 three w4 kept-high;
-        right =
-            subst (λ (f : ℕ → Item). Right (tableTotal tabled) (itemTotal tabled) (tableOf tabled) f) (sym (low.low-items ws tabled ar (honest .tidy) size w0 w1 w2 three w4 kept-high))
-            (subst (λ (n : ℕ). Right (tableTotal tabled) n (tableOf tabled) (itemOf ws ar)) (sym three)
-            (right-grow (tableTotal ws) (tableTotal tabled) (itemTotal ws) (tableOf ws) (tableOf tabled) (itemOf ws ar) (honest .right) (omega (arith, two)) w2 same-table
+        consistent =
+            subst (λ (f : ℕ → Item). Consistent (tableTotal tabled) (itemTotal tabled) (tableOf tabled) f) (sym (low.low-items ws tabled ar (honest .tidy) size w0 w1 w2 three w4 kept-high))
+            (subst (λ (n : ℕ). Consistent (tableTotal tabled) n (tableOf tabled) (itemOf ws ar)) (sym three)
+            (consistent-grow (tableTotal ws) (tableTotal tabled) (itemTotal ws) (tableOf ws) (tableOf tabled) (itemOf ws ar) (honest .consistent) (omega (arith, two)) w2 same-table
             (λ t l u. let z : t ≡ tableTotal ws = omega (arith, two) in ap (λ (x : ℕ). tableOf tabled x .placed) z ∙ placed-word tabled (tableTotal ws) ∙ loose)
             (λ t l u e.
             let z : t ≡ tableTotal ws = omega (arith, two) in
@@ -181,16 +181,16 @@ sep-domain (b ∷ []) h = by-test (leb b 127) refl
 sep-domain (b ∷ c ∷ more) h = omega arith
 
 -- a row of refusals of a new table
-record Stays (o : Outcome Numbered) : Type 0 where
+record Stays (o : Outcome Added) : Type 0 where
   pub honest : Honest (o .after .words) (o .after .arena)
 
-stays-by : (b : Bool) (o o′ : Outcome Numbered) → (b ≡ true → Stays o) → (b ≡ false → Stays o′) → Stays (pick b o o′)
+stays-by : (b : Bool) (o o′ : Outcome Added) → (b ≡ true → Stays o) → (b ≡ false → Stays o′) → Stays (pick b o o′)
 stays-by b o o′ f g = pick-with Stays b o o′ f g
 
 table-stays : (ws ar separator : List ℕ) → Honest ws ar → Stays (newTable ws ar separator)
 unfolding newTable addTable
 table-stays ws ar separator honest =
-    stays-by (sound ws (length ar)) _ _
+    stays-by (valid ws (length ar)) _ _
     (λ a. stays-by (eqb (separatorOf separator) 0) _ _ (λ b. record { honest = honest })
     (λ b. stays-by (leb mostTables (tableTotal ws)) _ _ (λ c. record { honest = honest })
     (λ c. record { honest = tabled-honest ws ar (separatorOf separator) honest (leb-false mostTables (tableTotal ws) c) (sep-domain separator) })))
@@ -205,6 +205,6 @@ fresh-honest ws ar long =
     let w = freshWords ws (length ar) in
     record {
       tidy = low.fresh-tidy ws ar long;
-      right = subst (λ (n : ℕ). Right (tableTotal w) n (tableOf w) (itemOf w ar)) (sym (low.fresh-three ws ar long))
-          (subst (λ (n : ℕ). Right n 0 (tableOf w) (itemOf w ar)) (sym (low.fresh-two ws ar long)) (right-none (tableOf w) (itemOf w ar)));
+      consistent = subst (λ (n : ℕ). Consistent (tableTotal w) n (tableOf w) (itemOf w ar)) (sym (low.fresh-three ws ar long))
+          (subst (λ (n : ℕ). Consistent n 0 (tableOf w) (itemOf w ar)) (sym (low.fresh-two ws ar long)) (consistent-none (tableOf w) (itemOf w ar)));
     }

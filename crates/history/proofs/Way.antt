@@ -19,7 +19,7 @@ use Rattle.build_values.specs.Walk.{way, descend}
 use Rattle.build_values.proofs.WalkLaws.{further, walk-end, walk-miss, walk-block, walk-pass}
 use Rattle.history.specs.Items.{Item, itemOf}
 use Rattle.history.specs.Tidy.{Tidy}
-use Rattle.history.specs.Right.{There, Above}
+use Rattle.history.specs.Consistent.{There, Above}
 use Rattle.history.proofs.Index.{false-true, find-found, find-missing}
 
 -- ---- between a place and the next end there is no separator
@@ -27,11 +27,11 @@ gap-by : (q : Bool) (sep at x : ℕ) (r : List ℕ) → eqb x sep ≡ q → (n f
     → at < f → f < pick q (suc at) n → getD (x ∷ r) (f - suc at) 0 ≡ sep → ⊥
 unfolding pick
 gap-by true sep at x r q n f ih l u e = omega arith
-gap-by false sep at x r q n f ih l u e = by-place (decLt (suc at) f)
+gap-by false sep at x r q n f ih l u e = by-field (decLt (suc at) f)
   where
-    by-place : Dec (suc at < f) → ⊥
-    by-place (yes h) = let g : f - suc at ≡ suc (f - suc (suc at)) = omega arith in ih h u (sym (ap (λ (j : ℕ). getD (x ∷ r) j 0) g) ∙ e)
-    by-place (no h) = let g : f - suc at ≡ zero = omega arith in eqb-false x sep q (sym (ap (λ (j : ℕ). getD (x ∷ r) j 0) g) ∙ e)
+    by-field : Dec (suc at < f) → ⊥
+    by-field (yes h) = let g : f - suc at ≡ suc (f - suc (suc at)) = omega arith in ih h u (sym (ap (λ (j : ℕ). getD (x ∷ r) j 0) g) ∙ e)
+    by-field (no h) = let g : f - suc at ≡ zero = omega arith in eqb-false x sep q (sym (ap (λ (j : ℕ). getD (x ∷ r) j 0) g) ∙ e)
 
 gap-from : (sep at : ℕ) (r : List ℕ) (f : ℕ) → at < f → f < nextFrom sep at r → getD r (f - suc at) 0 ≡ sep → ⊥
 unfolding nextFrom
@@ -89,12 +89,12 @@ pub record Chain (n : ℕ) (f : ℕ → Item) (t sep : ℕ) (k : List ℕ) (low 
   pub there : (e : ℕ) → 1 ≤ e → e ≤ low → getD k (e - 1) 0 ≡ sep → There n f t (take e k)
 
 pub chain-on : (n : ℕ) (f : ℕ → Item) (t sep : ℕ) (k : List ℕ) (from e : ℕ) → e ≡ nextEnd sep k from → Chain n f t sep k from → There n f t (take e k) → Chain n f t sep k e
-chain-on n f t sep k from e is chain here = record { there = λ x p l s. by-place x p l s (decLt from x) (decLt x e) }
+chain-on n f t sep k from e is chain here = record { there = λ x p l s. by-field x p l s (decLt from x) (decLt x e) }
   where
-    by-place : (x : ℕ) → 1 ≤ x → x ≤ e → getD k (x - 1) 0 ≡ sep → Dec (from < x) → Dec (x < e) → There n f t (take x k)
-    by-place x p l s (yes a) (yes b) = absurd (gap sep k from x a (subst (λ (y : ℕ). x < y) is b) s)
-    by-place x p l s (yes a) (no b) = let g : e ≡ x = omega arith in subst (λ (y : ℕ). There n f t (take y k)) g here
-    by-place x p l s (no a) b = chain .there x p (omega arith) s
+    by-field : (x : ℕ) → 1 ≤ x → x ≤ e → getD k (x - 1) 0 ≡ sep → Dec (from < x) → Dec (x < e) → There n f t (take x k)
+    by-field x p l s (yes a) (yes b) = absurd (gap sep k from x a (subst (λ (y : ℕ). x < y) is b) s)
+    by-field x p l s (yes a) (no b) = let g : e ≡ x = omega arith in subst (λ (y : ℕ). There n f t (take y k)) g here
+    by-field x p l s (no a) b = chain .there x p (omega arith) s
 
 -- ---- where the way ends
 pub record OnWay (n : ℕ) (f : ℕ → Item) (t sep : ℕ) (k : List ℕ) (w : Way) : Type 0 where
@@ -138,15 +138,15 @@ module _ (ws ar : List ℕ) (tidy : Tidy ws ar) (t sep : ℕ) (k : List ℕ) whe
           subst (OnWay (itemTotal ws) (itemOf ws ar) t sep k) (walk-block sep k from (above .within) (nextEnd sep k from) refl ws ar t parent u i is l (eqb-false _ _ q))
           (here false (λ z. false-true z))
 
-      by-place : nextEnd sep k from < length k → Dec (findKey ws ar t (take (nextEnd sep k from) k) < itemTotal ws) → On from parent
-      by-place u (yes l) = by-kind (findKey ws ar t (take (nextEnd sep k from) k)) refl l u (eqb (itemKind ws (findKey ws ar t (take (nextEnd sep k from) k))) 76) refl
-      by-place u (no l) =
+      by-field : nextEnd sep k from < length k → Dec (findKey ws ar t (take (nextEnd sep k from) k) < itemTotal ws) → On from parent
+      by-field u (yes l) = by-kind (findKey ws ar t (take (nextEnd sep k from) k)) refl l u (eqb (itemKind ws (findKey ws ar t (take (nextEnd sep k from) k))) 76) refl
+      by-field u (no l) =
           subst (OnWay (itemTotal ws) (itemOf ws ar) t sep k)
           (walk-miss sep k from (above .within) (nextEnd sep k from) refl ws ar t parent u (findKey ws ar t (take (nextEnd sep k from) k)) refl (omega arith))
           (here true (λ z y. item-missing ws ar tidy t (take (nextEnd sep k from) k) (omega arith)))
 
       by-end : Dec (nextEnd sep k from < length k) → On from parent
-      by-end (yes u) = by-place u (decLt (findKey ws ar t (take (nextEnd sep k from) k)) (itemTotal ws))
+      by-end (yes u) = by-field u (decLt (findKey ws ar t (take (nextEnd sep k from) k)) (itemTotal ws))
       by-end (no u) =
           subst (OnWay (itemTotal ws) (itemOf ws ar) t sep k) (walk-end sep k from (above .within) (nextEnd sep k from) refl ws ar t parent (omega arith))
           (here true (λ z y. absurd (u y)))
@@ -156,7 +156,7 @@ module _ (ws ar : List ℕ) (tidy : Tidy ws ar) (t sep : ℕ) (k : List ℕ) whe
   by-fuel zero from parent b chain above proper = step from parent chain above proper (λ f p l c a z. absurd (let w = a .within in omega arith))
   by-fuel (suc fuel) from parent b chain above proper = step from parent chain above proper (λ f p l c a z. by-fuel fuel f p (omega arith) c a z)
 
-  pub way-right : OnWay (itemTotal ws) (itemOf ws ar) t sep k (descend ws ar t k (endsPast sep k 0) 0 0)
-  way-right =
+  pub way-consistent : OnWay (itemTotal ws) (itemOf ws ar) t sep k (descend ws ar t k (endsPast sep k 0) 0 0)
+  way-consistent =
       by-fuel (length k) 0 0 (omega arith) (record { there = λ e p l s. absurd (omega arith) })
       (record { within = omega arith; root = λ z. refl; holds = λ j (z : 0 ≡ suc j). absurd (omega arith) }) (λ j (z : 0 ≡ suc j). absurd (omega arith))

@@ -1,5 +1,5 @@
 pub mod Items
 pub mod Tidy
-pub mod Right
+pub mod Consistent
 pub mod Honest
 pub mod Reached

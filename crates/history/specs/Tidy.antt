@@ -7,7 +7,7 @@ use lib.ListN.{length}
 use lib.Dec.{eqb}
 use Rattle.words.specs.Choice.{pick}
 use Rattle.words.specs.Hash.{hashOf}
-use Rattle.build_memory.specs.Memory.{word, buckets, links, headAt, linkAt, itemTotal, roomUsed, itemHash, itemOlder, keyStart, keySize, valueStart, valueSize, keyOf, emptyMark, Sound}
+use Rattle.build_memory.specs.Memory.{word, buckets, links, headAt, linkAt, itemTotal, roomUsed, itemHash, itemOlder, keyStart, keySize, valueStart, valueSize, keyOf, emptyMark, Valid}
 
 -- the last number below m that is in bucket b, or the empty mark
 unfoldable pub lastIn : (ℕ → ℕ) → ℕ → ℕ → ℕ
@@ -18,7 +18,7 @@ abbrev pub bucketOf : List ℕ → ℕ → ℕ
 bucketOf ws i = itemHash ws i % buckets
 
 pub record Tidy (ws ar : List ℕ) : Type 0 where
-  pub sound-memory : Sound ws (length ar)
+  pub valid-memory : Valid ws (length ar)
   pub keys : (i : ℕ) → i < itemTotal ws → keyStart ws i + keySize ws i ≤ roomUsed ws
   pub values : (i : ℕ) → i < itemTotal ws → valueStart ws i + valueSize ws i ≤ roomUsed ws
   pub hashes : (i : ℕ) → i < itemTotal ws → itemHash ws i ≡ hashOf (keyOf ws ar i)

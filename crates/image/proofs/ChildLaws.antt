@@ -9,7 +9,7 @@ use lib.ListN.{length, length-append}
 use Rattle.words.specs.Choice.{pick}
 use Rattle.words.proofs.FieldLaws.{length-spelled}
 use Rattle.model.specs.Table.{Rows}
-use Rattle.image.specs.Number.{numberOf}
+use Rattle.image.specs.Index.{laidIndex}
 use Rattle.image.specs.Plan.{word}
 use Rattle.image.specs.Image.{childrenIn, childWords}
 
@@ -28,10 +28,10 @@ module _ (rule : ℕ → ℕ) (table : Rows) where
   pub words-append : (l m : List ℕ) → childWords rule table (l ++ m) ≡ childWords rule table l ++ childWords rule table m
   unfolding childWords
   words-append [] m = refl
-  words-append (c ∷ l) m = rw (words-append l m) (sym (append-assoc (word (numberOf rule table c)) (childWords rule table l) (childWords rule table m)))
+  words-append (c ∷ l) m = rw (words-append l m) (sym (append-assoc (word (laidIndex rule table c)) (childWords rule table l) (childWords rule table m)))
 
   pub length-child-words : (l : List ℕ) → length (childWords rule table l) ≡ 4 * length l
   unfolding childWords
   length-child-words [] = refl
   length-child-words (c ∷ l) =
-      omega (arith, length-append (word (numberOf rule table c)) (childWords rule table l), length-spelled 4 (numberOf rule table c), length-child-words l)
+      omega (arith, length-append (word (laidIndex rule table c)) (childWords rule table l), length-spelled 4 (laidIndex rule table c), length-child-words l)

@@ -1,7 +1,7 @@
 pub mod TimesLaws
 pub mod OrderLaws
 pub mod RunLaws
-pub mod NumberLaws
+pub mod IndexLaws
 pub mod LaidLaws
 pub mod PlanLaws
 pub mod ChildLaws

@@ -18,7 +18,7 @@ use Rattle.image.specs.Plan.{Plan, word, chunkSize, recordBytes, planByt
 use Rattle.image.specs.Laid.{Holds}
 use Rattle.image.specs.Fits.{PlanFits, openedAs, laidItem}
 use Rattle.image.proofs.LaidLaws.{holds-front, holds-next, holds-first}
-use Rattle.image.proofs.PlanLaws.{field-held, keyStart, valueFrom, chunk-fits, place-fits, read-mark, read-count, read-record, value-ends}
+use Rattle.image.proofs.PlanLaws.{field-held, keyStart, valueFrom, chunk-fits, offset-fits, read-mark, read-count, read-record, value-ends}
 
 table-laid : (at n : ℕ) → tableOf at (8 + 28 * n) 0 n ≡ Opened.Table (openedAs at n)
 unfolding tableOf pick openedAs
@@ -70,7 +70,7 @@ module _ (img : List ℕ) (p : Plan) (at : ℕ) (held : Holds img at (planBytes 
       let h6 : Holds img (r + 12) f3 = holds-front img (r + 12) f3 _ h3 in
       let h7 : Holds img (r + 14) (p .kind k ∷ 0 ∷ []) = holds-next img (r + 12) (spelled 2 size) _ (r + 14) (omega (arith, length-spelled 2 size)) h6 in
       let ends = value-ends img p at held k l in
-      let keys = place-fits img p at held k (omega arith) in
+      let keys = offset-fits img p at held k (omega arith) in
       let covered = fits .covered k v l in
       let e0 : field 4 img r ≡ p .hash k = field-held 4 img r (p .hash k) (fits .hash32 k l) (holds-front img r f0 _ h0) in
       let e1 : field 4 img (r + 4) ≡ p .parent k = field-held 4 img (r + 4) (p .parent k) (fits .parent32 k l) (holds-front img (r + 4) f1 _ h1) in

@@ -10,8 +10,8 @@ use Rattle.words.proofs.ChoiceLaws.{pick-with}
 use Rattle.text.specs.Order.{precedes}
 use Rattle.text.proofs.OrderLaws.{transitive, total, asymmetric}
 use Rattle.model.specs.Table.{Rows, times, Has}
-use Rattle.image.specs.Number.{insertKey, sortKeys, keyOrder}
-use Rattle.image.specs.Numbering.{Ascending}
+use Rattle.image.specs.Index.{insertKey, sortKeys, keyOrder}
+use Rattle.image.specs.Indexing.{Ascending}
 use Rattle.image.proofs.TimesLaws.{eq-or-ne, times-here, times-there, times-cons, times-cons-same, times-some, has-cases}
 
 -- ---- what does not come before, and again not, does not come before

@@ -8,10 +8,10 @@ use native.Mathlib.Numerals.{add-one}
 use native.Mathlib.Omega.{arith}
 use lib.ListN.{length, length-append}
 use Rattle.words.specs.Store.{zeros}
-use Rattle.words.specs.Field.{number, spelled, field}
+use Rattle.words.specs.Field.{littleEndian, spelled, field}
 use Rattle.words.specs.Align.{aligned}
 use Rattle.words.proofs.StoreLaws.{length-zeros}
-use Rattle.words.proofs.FieldLaws.{length-spelled, number-spelled}
+use Rattle.words.proofs.FieldLaws.{length-spelled, little-endian-spelled}
 use Rattle.image.specs.Plan.{Plan, word, wordsOf, chunkSize, valueStart, itemBytes, payload, place, recordBytes, records, planBytes}
 use Rattle.image.specs.Laid.{Holds}
 use Rattle.image.proofs.LaidLaws.{holds-front, holds-back, holds-fits, holds-part}
@@ -36,7 +36,7 @@ words-same f g (suc n) e = rw (words-same f g n (λ b l. e b (omega arith)), e n
 -- a number that is held as so many bytes reads as it is
 pub field-held : (n : ℕ) (img : List ℕ) (i x : ℕ) → x < 256 ^ n → Holds img i (spelled n x) → field n img i ≡ x
 unfolding field
-field-held n img i x small held = ap number (rw (length-spelled n x) at (holds-part img i (spelled n x) held)) ∙ number-spelled n x small
+field-held n img i x small held = ap littleEndian (rw (length-spelled n x) at (holds-part img i (spelled n x) held)) ∙ little-endian-spelled n x small
 
 -- one of n words
 pub words-held : (img : List ℕ) (f : ℕ → ℕ) (n b at : ℕ) → b < n → Holds img at (wordsOf f n) → Holds img (at + 4 * b) (word (f b))
@@ -102,23 +102,23 @@ module _ (p : Plan) where
       let front = p .fragment k ++ zeros (valueStart p k at - (at + length (p .fragment k))) in
       omega (arith, length-append front (p .value k (valueStart p k at)), length-padded k at)
 
-  pub place-zero : (at : ℕ) → place p at 0 ≡ at
+  pub offset-zero : (at : ℕ) → place p at 0 ≡ at
   unfolding place payload
-  place-zero at = omega arith
+  offset-zero at = omega arith
 
   -- and there the next one's key starts
-  pub place-next : (at k : ℕ) → place p at (suc k) ≡ valueStart p k (place p at k) + length (p .value k (valueStart p k (place p at k)))
+  pub offset-next : (at k : ℕ) → place p at (suc k) ≡ valueStart p k (place p at k) + length (p .value k (valueStart p k (place p at k)))
   unfolding place payload
-  place-next at k =
+  offset-next at k =
       let here = at + length (payload p at k) in
       omega (arith, length-append (payload p at k) (itemBytes p k here), length-item k here)
 
-  pub place-rises : (at k m : ℕ) → k ≤ m → place p at k ≤ place p at m
-  place-rises at k zero l = let e : k ≡ 0 = omega arith in rw e (omega arith)
-  place-rises at k (suc m) l =
+  pub offset-rises : (at k m : ℕ) → k ≤ m → place p at k ≤ place p at m
+  offset-rises at k zero l = let e : k ≡ 0 = omega arith in rw e (omega arith)
+  offset-rises at k (suc m) l =
       ⊎-elim
       (λ e. rw e (omega arith))
-      (λ less. omega (arith, place-rises at k m (le-of-suc-le-suc less), place-next at m, value-above m (place p at m)))
+      (λ less. omega (arith, offset-rises at k m (le-of-suc-le-suc less), offset-next at m, value-above m (place p at m)))
       (eq-or-lt-of-le l)
 
   -- an item more, and a record more
@@ -219,8 +219,8 @@ module _ (img : List ℕ) (p : Plan) (at : ℕ) (held : Holds img at (planBytes 
       let l : at + length (planBytes p at) ≤ length img = holds-fits img at (planBytes p at) (omega (arith, length-plan p at)) held in
       omega (arith, l, plan-end p at)
 
-  pub place-fits : (k : ℕ) → k ≤ p .count → keyStart k ≤ length img
-  place-fits k l = omega (arith, end-fits, place-rises p base k (p .count) l)
+  pub offset-fits : (k : ℕ) → k ≤ p .count → keyStart k ≤ length img
+  offset-fits k l = omega (arith, end-fits, offset-rises p base k (p .count) l)
 
   pub chunk-fits : base ≤ length img
   unfolding place
@@ -257,7 +257,7 @@ module _ (img : List ℕ) (p : Plan) (at : ℕ) (held : Holds img at (planBytes 
       (holds-back img (keyStart k) (p .fragment k ++ zeros (valueFrom k - (keyStart k + length (p .fragment k)))) (p .value k (valueFrom k)) (read-item k l))
 
   pub value-ends : (k : ℕ) → k < p .count → valueFrom k + length (p .value k (valueFrom k)) ≤ length img
-  value-ends k l = omega (arith, place-next p base k, place-fits (suc k) l)
+  value-ends k l = omega (arith, offset-next p base k, offset-fits (suc k) l)
 
   pub fragment-ends : (k : ℕ) → k < p .count → keyStart k + length (p .fragment k) ≤ length img
   fragment-ends k l = omega (arith, value-above p k (keyStart k), value-ends k l)

@@ -14,8 +14,8 @@ use lib.ListN.{length, take, drop, getD, length-append, List·getD-append}
 use lib.Seq.{take-at, drop-at, getD-append-add}
 use Rattle.words.specs.Choice.{pick}
 use Rattle.model.specs.Table.{times}
-use Rattle.image.specs.Number.{bucketOf, run, runsBelow, numbered, bucketStart}
-use Rattle.image.specs.Numbering.{Each, InRun, InBucket, placesBefore}
+use Rattle.image.specs.Index.{bucketOf, run, runsBelow, byBucket, bucketStart}
+use Rattle.image.specs.Indexing.{Each, InRun, InBucket, ranksBefore}
 use Rattle.image.proofs.TimesLaws.{eq-or-ne, lt-or-ge, times-none, times-here, times-there, times-append, each-once}
 
 module _ (hashes : List ℕ) where
@@ -138,9 +138,9 @@ module _ (hashes : List ℕ) where
       (eq-or-lt-of-le (le-of-suc-le-suc h))
 
   -- each place has exactly one number
-  pub numbered-once : (x : ℕ) → x < length hashes → times x (numbered hashes) ≡ 1
-  unfolding numbered
-  numbered-once x h = times-after x (length hashes) h (bucket-within x h)
+  pub indexed-once : (x : ℕ) → x < length hashes → times x (byBucket hashes) ≡ 1
+  unfolding byBucket
+  indexed-once x h = times-after x (length hashes) h (bucket-within x h)
 
   -- ---- a bucket's word
 
@@ -176,8 +176,8 @@ module _ (hashes : List ℕ) where
       (λ l. omega (arith, tally-hit b k l, ap length (run-miss b k (λ e. omega arith))))
       (eq-or-lt-of-le (le-of-suc-le-suc h))
 
-  tally-counts : (b k : ℕ) → tally b k ≡ placesBefore hashes b k
-  unfolding placesBefore pick
+  tally-counts : (b k : ℕ) → tally b k ≡ ranksBefore hashes b k
+  unfolding ranksBefore pick
   tally-counts b zero = tally-none b
   tally-counts b (suc k) =
       ⊎-elim
@@ -191,7 +191,7 @@ module _ (hashes : List ℕ) where
   start-tally (suc b) = omega (arith, start-suc b, start-tally b)
 
   -- it is the count of the items in the buckets before it
-  pub start-counts : (b : ℕ) → bucketStart hashes b ≡ placesBefore hashes b (length hashes)
+  pub start-counts : (b : ℕ) → bucketStart hashes b ≡ ranksBefore hashes b (length hashes)
   start-counts b = start-tally b ∙ tally-counts b (length hashes)
 
   tally-most : (b k : ℕ) → tally b k ≤ k
@@ -215,9 +215,9 @@ module _ (hashes : List ℕ) where
   start-fits b = omega (arith, start-suc b, start-most (suc b))
 
   -- as many numbers as items
-  pub length-numbered : length (numbered hashes) ≡ length hashes
-  unfolding numbered bucketStart
-  length-numbered = start-all
+  pub length-indexed : length (byBucket hashes) ≡ length hashes
+  unfolding byBucket bucketStart
+  length-indexed = start-all
 
   -- ---- the numbers of a bucket
 
@@ -235,17 +235,17 @@ module _ (hashes : List ℕ) where
       (eq-or-lt-of-le (le-of-suc-le-suc h))
 
   -- the numbers from a bucket's word on, as many as its run has, are its run
-  pub run-numbers : (b : ℕ) → b < length hashes → take (length (run hashes b (length hashes))) (drop (bucketStart hashes b) (numbered hashes)) ≡ run hashes b (length hashes)
-  unfolding numbered bucketStart
-  run-numbers b h =
+  pub run-indices : (b : ℕ) → b < length hashes → take (length (run hashes b (length hashes))) (drop (bucketStart hashes b) (byBucket hashes)) ≡ run hashes b (length hashes)
+  unfolding byBucket bucketStart
+  run-indices b h =
       let s = split b (length hashes) h in
       rw (s .is, drop-at (runsBelow hashes b) (run hashes b (length hashes) ++ s .rest) (length (runsBelow hashes b)) refl)
       (take-at (run hashes b (length hashes)) (s .rest) (length (run hashes b (length hashes))) refl)
 
   -- the place with a number of a bucket, by its run
-  pub number-at : (b m : ℕ) → b < length hashes → m < length (run hashes b (length hashes)) → getD (numbered hashes) (bucketStart hashes b + m) 0 ≡ getD (run hashes b (length hashes)) m 0
-  unfolding numbered bucketStart
-  number-at b m h l =
+  pub index-at : (b m : ℕ) → b < length hashes → m < length (run hashes b (length hashes)) → getD (byBucket hashes) (bucketStart hashes b + m) 0 ≡ getD (run hashes b (length hashes)) m 0
+  unfolding byBucket bucketStart
+  index-at b m h l =
       let s = split b (length hashes) h in
       rw (s .is, getD-append-add (runsBelow hashes b) (run hashes b (length hashes) ++ s .rest) m 0) (List·getD-append (run hashes b (length hashes)) (s .rest) 0 m l)
 
@@ -270,32 +270,32 @@ module _ (hashes : List ℕ) where
       (lt-or-ge k (length (runsBelow hashes d)))
 
   -- a number lies in the run of its place's bucket
-  pub number-bucket : (k : ℕ) → k < length hashes → InBucket hashes (length hashes) k (getD (numbered hashes) k 0)
-  unfolding numbered
-  number-bucket k l = bucket-of (length hashes) k (omega (arith, length-all))
+  pub index-bucket : (k : ℕ) → k < length hashes → InBucket hashes (length hashes) k (getD (byBucket hashes) k 0)
+  unfolding byBucket
+  index-bucket k l = bucket-of (length hashes) k (omega (arith, length-all))
     where
       length-all : length (runsBelow hashes (length hashes)) ≡ length hashes
-      length-all = length-numbered
+      length-all = length-indexed
 
-  pub numbered-each : Each (length hashes) (numbered hashes)
-  numbered-each = each-once (length hashes) (numbered hashes) length-numbered numbered-once (λ k l. number-bucket k l .below)
+  pub indexed-each : Each (length hashes) (byBucket hashes)
+  indexed-each = each-once (length hashes) (byBucket hashes) length-indexed indexed-once (λ k l. index-bucket k l .below)
 
   -- of two numbers of one bucket the later one has the earlier place
-  pub numbers-descend : (j k : ℕ) → j < k → k < length hashes → bucketOf hashes (getD (numbered hashes) j 0) ≡ bucketOf hashes (getD (numbered hashes) k 0)
-      → getD (numbered hashes) k 0 < getD (numbered hashes) j 0
+  pub indices-descend : (j k : ℕ) → j < k → k < length hashes → bucketOf hashes (getD (byBucket hashes) j 0) ≡ bucketOf hashes (getD (byBucket hashes) k 0)
+      → getD (byBucket hashes) k 0 < getD (byBucket hashes) j 0
   unfolding bucketStart
-  numbers-descend j k less h same =
-      let a = number-bucket j (omega arith) in
-      let b = number-bucket k h in
-      descend (bucketOf hashes (getD (numbered hashes) k 0)) (bucket-within (getD (numbered hashes) k 0) (b .below)) (rw same at (a .from)) (b .from) (b .to)
+  indices-descend j k less h same =
+      let a = index-bucket j (omega arith) in
+      let b = index-bucket k h in
+      descend (bucketOf hashes (getD (byBucket hashes) k 0)) (bucket-within (getD (byBucket hashes) k 0) (b .below)) (rw same at (a .from)) (b .from) (b .to)
     where
       descend : (d : ℕ) → d < length hashes → length (runsBelow hashes d) ≤ j → length (runsBelow hashes d) ≤ k → k < length (runsBelow hashes (suc d))
-          → getD (numbered hashes) k 0 < getD (numbered hashes) j 0
+          → getD (byBucket hashes) k 0 < getD (byBucket hashes) j 0
       descend d inside low from to =
           let s = length (runsBelow hashes d) in
           let size : k - s < length (run hashes d (length hashes)) = omega (arith, start-suc d) in
           let ej : s + (j - s) ≡ j = omega arith in
           let ek : s + (k - s) ≡ k = omega arith in
-          let pj : getD (numbered hashes) j 0 ≡ getD (run hashes d (length hashes)) (j - s) 0 = ap (λ (i : ℕ). getD (numbered hashes) i 0) (sym ej) ∙ number-at d (j - s) inside (omega arith) in
-          let pk : getD (numbered hashes) k 0 ≡ getD (run hashes d (length hashes)) (k - s) 0 = ap (λ (i : ℕ). getD (numbered hashes) i 0) (sym ek) ∙ number-at d (k - s) inside size in
+          let pj : getD (byBucket hashes) j 0 ≡ getD (run hashes d (length hashes)) (j - s) 0 = ap (λ (i : ℕ). getD (byBucket hashes) i 0) (sym ej) ∙ index-at d (j - s) inside (omega arith) in
+          let pk : getD (byBucket hashes) k 0 ≡ getD (run hashes d (length hashes)) (k - s) 0 = ap (λ (i : ℕ). getD (byBucket hashes) i 0) (sym ek) ∙ index-at d (k - s) inside size in
           rw (pj, pk) (run-descends d (length hashes) (j - s) (k - s) (omega arith) size)

@@ -21,9 +21,9 @@ module _ (p q : Plan) (s : SamePlan p q) where
   payload-same at zero l = refl
   payload-same at (suc k) l = rw (payload-same at k (omega arith), item-same k (at + length (payload q at k)) l)
 
-  place-same : (at k : ℕ) → k ≤ p .count → place p at k ≡ place q at k
+  offset-same : (at k : ℕ) → k ≤ p .count → place p at k ≡ place q at k
   unfolding place
-  place-same at k l = rw (payload-same at k l)
+  offset-same at k l = rw (payload-same at k l)
 
   record-same : (k at start : ℕ) → k < p .count → recordBytes p k at start ≡ recordBytes q k at start
   unfolding recordBytes
@@ -35,7 +35,7 @@ module _ (p q : Plan) (s : SamePlan p q) where
   records-same at (suc k) l =
       rw (
         records-same at k (omega arith),
-        place-same at k (omega arith),
+        offset-same at k (omega arith),
         start-same k (place q at k) l,
         record-same k (place q at k) (valueStart q k (place q at k)) l,
       )

@@ -10,8 +10,8 @@ use lib.Dec.{eqb, ltb}
 use lib.ListN.{length, getD}
 use Rattle.words.specs.Choice.{pick}
 use Rattle.model.specs.Table.{times, Has}
-use Rattle.image.specs.Number.{indexIn}
-use Rattle.image.specs.Numbering.{Each}
+use Rattle.image.specs.Index.{indexIn}
+use Rattle.image.specs.Indexing.{Each}
 
 pub eq-or-ne : (a b : ℕ) → (a ≡ b) ⊎ (a ≡ b → ⊥)
 eq-or-ne a b = by (eqb a b) refl
@@ -92,8 +92,8 @@ index-stands (y ∷ l) x h =
     (eq-or-ne y x)
 
 -- where nothing stands twice, one element has one place
-pub place-once : (l : List ℕ) → ((x : ℕ) → times x l ≤ 1) → (j k : ℕ) → j < length l → k < length l → getD l j 0 ≡ getD l k 0 → j ≡ k
-place-once l one j k a b e =
+pub offset-once : (l : List ℕ) → ((x : ℕ) → times x l ≤ 1) → (j k : ℕ) → j < length l → k < length l → getD l j 0 ≡ getD l k 0 → j ≡ k
+offset-once l one j k a b e =
     ⊎-elim
     (λ less. absurd (omega (arith, one (getD l k 0), times-two (getD l k 0) l j k less b e refl)))
     (λ ge. ⊎-elim (λ more. absurd (omega (arith, one (getD l k 0), times-two (getD l k 0) l k j more a refl e))) (λ q. omega arith) (lt-or-ge k j))

@@ -9,7 +9,7 @@ use Rattle.words.specs.Hash.{hashBy}
 use Rattle.layout.specs.declared.kind.Kind.{Kind}
 use Rattle.layout.specs.Kind.{kindByte}
 use Rattle.model.specs.Table.{Content, Rows, State, kindOf, isChild, fragmentAt, noItem}
-use Rattle.image.specs.Number.{hashesOf, bucketStart, itemOf, numberOf}
+use Rattle.image.specs.Index.{hashesOf, bucketStart, itemOf, laidIndex}
 use Rattle.image.specs.Plan.{Plan, word, chunkSize, planBytes}
 
 -- a value starts at a multiple of 8, a table and a container's children at one of 4
@@ -36,13 +36,13 @@ depth = 8
 
 module _ (rule : ℕ → ℕ) where
   -- the number of an item's parent; a root has none
-  unfoldable pub parentNumber : Rows → ℕ → ℕ
-  parentNumber table i = pick (isChild table i) (numberOf rule table (table .above i)) noItem
+  unfoldable pub parentIndex : Rows → ℕ → ℕ
+  parentIndex table i = pick (isChild table i) (laidIndex rule table (table .above i)) noItem
 
   -- the numbers of some items, as words
   unfoldable pub childWords : Rows → List ℕ → List ℕ
   childWords table [] = []
-  childWords table (c ∷ rest) = word (numberOf rule table c) ++ childWords table rest
+  childWords table (c ∷ rest) = word (laidIndex rule table c) ++ childWords table rest
 
   module _ (inner : ℕ → ℕ → List ℕ) (state : State) (table : Rows) where
     -- a value's bytes, a nested table with all its chunks, or the children's numbers
@@ -62,7 +62,7 @@ module _ (rule : ℕ → ℕ) where
       count = length (table .members);
       first = bucketStart (hashesOf rule table);
       hash = λ k. hashBy rule (table .key (itemOf rule table k));
-      parent = λ k. parentNumber table (itemOf rule table k);
+      parent = λ k. parentIndex table (itemOf rule table k);
       fragment = λ k. fragmentAt table (itemOf rule table k);
       kind = λ k. kindByte (kindOf (table .content (itemOf rule table k)));
       align = λ k. alignOf (table .content (itemOf rule table k));

@@ -1,5 +1,5 @@
-pub mod Number
-pub mod Numbering
+pub mod Index
+pub mod Indexing
 pub mod Plan
 pub mod Image
 pub mod WellFormed

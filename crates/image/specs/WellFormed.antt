@@ -7,7 +7,7 @@ use lib.ListN.{length, take}
 use Rattle.text.specs.Utf8.{isUtf8}
 use Rattle.model.specs.Table.{Content, Rows, State, Has, times, isChild}
 use Rattle.model.specs.Builder.{longestKey, mostItems}
-use Rattle.image.specs.Number.{indexIn}
+use Rattle.image.specs.Index.{indexIn}
 
 -- the item above a child is of the table, was made earlier, and its key begins the child's
 pub record ChildFits (table : Rows) (i : ℕ) : Type 0 where

@@ -10,11 +10,11 @@ use Rattle.words.specs.Choice.{pick}
 use Rattle.words.specs.Field.{wordAt}
 use Rattle.words.proofs.FieldLaws.{length-spelled}
 use Rattle.model.specs.Table.{Rows, Has, times}
-use Rattle.image.specs.Number.{numberOf}
+use Rattle.image.specs.Index.{laidIndex}
 use Rattle.image.specs.Plan.{word}
 use Rattle.image.specs.Image.{childrenIn, childrenOf, childWords}
 use Rattle.image.specs.Laid.{Holds}
-use Rattle.image.proofs.TimesLaws.{eq-or-ne, times-here, times-there, times-some, place-once, Stands, index-stands}
+use Rattle.image.proofs.TimesLaws.{eq-or-ne, times-here, times-there, times-some, offset-once, Stands, index-stands}
 use Rattle.image.proofs.LaidLaws.{holds-front, holds-next}
 use Rattle.image.proofs.PlanLaws.{field-held}
 
@@ -77,20 +77,20 @@ module _ (table : Rows) (i : ℕ) where
       → getD (childrenOf table i) j 0 ≡ getD (childrenOf table i) k 0 → j ≡ k
   unfolding childrenOf
   child-once one j k a b e =
-      place-once (childrenIn table i (table .members))
+      offset-once (childrenIn table i (table .members))
       (λ x. ⊎-elim (λ q. omega (arith, times-child x q (table .members), one x)) (λ q. omega (arith, times-other x q (table .members))) (eq-or-ne (table .above x) i))
       j k a b e
 
 -- their words read back as their numbers
-pub child-word : (rule : ℕ → ℕ) (table : Rows) (file l : List ℕ) (at j : ℕ) → ((k : ℕ) → k < length l → numberOf rule table (getD l k 0) < 4294967296) → j < length l
-    → Holds file at (childWords rule table l) → wordAt file (at + 4 * j) ≡ numberOf rule table (getD l j 0)
+pub child-word : (rule : ℕ → ℕ) (table : Rows) (file l : List ℕ) (at j : ℕ) → ((k : ℕ) → k < length l → laidIndex rule table (getD l k 0) < 4294967296) → j < length l
+    → Holds file at (childWords rule table l) → wordAt file (at + 4 * j) ≡ laidIndex rule table (getD l j 0)
 unfolding childWords
 child-word rule table file [] at j small h held = absurd (omega arith)
 child-word rule table file (c ∷ l) at zero small h held =
     let z : at + 4 * 0 ≡ at = omega arith in
-    ap (wordAt file) z ∙ field-held 4 file at (numberOf rule table c) (small 0 (omega arith)) (holds-front file at (word (numberOf rule table c)) (childWords rule table l) held)
+    ap (wordAt file) z ∙ field-held 4 file at (laidIndex rule table c) (small 0 (omega arith)) (holds-front file at (word (laidIndex rule table c)) (childWords rule table l) held)
 child-word rule table file (c ∷ l) at (suc j) small h held =
     let z : at + 4 * suc j ≡ at + 4 + 4 * j = omega arith in
     ap (wordAt file) z
     ∙ child-word rule table file l (at + 4) j (λ k less. small (suc k) (omega arith)) (omega arith)
-    (holds-next file at (word (numberOf rule table c)) (childWords rule table l) (at + 4) (omega (arith, length-spelled 4 (numberOf rule table c))) held)
+    (holds-next file at (word (laidIndex rule table c)) (childWords rule table l) (at + 4) (omega (arith, length-spelled 4 (laidIndex rule table c))) held)

@@ -58,9 +58,9 @@ module _ (rule : ℕ → ℕ) (img : List ℕ) (p : Plan) (at : ℕ) (held : Hol
   key-found i l = key-whole img p at held short fits key rank keys i l
 
   -- what is found is a number with the key
-  pub found-number : (x : List ℕ) (i : ℕ) → findItem rule img table x ≡ Found.At i → (i < p .count) × (key i ≡ x)
+  pub found-index : (x : List ℕ) (i : ℕ) → findItem rule img table x ≡ Found.At i → (i < p .count) × (key i ≡ x)
   unfolding openedAs
-  found-number x i e =
+  found-index x i e =
       let n = found-names rule img table x i e in
       (n .0, same-key (key-found i (n .0)) (n .2))
 
@@ -69,7 +69,7 @@ module _ (rule : ℕ → ℕ) (img : List ℕ) (p : Plan) (at : ℕ) (held : Hol
   find-nothing x none = by (findItem rule img table x) refl
     where
       by : (f : Found) → findItem rule img table x ≡ f → findItem rule img table x ≡ Found.Nothing
-      by (Found.At i) e = let n = found-number x i e in absurd (none i (n .0) (n .1))
+      by (Found.At i) e = let n = found-index x i e in absurd (none i (n .0) (n .1))
       by Found.Nothing e = e
 
   module _ (runs : PlanRuns rule p key) where
@@ -94,7 +94,7 @@ module _ (rule : ℕ → ℕ) (img : List ℕ) (p : Plan) (at : ℕ) (held : Hol
     find-there k l = by (findItem rule img table (key k)) refl
       where
         by : (f : Found) → findItem rule img table (key k) ≡ f → findItem rule img table (key k) ≡ Found.At k
-        by (Found.At i) e = let n = found-number (key k) i e in e ∙ ap Found.At (runs .distinct i k (n .0) l (n .1))
+        by (Found.At i) e = let n = found-index (key k) i e in e ∙ ap Found.At (runs .distinct i k (n .0) l (n .1))
         by Found.Nothing e =
             let r = in-run k l in
             absurd (not-found rule img table (key k) e (λ z. omega arith) (laid-passes (hashBy rule (key k))) k (r .0) (r .1) l (laid-hash k l) (key-found k l))

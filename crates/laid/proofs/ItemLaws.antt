@@ -14,17 +14,17 @@ use Rattle.read.specs.declared.lookup.Found.{Found}
 use Rattle.read.specs.Chain.{Joined, keyOf}
 use Rattle.read.specs.Find.{findItem}
 use Rattle.model.specs.Table.{Content, State, Has, kindOf}
-use Rattle.image.specs.Number.{indexIn, numberOf, itemOf}
+use Rattle.image.specs.Index.{indexIn, laidIndex, itemOf}
 use Rattle.image.specs.Plan.{Plan, chunkSize, place, valueStart, planBytes}
-use Rattle.image.specs.Image.{alignOf, childrenOf, childWords, parentNumber, valueOf, planOf, tableBytes}
+use Rattle.image.specs.Image.{alignOf, childrenOf, childWords, parentIndex, valueOf, planOf, tableBytes}
 use Rattle.image.specs.WellFormed.{WellFormed, Writable}
 use Rattle.image.specs.Laid.{Holds}
 use Rattle.image.specs.Fits.{PlanFits, laidItem}
-use Rattle.image.proofs.NumberLaws.{item-within, number-within, item-number}
+use Rattle.image.proofs.IndexLaws.{item-within, index-within, item-index}
 use Rattle.image.proofs.PlanLaws.{length-plan, read-value, value-ends}
 use Rattle.image.proofs.OpenLaws.{laid-opens, laid-item}
 use Rattle.laid.specs.Keys.{PlanKeys, PlanRuns}
-use Rattle.laid.specs.Back.{endOf, tableOpened, planAt, valuePlace, coversAt, ItemBack, NestedBack}
+use Rattle.laid.specs.Back.{endOf, tableOpened, planAt, valueOffset, coversAt, ItemBack, NestedBack}
 use Rattle.laid.proofs.KeyLaws.{key-whole}
 use Rattle.laid.proofs.FindLaws.{find-there, find-nothing}
 use Rattle.laid.proofs.TableLaws.{plan-fits, plan-keys, plan-runs}
@@ -57,11 +57,11 @@ module _ (state : State) (d t : ℕ) (good : Writable state (suc d) t) where
     runs-plan = plan-runs rule (λ u start. tableBytes rule state d u start) state (state t) well-formed
 
     -- an item's number, and the item of that number
-    pub number-small : (i : ℕ) → Has (state t .members) i → numberOf rule (state t) i < length (state t .members)
-    number-small i l = number-within rule (state t) (well-formed .once) i l
+    pub index-small : (i : ℕ) → Has (state t .members) i → laidIndex rule (state t) i < length (state t .members)
+    index-small i l = index-within rule (state t) (well-formed .once) i l
 
-    pub numbered-item : (i : ℕ) → Has (state t .members) i → itemOf rule (state t) (numberOf rule (state t) i) ≡ i
-    numbered-item i l = item-number rule (state t) (well-formed .once) i l
+    pub indexed-item : (i : ℕ) → Has (state t .members) i → itemOf rule (state t) (laidIndex rule (state t) i) ≡ i
+    indexed-item i l = item-index rule (state t) (well-formed .once) i l
 
 start-eight : (p : Plan) (k s : ℕ) → p .align k ≡ 8 → valueStart p k s % 8 ≡ 0
 unfolding valueStart aligned
@@ -85,24 +85,24 @@ module _ (rule : ℕ → ℕ) (img : List ℕ) (state : State) (d t at : ℕ) (h
   opens = laid-opens img (planAt rule state d t) at plan-held short even
 
   -- the key of a number is the whole key of the item with that number
-  pub key-of-number : (k : ℕ) → k < length (state t .members)
+  pub key-of-index : (k : ℕ) → k < length (state t .members)
       → keyOf img (tableOpened state t at) (length (state t .members)) k ≡ Joined.joined (state t .key (itemOf rule (state t) k))
   unfolding planOf
-  key-of-number k l = key-whole img (planAt rule state d t) at plan-held short (fits-plan state d t good rule) _ _ (keys-plan state d t good rule) k l
+  key-of-index k l = key-whole img (planAt rule state d t) at plan-held short (fits-plan state d t good rule) _ _ (keys-plan state d t good rule) k l
 
   pub key-back : (i : ℕ) → Has (state t .members) i
-      → keyOf img (tableOpened state t at) (length (state t .members)) (numberOf rule (state t) i) ≡ Joined.joined (state t .key i)
+      → keyOf img (tableOpened state t at) (length (state t .members)) (laidIndex rule (state t) i) ≡ Joined.joined (state t .key i)
   key-back i l =
-      key-of-number (numberOf rule (state t) i) (number-small state d t good rule i l)
-      ∙ ap (λ (j : ℕ). Joined.joined (state t .key j)) (numbered-item state d t good rule i l)
+      key-of-index (laidIndex rule (state t) i) (index-small state d t good rule i l)
+      ∙ ap (λ (j : ℕ). Joined.joined (state t .key j)) (indexed-item state d t good rule i l)
 
   -- the key of an item is found at its number, and a key that no item has is not found
-  pub found-back : (i : ℕ) → Has (state t .members) i → findItem rule img (tableOpened state t at) (state t .key i) ≡ Found.At (numberOf rule (state t) i)
+  pub found-back : (i : ℕ) → Has (state t .members) i → findItem rule img (tableOpened state t at) (state t .key i) ≡ Found.At (laidIndex rule (state t) i)
   unfolding planOf
   found-back i l =
-      ap (λ (j : ℕ). findItem rule img (tableOpened state t at) (state t .key j)) (sym (numbered-item state d t good rule i l))
+      ap (λ (j : ℕ). findItem rule img (tableOpened state t at) (state t .key j)) (sym (indexed-item state d t good rule i l))
       ∙ find-there rule img (planAt rule state d t) at plan-held short (fits-plan state d t good rule) _ _ (keys-plan state d t good rule) (runs-plan state d t good rule)
-      (numberOf rule (state t) i) (number-small state d t good rule i l)
+      (laidIndex rule (state t) i) (index-small state d t good rule i l)
 
   pub not-found-back : (x : List ℕ) → ((i : ℕ) → Has (state t .members) i → state t .key i ≡ x → ⊥) → findItem rule img (tableOpened state t at) x ≡ Found.Nothing
   unfolding planOf
@@ -112,66 +112,66 @@ module _ (rule : ℕ → ℕ) (img : List ℕ) (state : State) (d t at : ℕ) (h
 
   -- the value as laid, and where it ends
   pub value-held : (i : ℕ) → Has (state t .members) i
-      → Holds img (valuePlace rule state d t at i)
-      (valueOf rule (λ u start. tableBytes rule state d u start) state (state t) i (state t .content i) (valuePlace rule state d t at i))
-  unfolding planOf valuePlace
+      → Holds img (valueOffset rule state d t at i)
+      (valueOf rule (λ u start. tableBytes rule state d u start) state (state t) i (state t .content i) (valueOffset rule state d t at i))
+  unfolding planOf valueOffset
   value-held i l =
-      rw (numbered-item state d t good rule i l) at
-      (read-value img (planAt rule state d t) at plan-held (numberOf rule (state t) i) (number-small state d t good rule i l))
+      rw (indexed-item state d t good rule i l) at
+      (read-value img (planAt rule state d t) at plan-held (laidIndex rule (state t) i) (index-small state d t good rule i l))
 
-  pub value-inside : (i : ℕ) → Has (state t .members) i → valuePlace rule state d t at i + coversAt rule state d t i ≤ length img
-  unfolding planOf valuePlace
+  pub value-inside : (i : ℕ) → Has (state t .members) i → valueOffset rule state d t at i + coversAt rule state d t i ≤ length img
+  unfolding planOf valueOffset
   value-inside i l =
-      let k = numberOf rule (state t) i in
-      let b = number-small state d t good rule i l in
+      let k = laidIndex rule (state t) i in
+      let b = index-small state d t good rule i l in
       let p = planAt rule state d t in
       let v = valueStart p k (place p (endOf state t at) k) in
       let total : v + p .covers k ≤ length img = omega (arith, fits-plan state d t good rule .covered k v b, value-ends img p at plan-held k b) in
-      rw (numbered-item state d t good rule i l) at total
+      rw (indexed-item state d t good rule i l) at total
 
   -- the record at an item's number
-  pub item-back : (i : ℕ) → Has (state t .members) i → ItemBack rule img state d t at i (itemAt img (tableOpened state t at) (numberOf rule (state t) i))
-  unfolding planOf laidItem valuePlace
+  pub item-back : (i : ℕ) → Has (state t .members) i → ItemBack rule img state d t at i (itemAt img (tableOpened state t at) (laidIndex rule (state t) i))
+  unfolding planOf laidItem valueOffset
   item-back i l =
-      let e = numbered-item state d t good rule i l in
-      rw (laid-item img (planAt rule state d t) at plan-held short (fits-plan state d t good rule) (numberOf rule (state t) i) (number-small state d t good rule i l))
+      let e = indexed-item state d t good rule i l in
+      rw (laid-item img (planAt rule state d t) at plan-held short (fits-plan state d t good rule) (laidIndex rule (state t) i) (index-small state d t good rule i l))
       (record {
         hash = ap (λ (j : ℕ). hashBy rule (state t .key j)) e;
-        parent = ap (λ (j : ℕ). parentNumber rule (state t) j) e;
+        parent = ap (λ (j : ℕ). parentIndex rule (state t) j) e;
         kind = ap (λ (j : ℕ). kindByte (kindOf (state t .content j))) e;
         from = refl;
-        to = ap (λ (j : ℕ). valuePlace rule state d t at i + coversAt rule state d t j) e;
+        to = ap (λ (j : ℕ). valueOffset rule state d t at i + coversAt rule state d t j) e;
         fits = value-inside i l;
       })
 
   -- a value starts at a multiple of 8, a table and a container's children at one of 4
-  align-number : (i : ℕ) → Has (state t .members) i → planAt rule state d t .align (numberOf rule (state t) i) ≡ alignOf (state t .content i)
+  align-index : (i : ℕ) → Has (state t .members) i → planAt rule state d t .align (laidIndex rule (state t) i) ≡ alignOf (state t .content i)
   unfolding planOf
-  align-number i l = ap (λ (j : ℕ). alignOf (state t .content j)) (numbered-item state d t good rule i l)
+  align-index i l = ap (λ (j : ℕ). alignOf (state t .content j)) (indexed-item state d t good rule i l)
 
-  pub place-eight : (i : ℕ) → Has (state t .members) i → alignOf (state t .content i) ≡ 8 → valuePlace rule state d t at i % 8 ≡ 0
-  unfolding valuePlace
-  place-eight i l e = start-eight (planAt rule state d t) (numberOf rule (state t) i) _ (align-number i l ∙ e)
+  pub offset-eight : (i : ℕ) → Has (state t .members) i → alignOf (state t .content i) ≡ 8 → valueOffset rule state d t at i % 8 ≡ 0
+  unfolding valueOffset
+  offset-eight i l e = start-eight (planAt rule state d t) (laidIndex rule (state t) i) _ (align-index i l ∙ e)
 
-  pub place-four : (i : ℕ) → Has (state t .members) i → alignOf (state t .content i) ≡ 4 → valuePlace rule state d t at i % 4 ≡ 0
-  unfolding valuePlace
-  place-four i l e = start-four (planAt rule state d t) (numberOf rule (state t) i) _ (align-number i l ∙ e)
+  pub offset-four : (i : ℕ) → Has (state t .members) i → alignOf (state t .content i) ≡ 4 → valueOffset rule state d t at i % 4 ≡ 0
+  unfolding valueOffset
+  offset-four i l e = start-four (planAt rule state d t) (laidIndex rule (state t) i) _ (align-index i l ∙ e)
 
   -- what stands at the place of an item that holds bytes, a table, or children
-  pub bytes-held : (i : ℕ) (value : List ℕ) → Has (state t .members) i → state t .content i ≡ Content.bytes value → Holds img (valuePlace rule state d t at i) value
+  pub bytes-held : (i : ℕ) (value : List ℕ) → Has (state t .members) i → state t .content i ≡ Content.bytes value → Holds img (valueOffset rule state d t at i) value
   unfolding valueOf
   bytes-held i value l is = rw is at (value-held i l)
 
-  pub nested-held : (i u : ℕ) → Has (state t .members) i → state t .content i ≡ Content.nested u → NestedBack rule img state d u (valuePlace rule state d t at i)
+  pub nested-held : (i u : ℕ) → Has (state t .members) i → state t .content i ≡ Content.nested u → NestedBack rule img state d u (valueOffset rule state d t at i)
   unfolding valueOf
   nested-held i u l is = record {
     held = rw is at (value-held i l);
-    even = place-four i l (rw is);
+    even = offset-four i l (rw is);
     writable = nested-writable state d t good i u l is;
   }
 
   pub children-held : (i : ℕ) → Has (state t .members) i → state t .content i ≡ Content.container
-      → Holds img (valuePlace rule state d t at i) (childWords rule (state t) (childrenOf (state t) i))
+      → Holds img (valueOffset rule state d t at i) (childWords rule (state t) (childrenOf (state t) i))
   unfolding valueOf
   children-held i l is = rw is at (value-held i l)
 

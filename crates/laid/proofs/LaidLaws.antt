@@ -16,15 +16,15 @@ use Rattle.read.specs.declared.lookup.Found.{Found}
 use Rattle.check_table.specs.Rules.{indexOf, childAt, childCount}
 use Rattle.check_table.specs.Sound.{ValueGood, InList, SoundIn}
 use Rattle.model.specs.Table.{Content, State, Has, kindOf, isContainer, isChild}
-use Rattle.image.specs.Number.{indexIn, itemOf, numberOf}
-use Rattle.image.specs.Image.{childrenOf, parentNumber, coversOf, tableBytes}
+use Rattle.image.specs.Index.{indexIn, itemOf, laidIndex}
+use Rattle.image.specs.Image.{childrenOf, parentIndex, coversOf, tableBytes}
 use Rattle.image.specs.WellFormed.{WellFormed, Writable}
 use Rattle.image.specs.Laid.{Holds}
 use Rattle.image.specs.Fits.{openedAs}
-use Rattle.image.proofs.NumberLaws.{item-within, number-item}
-use Rattle.laid.specs.Back.{endOf, tableOpened, valuePlace, ItemBack}
+use Rattle.image.proofs.IndexLaws.{item-within, index-item}
+use Rattle.laid.specs.Back.{endOf, tableOpened, valueOffset, ItemBack}
 use Rattle.laid.proofs.TableLaws.{bool-cases, parent-child, parent-root, parent-small, parent-item, child-known}
-use Rattle.laid.proofs.ItemLaws.{well-formed, number-small, numbered-item, key-of-number, found-back, item-back, place-eight, place-four, nested-held, children-held, nested-opens}
+use Rattle.laid.proofs.ItemLaws.{well-formed, index-small, indexed-item, key-of-index, found-back, item-back, offset-eight, offset-four, nested-held, children-held, nested-opens}
 use Rattle.laid.proofs.ChildLaws.{ChildIn, child-at, child-listed, child-once, child-word}
 
 -- what an item of kind 'L' holds
@@ -56,8 +56,8 @@ module _ (rule : ℕ → ℕ) (file : List ℕ) (state : State) (d t at : ℕ) (
   has : (k : ℕ) → k < count → Has (state t .members) (of k)
   has k l = item-within rule (state t) (well .once) k l
 
-  again : (k : ℕ) → k < count → numberOf rule (state t) (of k) ≡ k
-  again k l = number-item rule (state t) (well .once) k l
+  again : (k : ℕ) → k < count → laidIndex rule (state t) (of k) ≡ k
+  again k l = index-item rule (state t) (well .once) k l
 
   back : (k : ℕ) → k < count → ItemBack rule file state d t at (of k) (item k)
   back k l = subst (λ (n : ℕ). ItemBack rule file state d t at (of k) (item n)) (again k l) (item-back rule file state d t at held short even good (of k) (has k l))
@@ -75,38 +75,38 @@ module _ (rule : ℕ → ℕ) (file : List ℕ) (state : State) (d t at : ℕ) (
       by : (c : Content) → state t .content (of k) ≡ c → ValueGood file (item k)
       by (Content.bytes value) e =
           let b = back k l in
-          let from : item k .from ≡ valuePlace rule state d t at (of k) = b .from in
-          let to : item k .to ≡ valuePlace rule state d t at (of k) + length value = rw e at (b .to) in
-          let fits : valuePlace rule state d t at (of k) + length value ≤ length file = rw e at (b .fits) in
+          let from : item k .from ≡ valueOffset rule state d t at (of k) = b .from in
+          let to : item k .to ≡ valueOffset rule state d t at (of k) + length value = rw e at (b .to) in
+          let fits : valueOffset rule state d t at (of k) + length value ≤ length file = rw e at (b .fits) in
           ValueGood.value (rw e at (b .kind))
-          (pointer-inside-is (length file) (item k .from) (item k .to) 8 (omega arith) (rw from (place-eight rule file state d t at held short even good (of k) (has k l) (rw e))) (omega arith))
+          (pointer-inside-is (length file) (item k .from) (item k .to) 8 (omega arith) (rw from (offset-eight rule file state d t at held short even good (of k) (has k l) (rw e))) (omega arith))
       by (Content.nested u) e =
           let b = back k l in
-          let v = valuePlace rule state d t at (of k) in
+          let v = valueOffset rule state d t at (of k) in
           let from : item k .from ≡ v = b .from in
           let to : item k .to ≡ endOf state u v = rw e at (b .to) in
           ValueGood.table (rw e at (b .kind)) {t = tableOpened state u v}
           (rw (from, to) (nested-opens rule file state d u v short (nested-held rule file state d t at held short even good (of k) u (has k l) e)))
       by Content.container e =
           let b = back k l in
-          let from : item k .from ≡ valuePlace rule state d t at (of k) = b .from in
-          let to : item k .to ≡ valuePlace rule state d t at (of k) + 4 * length (childrenOf (state t) (of k)) = rw e at (b .to) in
-          let fits : valuePlace rule state d t at (of k) + 4 * length (childrenOf (state t) (of k)) ≤ length file = rw e at (b .fits) in
+          let from : item k .from ≡ valueOffset rule state d t at (of k) = b .from in
+          let to : item k .to ≡ valueOffset rule state d t at (of k) + 4 * length (childrenOf (state t) (of k)) = rw e at (b .to) in
+          let fits : valueOffset rule state d t at (of k) + 4 * length (childrenOf (state t) (of k)) ≤ length file = rw e at (b .fits) in
           ValueGood.list (rw e at (b .kind))
-          (pointer-inside-is (length file) (item k .from) (item k .to) 4 (omega arith) (rw from (place-four rule file state d t at held short even good (of k) (has k l) (rw e))) (omega arith))
+          (pointer-inside-is (length file) (item k .from) (item k .to) 4 (omega arith) (rw from (offset-four rule file state d t at held short even good (of k) (has k l) (rw e))) (omega arith))
           (omega arith)
 
   -- ---- rule 6: its parent, if any, is 'L'
   parent-good : (k : ℕ) → k < count → (item k .parent ≡ rootMark) ⊎ ((item k .parent < count) × (item (item k .parent) .kind ≡ 76))
   unfolding isChild
   parent-good k l =
-      let up : item k .parent ≡ parentNumber rule (state t) (of k) = back k l .parent in
+      let up : item k .parent ≡ parentIndex rule (state t) (of k) = back k l .parent in
       ⊎-elim
       (λ c.
       let small = parent-small (state t) well rule (of k) (has k l) c in
-      let above : state t .content (of (parentNumber rule (state t) (of k))) ≡ Content.container =
+      let above : state t .content (of (parentIndex rule (state t) (of k))) ≡ Content.container =
       ap (state t .content) (parent-item (state t) well rule (of k) (has k l) c) ∙ container-known _ c in
-      inr (rw up small, rw up (back (parentNumber rule (state t) (of k)) small .kind ∙ ap (λ (x : Content). kindByte (kindOf x)) above)))
+      inr (rw up small, rw up (back (parentIndex rule (state t) (of k)) small .kind ∙ ap (λ (x : Content). kindByte (kindOf x)) above)))
       (λ c. inl (up ∙ parent-root (state t) well rule (of k) c))
       (bool-cases (isChild (state t) (of k)))
 
@@ -123,43 +123,43 @@ module _ (rule : ℕ → ℕ) (file : List ℕ) (state : State) (d t at : ℕ) (
     unfolding childCount coversOf
     children-count =
         let b = back k l in
-        let to : item k .to ≡ valuePlace rule state d t at (of k) + 4 * length children = rw is at (b .to) in
+        let to : item k .to ≡ valueOffset rule state d t at (of k) + 4 * length children = rw is at (b .to) in
         rw (b .from, to) (omega arith)
 
     -- the word of child j is its number
-    child-number : (j : ℕ) → j < length children → childAt file (item k .from) j ≡ numberOf rule (state t) (getD children j 0)
+    child-index : (j : ℕ) → j < length children → childAt file (item k .from) j ≡ laidIndex rule (state t) (getD children j 0)
     unfolding childAt
-    child-number j h =
+    child-index j h =
         rw (back k l .from)
-        (child-word rule (state t) file children (valuePlace rule state d t at (of k)) j
-        (λ m less. omega (arith, number-small state d t good rule (getD children m 0) (child-at (state t) (of k) m less .member), well .few))
+        (child-word rule (state t) file children (valueOffset rule state d t at (of k)) j
+        (λ m less. omega (arith, index-small state d t good rule (getD children m 0) (child-at (state t) (of k) m less .member), well .few))
         h (children-held rule file state d t at held short even good (of k) (has k l) is))
 
     -- rule 5: each child index is below the count and names this item as parent
-    child-names : (c : ℕ) → ChildIn (state t) (of k) c → item (numberOf rule (state t) c) .parent ≡ k
+    child-names : (c : ℕ) → ChildIn (state t) (of k) c → item (laidIndex rule (state t) c) .parent ≡ k
     unfolding isChild
     child-names c b =
         let child : isChild (state t) c ≡ true = rw (b .above, is) in
         item-back rule file state d t at held short even good c (b .member) .parent
-        ∙ parent-child (state t) well rule c child ∙ ap (numberOf rule (state t)) (b .above) ∙ again k l
+        ∙ parent-child (state t) well rule c child ∙ ap (laidIndex rule (state t)) (b .above) ∙ again k l
 
     listed-good : (j : ℕ) → InList file (item k) j → (j < count) × (item j .parent ≡ k)
     listed-good j (m, less, word) =
         let h : m < length children = rw children-count at less in
         let b = child-at (state t) (of k) m h in
-        let same : numberOf rule (state t) (getD children m 0) ≡ j = sym (child-number m h) ∙ word in
-        (rw same at (number-small state d t good rule (getD children m 0) (b .member)), rw same at (child-names (getD children m 0) b))
+        let same : laidIndex rule (state t) (getD children m 0) ≡ j = sym (child-index m h) ∙ word in
+        (rw same at (index-small state d t good rule (getD children m 0) (b .member)), rw same at (child-names (getD children m 0) b))
 
     -- rule 6: an item is listed by the container that it names
     good-listed : (j : ℕ) → j < count → item j .parent ≡ k → InList file (item k) j
     good-listed j h e =
-        let parent : parentNumber rule (state t) (of j) ≡ k = sym (back j h .parent) ∙ e in
+        let parent : parentIndex rule (state t) (of j) ≡ k = sym (back j h .parent) ∙ e in
         let child : isChild (state t) (of j) ≡ true = child-known (state t) well rule (of j) (λ root. omega (arith, well .few)) in
         let above : state t .above (of j) ≡ of k = sym (parent-item (state t) well rule (of j) (has j h) child) ∙ ap (itemOf rule (state t)) parent in
         let s = child-listed (state t) (of k) (of j) (has j h) above in (
           indexIn children (of j),
           rw children-count (s .within),
-          child-number (indexIn children (of j)) (s .within) ∙ ap (numberOf rule (state t)) (s .is) ∙ again j h,
+          child-index (indexIn children (of j)) (s .within) ∙ ap (laidIndex rule (state t)) (s .is) ∙ again j h,
         )
 
     -- rule 5: and appears once
@@ -167,17 +167,17 @@ module _ (rule : ℕ → ℕ) (file : List ℕ) (state : State) (d t at : ℕ) (
     listed-once a b fa fb e =
         let ha : a < length children = rw children-count at fa in
         let hb : b < length children = rw children-count at fb in
-        let numbers : numberOf rule (state t) (getD children a 0) ≡ numberOf rule (state t) (getD children b 0) = sym (child-number a ha) ∙ e ∙ child-number b hb in
+        let numbers : laidIndex rule (state t) (getD children a 0) ≡ laidIndex rule (state t) (getD children b 0) = sym (child-index a ha) ∙ e ∙ child-index b hb in
         child-once (state t) (of k) (well .once) a b ha hb
-        (sym (numbered-item state d t good rule (getD children a 0) (child-at (state t) (of k) a ha .member))
+        (sym (indexed-item state d t good rule (getD children a 0) (child-at (state t) (of k) a ha .member))
         ∙ ap (itemOf rule (state t)) numbers
-        ∙ numbered-item state d t good rule (getD children b 0) (child-at (state t) (of k) b hb .member))
+        ∙ indexed-item state d t good rule (getD children b 0) (child-at (state t) (of k) b hb .member))
 
   -- a laid table is sound
   pub laid-sound : SoundIn rule file (tableOpened state t at)
   unfolding openedAs
   laid-sound = record {
-    keys = λ k l. (state t .key (of k), key-of-number rule file state d t at held short even good k l, key-finds k l);
+    keys = λ k l. (state t .key (of k), key-of-index rule file state d t at held short even good k l, key-finds k l);
     values = value-good;
     parents = parent-good;
     lists = λ k j l kind. (listed-good k l kind j, λ child. good-listed k l kind j (child .0) (child .1));

@@ -15,11 +15,11 @@ use Rattle.read.specs.Lookup.{atPointer, atNested, valueOf, nestedOf}
 
 module _ (file : List ℕ) (item : Item) where
   -- a value whose pointer lies in the file, at a multiple of 8
-  pub value-of : item .kind ≡ 118 → item .from ≤ item .to → item .from % 8 ≡ 0 → item .to ≤ length file → valueOf file item ≡ Looked.Place (item .from) (item .to)
+  pub value-of : item .kind ≡ 118 → item .from ≤ item .to → item .from % 8 ≡ 0 → item .to ≤ length file → valueOf file item ≡ Looked.Pointer (item .from) (item .to)
   unfolding valueOf atPointer pick
   value-of kind ordered even inside = rw (eq-eqb (item .kind) 118 kind, pointer-inside-is (length file) (item .from) (item .to) 8 ordered even inside)
 
   -- a nested table that opens
-  pub nested-of : (t : Table) → item .kind ≡ 72 → openTable file (item .from) (item .to) ≡ Opened.Table t → nestedOf file item ≡ Looked.Place (item .from) (item .to)
+  pub nested-of : (t : Table) → item .kind ≡ 72 → openTable file (item .from) (item .to) ≡ Opened.Table t → nestedOf file item ≡ Looked.Pointer (item .from) (item .to)
   unfolding nestedOf atNested pick
   nested-of t kind opens = rw (eq-eqb (item .kind) 72 kind, opens)

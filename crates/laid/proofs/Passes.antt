@@ -15,7 +15,7 @@ use Rattle.image.specs.Image.{headerSize, depth, tableBytes, imageOf}
 use Rattle.image.specs.WellFormed.{Writable}
 use Rattle.image.specs.Laid.{Holds}
 use Rattle.image.proofs.LaidLaws.{holds-put, holds-next}
-use Rattle.laid.specs.Back.{endOf, tableOpened, valuePlace}
+use Rattle.laid.specs.Back.{endOf, tableOpened, valueOffset}
 use Rattle.laid.proofs.ReadBack.{opens-back, table-looked, nested-back}
 use Rattle.laid.specs.Passing.{AllPass, LaidTablePasses, LaidTablesAllPass, ImagePasses}
 use Rattle.laid.proofs.LaidLaws.{laid-sound}
@@ -39,9 +39,9 @@ all-pass rule file state zero t at held short even good = good
 all-pass rule file state (suc d) t at held short even good = (
   check-passes rule file state d t at held short even good,
   λ i u l is. let n = nested-back rule file state d t at held short even good i u l is in (
-    valuePlace rule state d t at i,
+    valueOffset rule state d t at i,
     table-looked rule file state d t at held short even good i u l is,
-    all-pass rule file state d u (valuePlace rule state d t at i) (n .held) short (n .even) (n .writable),
+    all-pass rule file state d u (valueOffset rule state d t at i) (n .held) short (n .even) (n .writable),
   ),
 )
 

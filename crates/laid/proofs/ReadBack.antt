@@ -19,16 +19,16 @@ use Rattle.read.specs.Listing.{keyAt}
 use Rattle.read.specs.Answer.{lookedNumber, lookedBytes}
 use Rattle.read.proofs.AnswerLaws.{value-8, table-8, value-12, table-12, value-found, table-found, value-13, table-13, list-key}
 use Rattle.model.specs.Table.{Content, State, Has, kindOf}
-use Rattle.image.specs.Number.{numberOf}
+use Rattle.image.specs.Index.{laidIndex}
 use Rattle.image.specs.Image.{coversOf, tableBytes}
 use Rattle.image.specs.WellFormed.{Writable}
 use Rattle.image.specs.Laid.{Holds}
 use Rattle.image.specs.Fits.{openedAs}
 use Rattle.image.proofs.LaidLaws.{holds-part}
-use Rattle.laid.specs.Back.{endOf, tableOpened, valuePlace, ItemBack, NestedBack}
+use Rattle.laid.specs.Back.{endOf, tableOpened, valueOffset, ItemBack, NestedBack}
 use Rattle.laid.specs.Told.{Views, Both, TableBack, AllBack}
 use Rattle.laid.proofs.LookupLaws.{value-of, nested-of}
-use Rattle.laid.proofs.ItemLaws.{well-formed, number-small, opens, key-back, found-back, not-found-back, item-back, place-eight, bytes-held, nested-held, nested-opens}
+use Rattle.laid.proofs.ItemLaws.{well-formed, index-small, opens, key-back, found-back, not-found-back, item-back, offset-eight, bytes-held, nested-held, nested-opens}
 
 -- the bytes of a view
 pub views-bytes : (file : List ℕ) (looked : Looked) (value : List ℕ) → Views file looked value → lookedBytes file looked ≡ value
@@ -43,7 +43,7 @@ module _ (rule : ℕ → ℕ) (file : List ℕ) (state : State) (d t at : ℕ) (
 
   -- the record at an item's number
   abbrev item : ℕ → Item
-  item i = itemAt file (tableOpened state t at) (numberOf rule (state t) i)
+  item i = itemAt file (tableOpened state t at) (laidIndex rule (state t) i)
 
   -- the table opens, with as many items as it has
   pub opens-back : openTable file at end ≡ Opened.Table (tableOpened state t at)
@@ -56,10 +56,10 @@ module _ (rule : ℕ → ℕ) (file : List ℕ) (state : State) (d t at : ℕ) (
   back i l = item-back rule file state d t at held short even good i l
 
   -- listing at an item's number writes its whole key
-  pub listed-back : (i : ℕ) → Has (state t .members) i → keyAt file at end (numberOf rule (state t) i) ≡ Joined.joined (state t .key i)
+  pub listed-back : (i : ℕ) → Has (state t .members) i → keyAt file at end (laidIndex rule (state t) i) ≡ Joined.joined (state t .key i)
   unfolding openedAs
   listed-back i l =
-      list-key file at end (numberOf rule (state t) i) 0 opens-back (number-small state d t good rule i l) ∙ key-back rule file state d t at held short even good i l
+      list-key file at end (laidIndex rule (state t) i) 0 opens-back (index-small state d t good rule i l) ∙ key-back rule file state d t at held short even good i l
 
   -- lookup of a key whose item holds bytes answers a view of just these bytes
   pub held-back : (i : ℕ) (value : List ℕ) → Has (state t .members) i → state t .content i ≡ Content.bytes value
@@ -67,7 +67,7 @@ module _ (rule : ℕ → ℕ) (file : List ℕ) (state : State) (d t at : ℕ) (
   unfolding coversOf
   held-back i value l is =
       let b = back i l in
-      let v = valuePlace rule state d t at i in
+      let v = valueOffset rule state d t at i in
       let from : item i .from ≡ v = b .from in
       let to : item i .to ≡ v + length value = rw is at (b .to) in
       let fits : v + length value ≤ length file = rw is at (b .fits) in
@@ -76,7 +76,7 @@ module _ (rule : ℕ → ℕ) (file : List ℕ) (state : State) (d t at : ℕ) (
         start = item i .from;
         end = item i .to;
         place = value-found rule file at end (state t .key i) opens-back (text i l) (found-back rule file state d t at held short even good i l)
-            ∙ value-of file (item i) (rw is at (b .kind)) (omega arith) (rw from (place-eight rule file state d t at held short even good i l (rw is))) (omega arith);
+            ∙ value-of file (item i) (rw is at (b .kind)) (omega arith) (rw from (offset-eight rule file state d t at held short even good i l (rw is))) (omega arith);
         view = rw (size, from) (holds-part file v value (bytes-held rule file state d t at held short even good i value l is));
       }
 
@@ -107,11 +107,11 @@ module _ (rule : ℕ → ℕ) (file : List ℕ) (state : State) (d t at : ℕ) (
 
   -- a nested table's key, as a table, answers the pointer of its table chunk
   pub table-looked : (i u : ℕ) → Has (state t .members) i → state t .content i ≡ Content.nested u
-      → lookupTable rule file at end (state t .key i) ≡ Looked.Place (valuePlace rule state d t at i) (endOf state u (valuePlace rule state d t at i))
+      → lookupTable rule file at end (state t .key i) ≡ Looked.Pointer (valueOffset rule state d t at i) (endOf state u (valueOffset rule state d t at i))
   unfolding coversOf
   table-looked i u l is =
       let b = back i l in
-      let v = valuePlace rule state d t at i in
+      let v = valueOffset rule state d t at i in
       let from : item i .from ≡ v = b .from in
       let to : item i .to ≡ endOf state u v = rw is at (b .to) in
       let nested = nested-opens rule file state d u v short (nested-held rule file state d t at held short even good i u l is) in
@@ -120,7 +120,7 @@ module _ (rule : ℕ → ℕ) (file : List ℕ) (state : State) (d t at : ℕ) (
       ∙ rw (from, to)
 
   -- and the nested table stands there, whole
-  pub nested-back : (i u : ℕ) → Has (state t .members) i → state t .content i ≡ Content.nested u → NestedBack rule file state d u (valuePlace rule state d t at i)
+  pub nested-back : (i u : ℕ) → Has (state t .members) i → state t .content i ≡ Content.nested u → NestedBack rule file state d u (valueOffset rule state d t at i)
   nested-back i u l is = nested-held rule file state d t at held short even good i u l is
 
   -- a key that no item has answers 12
@@ -154,8 +154,8 @@ all-back rule file state zero t at held short even good = good
 all-back rule file state (suc d) t at held short even good = (
   table-back rule file state d t at held short even good,
   λ i u l is. let n = nested-back rule file state d t at held short even good i u l is in (
-    valuePlace rule state d t at i,
+    valueOffset rule state d t at i,
     table-looked rule file state d t at held short even good i u l is,
-    all-back rule file state d u (valuePlace rule state d t at i) (n .held) short (n .even) (n .writable),
+    all-back rule file state d u (valueOffset rule state d t at i) (n .held) short (n .even) (n .writable),
   ),
 )

@@ -16,13 +16,13 @@ use Rattle.text.specs.Utf8.{isUtf8}
 use Rattle.text.proofs.Utf8Parts.{utf8-rest}
 use Rattle.layout.specs.Item.{rootMark}
 use Rattle.model.specs.Table.{Content, Rows, State, Has, isChild, fragmentAt}
-use Rattle.image.specs.Number.{hashesOf, bucketStart, itemOf, indexIn, numberOf}
+use Rattle.image.specs.Index.{hashesOf, bucketStart, itemOf, indexIn, laidIndex}
 use Rattle.image.specs.Plan.{chunkSize}
-use Rattle.image.specs.Image.{childrenOf, parentNumber, valueOf, coversOf, planOf}
+use Rattle.image.specs.Image.{childrenOf, parentIndex, valueOf, coversOf, planOf}
 use Rattle.image.specs.WellFormed.{WellFormed}
 use Rattle.image.specs.Fits.{PlanFits}
 use Rattle.image.proofs.TimesLaws.{index-stands}
-use Rattle.image.proofs.NumberLaws.{first-most, run-from, run-to, item-within, item-once, number-within, item-number}
+use Rattle.image.proofs.IndexLaws.{first-most, run-from, run-to, item-within, item-once, index-within, item-index}
 use Rattle.image.proofs.ChildLaws.{length-child-words}
 use Rattle.laid.specs.Keys.{PlanKeys, PlanRuns, lastOf}
 
@@ -58,26 +58,26 @@ module _ (table : Rows) (well : WellFormed table) where
       (bool-cases (isChild table i))
 
   module _ (rule : ℕ → ℕ) where
-    pub parent-child : (i : ℕ) → isChild table i ≡ true → parentNumber rule table i ≡ numberOf rule table (table .above i)
-    unfolding parentNumber pick
+    pub parent-child : (i : ℕ) → isChild table i ≡ true → parentIndex rule table i ≡ laidIndex rule table (table .above i)
+    unfolding parentIndex pick
     parent-child i c = rw c
 
-    pub parent-root : (i : ℕ) → isChild table i ≡ false → parentNumber rule table i ≡ rootMark
-    unfolding parentNumber pick
+    pub parent-root : (i : ℕ) → isChild table i ≡ false → parentIndex rule table i ≡ rootMark
+    unfolding parentIndex pick
     parent-root i c = rw c
 
     -- a child's parent has a number, and the item of that number is the item above
-    pub parent-small : (i : ℕ) → Has (table .members) i → isChild table i ≡ true → parentNumber rule table i < length (table .members)
-    parent-small i l c = rw (parent-child i c) (number-within rule table (well .once) (table .above i) (well .child i l c .member))
+    pub parent-small : (i : ℕ) → Has (table .members) i → isChild table i ≡ true → parentIndex rule table i < length (table .members)
+    parent-small i l c = rw (parent-child i c) (index-within rule table (well .once) (table .above i) (well .child i l c .member))
 
-    pub parent-item : (i : ℕ) → Has (table .members) i → isChild table i ≡ true → itemOf rule table (parentNumber rule table i) ≡ table .above i
-    parent-item i l c = rw (parent-child i c) (item-number rule table (well .once) (table .above i) (well .child i l c .member))
+    pub parent-item : (i : ℕ) → Has (table .members) i → isChild table i ≡ true → itemOf rule table (parentIndex rule table i) ≡ table .above i
+    parent-item i l c = rw (parent-child i c) (item-index rule table (well .once) (table .above i) (well .child i l c .member))
 
     -- an item is a child exactly when its parent word is no mark
-    pub child-known : (i : ℕ) → (parentNumber rule table i ≡ rootMark → ⊥) → isChild table i ≡ true
+    pub child-known : (i : ℕ) → (parentIndex rule table i ≡ rootMark → ⊥) → isChild table i ≡ true
     child-known i n = ⊎-elim (λ c. c) (λ c. absurd (n (parent-root i c))) (bool-cases (isChild table i))
 
-    pub root-known : (i : ℕ) → Has (table .members) i → parentNumber rule table i ≡ rootMark → isChild table i ≡ false
+    pub root-known : (i : ℕ) → Has (table .members) i → parentIndex rule table i ≡ rootMark → isChild table i ≡ false
     root-known i l e = ⊎-elim (λ c. absurd (omega (arith, parent-small i l c, well .few))) (λ c. c) (bool-cases (isChild table i))
 
 -- a number below the next bucket's word, or any number for the last bucket

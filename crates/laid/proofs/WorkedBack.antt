@@ -17,9 +17,9 @@ use Rattle.read.specs.declared.lookup.Looked.{Looked}
 use Rattle.read.specs.Lookup.{lookupValue, lookupTable}
 use Rattle.read.specs.Answer.{lookedBytes}
 use Rattle.model.specs.Table.{Content, times, Has, entryAt, isChild, fragmentAt, membersBelow, rowsOf}
-use Rattle.image.specs.Number.{insertKey, sortKeys, keyOrder, hashesOf, bucketOf, run, runsBelow, numbered, bucketStart, byNumber, itemOf, indexIn, numberOf}
+use Rattle.image.specs.Index.{insertKey, sortKeys, keyOrder, hashesOf, bucketOf, run, runsBelow, byBucket, bucketStart, byIndex, itemOf, indexIn, laidIndex}
 use Rattle.image.specs.Plan.{wordsOf, chunkSize, valueStart, itemBytes, payload, place, recordBytes, records, planBytes}
-use Rattle.image.specs.Image.{childrenIn, childrenOf, parentNumber, childWords, valueOf, coversOf, planOf, tableBytes, imageOf}
+use Rattle.image.specs.Image.{childrenIn, childrenOf, parentIndex, childWords, valueOf, coversOf, planOf, tableBytes, imageOf}
 use Rattle.image.specs.WellFormed.{ChildFits, WellFormed, Writable}
 use Rattle.image.proofs.TimesLaws.{eq-or-ne, times-here, times-there, times-none, has-cases}
 use Rattle.laid.specs.Told.{Both, AllBack}
@@ -94,7 +94,7 @@ root-writable = (
 )
 
 pub size : length (imageOf plain sample 0) ≡ 176
-unfolding sample pick zeros spelled hashBy hashFrom aligned precedes entryAt isChild fragmentAt membersBelow rowsOf insertKey sortKeys keyOrder hashesOf bucketOf run runsBelow numbered bucketStart byNumber itemOf indexIn numberOf wordsOf chunkSize valueStart itemBytes payload place recordBytes records planBytes childrenIn childrenOf parentNumber childWords valueOf coversOf planOf tableBytes imageOf
+unfolding sample pick zeros spelled hashBy hashFrom aligned precedes entryAt isChild fragmentAt membersBelow rowsOf insertKey sortKeys keyOrder hashesOf bucketOf run runsBelow byBucket bucketStart byIndex itemOf indexIn laidIndex wordsOf chunkSize valueStart itemBytes payload place recordBytes records planBytes childrenIn childrenOf parentIndex childWords valueOf coversOf planOf tableBytes imageOf
 size = refl
 
 abbrev image : List ℕ
@@ -118,7 +118,7 @@ absent-answers = all .0 .absent (97 ∷ []) refl (three (λ i. sample 0 .key i �
     (λ e. let z : _≡_ {A = ℕ} 0 1 = cc in omega arith) (λ e. let z : _≡_ {A = ℕ} 0 1 = cc in omega arith) (λ e. let z : _≡_ {A = ℕ} 116 97 = cc in omega arith))
 
 -- "t" answers a table, and there "x" answers 09
-pub nested-answers : (from : ℕ) × (lookupTable plain image 24 116 (116 ∷ []) ≡ Looked.Place from (from + 36))
+pub nested-answers : (from : ℕ) × (lookupTable plain image 24 116 (116 ∷ []) ≡ Looked.Pointer from (from + 36))
     × (lookedBytes image (lookupValue plain image from (from + 36) (120 ∷ [])) ≡ 9 ∷ [])
 unfolding AllBack sample rowsOf membersBelow entryAt times pick chunkSize
 nested-answers =

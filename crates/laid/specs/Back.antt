@@ -9,9 +9,9 @@ use Rattle.layout.specs.declared.table.Table.{Table}
 use Rattle.layout.specs.declared.item.Item.{Item}
 use Rattle.layout.specs.Kind.{kindByte}
 use Rattle.model.specs.Table.{State, kindOf}
-use Rattle.image.specs.Number.{numberOf}
+use Rattle.image.specs.Index.{laidIndex}
 use Rattle.image.specs.Plan.{Plan, chunkSize, place, valueStart}
-use Rattle.image.specs.Image.{parentNumber, coversOf, planOf, tableBytes}
+use Rattle.image.specs.Image.{parentIndex, coversOf, planOf, tableBytes}
 use Rattle.image.specs.WellFormed.{Writable}
 use Rattle.image.specs.Laid.{Holds}
 use Rattle.image.specs.Fits.{openedAs}
@@ -30,9 +30,9 @@ module _ (rule : ℕ → ℕ) where
   planAt state d t = planOf rule (λ u start. tableBytes rule state d u start) state (state t)
 
   -- where the value of item i starts, and how much of it the value pointer covers
-  unfoldable pub valuePlace : State → ℕ → ℕ → ℕ → ℕ → ℕ
-  valuePlace state d t at i =
-      valueStart (planAt state d t) (numberOf rule (state t) i) (place (planAt state d t) (endOf state t at) (numberOf rule (state t) i))
+  unfoldable pub valueOffset : State → ℕ → ℕ → ℕ → ℕ → ℕ
+  valueOffset state d t at i =
+      valueStart (planAt state d t) (laidIndex rule (state t) i) (place (planAt state d t) (endOf state t at) (laidIndex rule (state t) i))
 
   abbrev pub coversAt : State → ℕ → ℕ → ℕ → ℕ
   coversAt state d t i = coversOf rule (λ u start. tableBytes rule state d u start) state (state t) i (state t .content i)
@@ -40,11 +40,11 @@ module _ (rule : ℕ → ℕ) where
   -- the record at the number of item i: the hash of its whole key, its parent's number, its kind, and the place of its value
   pub record ItemBack (file : List ℕ) (state : State) (d t at i : ℕ) (item : Item) : Type 0 where
     pub hash : item .hash ≡ hashBy rule (state t .key i)
-    pub parent : item .parent ≡ parentNumber rule (state t) i
+    pub parent : item .parent ≡ parentIndex rule (state t) i
     pub kind : item .kind ≡ kindByte (kindOf (state t .content i))
-    pub from : item .from ≡ valuePlace state d t at i
-    pub to : item .to ≡ valuePlace state d t at i + coversAt state d t i
-    pub fits : valuePlace state d t at i + coversAt state d t i ≤ length file
+    pub from : item .from ≡ valueOffset state d t at i
+    pub to : item .to ≡ valueOffset state d t at i + coversAt state d t i
+    pub fits : valueOffset state d t at i + coversAt state d t i ≤ length file
 
   -- table u stands at `from`, whole, with what is nested in it as deep as d goes
   pub record NestedBack (file : List ℕ) (state : State) (d u from : ℕ) : Type 0 where

@@ -27,7 +27,7 @@ AllPass rule file state zero t at = ⊥
 AllPass rule file state (suc d) t at =
     Passes rule file state t at
     × ((i u : ℕ) → Has (state t .members) i → state t .content i ≡ Content.nested u
-    → (from : ℕ) × (lookupTable rule file at (endOf state t at) (state t .key i) ≡ Looked.Place from (endOf state u from))
+    → (from : ℕ) × (lookupTable rule file at (endOf state t at) (state t .key i) ≡ Looked.Pointer from (endOf state u from))
     × AllPass rule file state d u from)
 
 -- a table that may be written, wherever a file holds it at a multiple of 4, passes

@@ -14,14 +14,14 @@ use Rattle.read.specs.Lookup.{lookupValue, lookupTable}
 use Rattle.read.specs.Listing.{keyAt}
 use Rattle.read.specs.Answer.{lookedNumber}
 use Rattle.model.specs.Table.{Content, State, Has}
-use Rattle.image.specs.Number.{numberOf}
+use Rattle.image.specs.Index.{laidIndex}
 use Rattle.laid.specs.Back.{endOf, tableOpened}
 
 -- a lookup answers a stretch of the file, and just these bytes stand there: a value view is that stretch and no copy
 pub record Views (file : List ℕ) (looked : Looked) (value : List ℕ) : Type 0 where
   pub start : ℕ
   pub end : ℕ
-  pub place : looked ≡ Looked.Place start end
+  pub place : looked ≡ Looked.Pointer start end
   pub view : part file start (end - start) ≡ value
 
 -- both lookups of a key, as a value and as a table, give a number
@@ -34,7 +34,7 @@ pub record TableBack (rule : ℕ → ℕ) (file : List ℕ) (state : State) (t a
   -- it opens, with as many items as the table has
   pub opens : openTable file at (endOf state t at) ≡ Opened.Table (tableOpened state t at)
   -- each item's key is listed at its number
-  pub lists : (i : ℕ) → Has (state t .members) i → keyAt file at (endOf state t at) (numberOf rule (state t) i) ≡ Joined.joined (state t .key i)
+  pub lists : (i : ℕ) → Has (state t .members) i → keyAt file at (endOf state t at) (laidIndex rule (state t) i) ≡ Joined.joined (state t .key i)
   -- a value's key answers a view of its bytes; as a table 13, another kind than asked
   pub values : (i : ℕ) (value : List ℕ) → Has (state t .members) i → state t .content i ≡ Content.bytes value
       → Views file (lookupValue rule file at (endOf state t at) (state t .key i)) value
@@ -57,5 +57,5 @@ AllBack rule file state zero t at = ⊥
 AllBack rule file state (suc d) t at =
     TableBack rule file state t at
     × ((i u : ℕ) → Has (state t .members) i → state t .content i ≡ Content.nested u
-    → (from : ℕ) × (lookupTable rule file at (endOf state t at) (state t .key i) ≡ Looked.Place from (endOf state u from))
+    → (from : ℕ) × (lookupTable rule file at (endOf state t at) (state t .key i) ≡ Looked.Pointer from (endOf state u from))
     × AllBack rule file state d u from)

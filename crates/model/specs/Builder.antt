@@ -11,7 +11,7 @@ use Rattle.text.specs.Prefix.{prefixes}
 use Rattle.layout.specs.declared.refusal.Refusal.{Refusal}
 use Rattle.layout.specs.declared.refusal.Refusal.the-variants.{KeyNotUtf8, KeyTooLong, NotContainer, TooManyItems, ArenaFull, TableUnknown, TableInItself, NestedTooDeep, TooManyTables, SeparatorOutside}
 use Rattle.model.specs.declared.Inserted.{Inserted}
-use Rattle.model.specs.declared.Numbered.{Numbered}
+use Rattle.model.specs.declared.Added.{Added}
 use Rattle.model.specs.declared.Counted.{Counted}
 use Rattle.model.specs.Table.{Content, Entry, entryAt, noItem, kindOf, membersBelow}
 use Rattle.model.specs.Walk.{findKey, isThere, Walked, walk, keyRoom}
@@ -33,32 +33,32 @@ deepest = 8
 -- ---- what a builder holds
 
 -- a table: its separator (`noSeparator`: none), and whether it was put into another
-pub record Shelf : Type 0 where
+pub record Standing : Type 0 where
   pub separator : ℕ
   pub placed : Bool
 
 abbrev pub noSeparator : ℕ
 noSeparator = 256
 
-abbrev pub noShelf : Shelf
-noShelf = record { separator = noSeparator; placed = true }
+abbrev pub noStanding : Standing
+noStanding = record { separator = noSeparator; placed = true }
 
 -- the arena's length and how much of it is used; the tables, by number; the items of all tables in order of creation
 pub record Builder : Type 0 where
   pub room : ℕ
   pub used : ℕ
-  pub tables : List Shelf
+  pub tables : List Standing
   pub items : List Entry
 
 abbrev pub fresh : ℕ → Builder
 fresh room = record { room = room; used = 0; tables = []; items = [] }
 
-unfoldable pub shelfAt : Builder → ℕ → Shelf
-shelfAt m t = getD (m .tables) t noShelf
+unfoldable pub standingAt : Builder → ℕ → Standing
+standingAt m t = getD (m .tables) t noStanding
 
 -- the table is known and not placed
-unfoldable pub takes : Builder → ℕ → Bool
-takes m t = ltb t (length (m .tables)) && not (shelfAt m t .placed)
+unfoldable pub freeStanding : Builder → ℕ → Bool
+freeStanding m t = ltb t (length (m .tables)) && not (standingAt m t .placed)
 
 -- the items with what they were
 abbrev pub withItems : Builder → List Entry → ℕ → Builder
@@ -80,11 +80,11 @@ separatorOf [] = noSeparator
 separatorOf (b ∷ []) = pick (leb b 127) b 0
 separatorOf (b ∷ c ∷ more) = 0
 
-unfoldable pub newTable : Builder → List ℕ → Result Numbered
+unfoldable pub newTable : Builder → List ℕ → Result Added
 newTable m separator =
-    pick (eqb (separatorOf separator) 0) (result (Numbered.Refused SeparatorOutside) m)
-    (pick (leb mostTables (length (m .tables))) (result (Numbered.Refused TooManyTables) m)
-    (result (Numbered.Table (length (m .tables)))
+    pick (eqb (separatorOf separator) 0) (result (Added.Refused SeparatorOutside) m)
+    (pick (leb mostTables (length (m .tables))) (result (Added.Refused TooManyTables) m)
+    (result (Added.Table (length (m .tables)))
     (record { room = m .room; used = m .used; tables = m .tables ++ (record { separator = separatorOf separator; placed = false } ∷ []); items = m .items })))
 
 -- ---- heights
@@ -138,7 +138,7 @@ atWalked (Walked.walked after) deep m t key size = pick deep (refused NestedTooD
 
 unfoldable pub put : Builder → ℕ → List ℕ → Content → ℕ → Bool → Result Inserted
 put m t key content size deep =
-    atWalked (walk t content (prefixes (shelfAt m t .separator) key) (m .items) noItem) deep m t key size
+    atWalked (walk t content (prefixes (standingAt m t .separator) key) (m .items) noItem) deep m t key size
 
 -- 8, 20
 unfoldable pub keyed : Builder → List ℕ → Result Inserted → Result Inserted
@@ -148,14 +148,14 @@ keyed m key next =
 -- a value: 24, 8, 20, 21, 22, 23
 unfoldable pub insertValue : Builder → ℕ → List ℕ → List ℕ → Result Inserted
 insertValue m t key value =
-    pick (takes m t) (keyed m key (put m t key (Content.bytes value) (length value) false)) (refused TableUnknown m)
+    pick (freeStanding m t) (keyed m key (put m t key (Content.bytes value) (length value) false)) (refused TableUnknown m)
 
 -- table t placed
 unfoldable pub place : Builder → ℕ → Builder
 place m t = record {
   room = m .room;
   used = m .used;
-  tables = set (m .tables) t (record { separator = shelfAt m t .separator; placed = true });
+  tables = set (m .tables) t (record { separator = standingAt m t .separator; placed = true });
   items = m .items;
 }
 
@@ -171,8 +171,8 @@ settled guest r = result (r .answer) (whenAccepted (r .answer) (place (r .after)
 -- a table: 24 for the receiver, 24 for the guest, 25, 8, 20, 21, 26, 22, 23
 unfoldable pub insertTable : Builder → ℕ → List ℕ → ℕ → Result Inserted
 insertTable m t key guest =
-    pick (takes m t)
-    (pick (takes m guest)
+    pick (freeStanding m t)
+    (pick (freeStanding m guest)
     (pick (eqb t guest) (refused TableInItself m)
     (keyed m key (settled guest (put m t key (Content.nested guest) 0 (ltb deepest (suc (height m guest)))))))
     (refused TableUnknown m))

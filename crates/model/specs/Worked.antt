@@ -12,7 +12,7 @@ use Rattle.layout.specs.declared.refusal.Refusal.{Refusal}
 use Rattle.model.specs.declared.Inserted.{Inserted}
 use Rattle.model.specs.Table.{Content, entryAt, noItem}
 use Rattle.model.specs.Walk.{entry, findKey, putKey, walk, keyRoom}
-use Rattle.model.specs.Builder.{Builder, result, fresh, shelfAt, takes, separatorOf, newTable, news, usedAfter, counted, atWalked, put, keyed, insertValue}
+use Rattle.model.specs.Builder.{Builder, result, fresh, standingAt, freeStanding, separatorOf, newTable, news, usedAfter, counted, atWalked, put, keyed, insertValue}
 
 -- a builder with an arena of 8 bytes and one table, whose separator is "/"
 unfoldable pub start : Builder
@@ -26,7 +26,7 @@ pub made : insertValue start 0 (97 ∷ 47 ∷ 98 ∷ []) (7 ∷ [])
       tables = record { separator = 47; placed = false } ∷ [];
       items = entry 0 (97 ∷ 47 ∷ []) Content.container noItem ∷ entry 0 (97 ∷ 47 ∷ 98 ∷ []) (Content.bytes (7 ∷ [])) 0 ∷ [];
     })
-unfolding start fresh insertValue newTable separatorOf shelfAt takes keyed put atWalked counted news usedAfter keyRoom walk putKey findKey entryAt sameBytes prefixes endsFrom pick isUtf8 firstBad goodFrom oneMore stepLen sequenceLen firstOf isTwo startsThree startsFour tail between
+unfolding start fresh insertValue newTable separatorOf standingAt freeStanding keyed put atWalked counted news usedAfter keyRoom walk putKey findKey entryAt sameBytes prefixes endsFrom pick isUtf8 firstBad goodFrom oneMore stepLen sequenceLen firstOf isTwo startsThree startsFour tail between
 made = refl
 
 -- the second insert under the key says what it replaced, makes no item, and its value alone needs room
@@ -37,15 +37,15 @@ pub replaced : insertValue (insertValue start 0 (97 ∷ 47 ∷ 98 ∷ []) (7 ∷
       tables = record { separator = 47; placed = false } ∷ [];
       items = entry 0 (97 ∷ 47 ∷ []) Content.container noItem ∷ entry 0 (97 ∷ 47 ∷ 98 ∷ []) (Content.bytes (8 ∷ 9 ∷ [])) 0 ∷ [];
     })
-unfolding start fresh insertValue newTable separatorOf shelfAt takes keyed put atWalked counted news usedAfter keyRoom walk putKey findKey entryAt sameBytes prefixes endsFrom pick isUtf8 firstBad goodFrom oneMore stepLen sequenceLen firstOf isTwo startsThree startsFour tail between
+unfolding start fresh insertValue newTable separatorOf standingAt freeStanding keyed put atWalked counted news usedAfter keyRoom walk putKey findKey entryAt sameBytes prefixes endsFrom pick isUtf8 firstBad goodFrom oneMore stepLen sequenceLen firstOf isTwo startsThree startsFour tail between
 replaced = refl
 
 -- one byte more does not fit (23); and once the container is a value, inserts below it are refused (21)
 pub full : insertValue start 0 (97 ∷ 47 ∷ 98 ∷ []) (1 ∷ 2 ∷ 3 ∷ 4 ∷ []) .answer ≡ Inserted.Refused Refusal.ArenaFull
-unfolding start fresh insertValue newTable separatorOf shelfAt takes keyed put atWalked counted news usedAfter keyRoom walk putKey findKey entryAt sameBytes prefixes endsFrom pick isUtf8 firstBad goodFrom oneMore stepLen sequenceLen firstOf isTwo startsThree startsFour tail between
+unfolding start fresh insertValue newTable separatorOf standingAt freeStanding keyed put atWalked counted news usedAfter keyRoom walk putKey findKey entryAt sameBytes prefixes endsFrom pick isUtf8 firstBad goodFrom oneMore stepLen sequenceLen firstOf isTwo startsThree startsFour tail between
 full = refl
 
 pub below : insertValue (insertValue (insertValue start 0 (97 ∷ 47 ∷ 98 ∷ []) [] .after) 0 (97 ∷ 47 ∷ []) [] .after) 0 (97 ∷ 47 ∷ 99 ∷ []) []
     .answer ≡ Inserted.Refused Refusal.NotContainer
-unfolding start fresh insertValue newTable separatorOf shelfAt takes keyed put atWalked counted news usedAfter keyRoom walk putKey findKey entryAt sameBytes prefixes endsFrom pick isUtf8 firstBad goodFrom oneMore stepLen sequenceLen firstOf isTwo startsThree startsFour tail between
+unfolding start fresh insertValue newTable separatorOf standingAt freeStanding keyed put atWalked counted news usedAfter keyRoom walk putKey findKey entryAt sameBytes prefixes endsFrom pick isUtf8 firstBad goodFrom oneMore stepLen sequenceLen firstOf isTwo startsThree startsFour tail between
 below = refl

@@ -10,7 +10,7 @@ pub enum Inserted {
 }
 
 // A new table's number.
-pub enum Numbered {
+pub enum Added {
     Table(u32),
     Refused(Refusal),
 }

@@ -7,6 +7,6 @@ pub mod ListingLaws
 pub mod LookupLaws
 pub mod SoughtLaws
 pub mod Plain
-pub mod OwnParent
+pub mod SelfParent
 pub mod Unique
 pub mod AnswerLaws

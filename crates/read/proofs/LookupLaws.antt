@@ -42,7 +42,7 @@ opened-fits file start end =
 -- ---- lookup
 
 unfoldable pub LookedFits : List ℕ → Looked → Type 0
-LookedFits file (Looked.Place start end) = (start ≤ end) × (end ≤ length file)
+LookedFits file (Looked.Pointer start end) = (start ≤ end) × (end ≤ length file)
 LookedFits file (Looked.Refused why) = Unit
 
 value-fits : (file : List ℕ) (item : Item) → LookedFits file (valueOf file item)

@@ -95,27 +95,27 @@ named rule file t key i found is placed =
     }
 
 -- a value that is looked up is that of an item of kind 'v' of the table, with the key's hash, whose chain joins the key
-pub value-named : (rule : ℕ → ℕ) (file : List ℕ) (start end : ℕ) (key : List ℕ) {from to : ℕ} → lookupValue rule file start end key ≡ Looked.Place from to
+pub value-named : (rule : ℕ → ℕ) (file : List ℕ) (start end : ℕ) (key : List ℕ) {from to : ℕ} → lookupValue rule file start end key ≡ Looked.Pointer from to
     → (t : Table) × (i : ℕ) × (openTable file start end ≡ Opened.Table t) × Named rule file t key i 118 from to
 value-named rule file start end key e =
     let a = value-answers rule file start end key e in
     (a .seeks .table, a .seeks .index, a .seeks .opens, named rule file (a .seeks .table) key (a .seeks .index) (a .seeks .found) (a .seeks .is) (a .placed))
 
 -- a nested table that is looked up is that of an item of kind 'H', in the same way
-pub table-named : (rule : ℕ → ℕ) (file : List ℕ) (start end : ℕ) (key : List ℕ) {from to : ℕ} → lookupTable rule file start end key ≡ Looked.Place from to
+pub table-named : (rule : ℕ → ℕ) (file : List ℕ) (start end : ℕ) (key : List ℕ) {from to : ℕ} → lookupTable rule file start end key ≡ Looked.Pointer from to
     → (t : Table) × (i : ℕ) × (openTable file start end ≡ Opened.Table t) × Named rule file t key i 72 from to
 table-named rule file start end key e =
     let a = table-answers rule file start end key e in
     (a .seeks .table, a .seeks .index, a .seeks .opens, named rule file (a .seeks .table) key (a .seeks .index) (a .seeks .found) (a .seeks .is) (a .placed))
 
 -- a value that is looked up lies in the file
-pub value-in-file : (rule : ℕ → ℕ) (file : List ℕ) (start end : ℕ) (key : List ℕ) {from to : ℕ} → lookupValue rule file start end key ≡ Looked.Place from to
+pub value-in-file : (rule : ℕ → ℕ) (file : List ℕ) (start end : ℕ) (key : List ℕ) {from to : ℕ} → lookupValue rule file start end key ≡ Looked.Pointer from to
     → (from ≤ to) × (to ≤ length file)
 unfolding LookedFits
 value-in-file rule file start end key e = subst (LookedFits file) e (value-looked-fits rule file start end key)
 
 -- and so does a nested table
-pub table-in-file : (rule : ℕ → ℕ) (file : List ℕ) (start end : ℕ) (key : List ℕ) {from to : ℕ} → lookupTable rule file start end key ≡ Looked.Place from to
+pub table-in-file : (rule : ℕ → ℕ) (file : List ℕ) (start end : ℕ) (key : List ℕ) {from to : ℕ} → lookupTable rule file start end key ≡ Looked.Pointer from to
     → (from ≤ to) × (to ≤ length file)
 unfolding LookedFits
 table-in-file rule file start end key e = subst (LookedFits file) e (table-looked-fits rule file start end key)
@@ -178,18 +178,18 @@ module _ (file : List ℕ) (t : Table) (i : ℕ) (lies : InFile file t) (below :
       climb-on file (t .count) (itemAt file t i) opens text ∙ rw (own, ne-eqb i rootMark no-root, lt-ltb i (t .count) below)
 
   -- its chain never reaches a root, however many steps it is given
-  pub own-parent-ends : (steps : ℕ) → keyOf file t steps i ≡ Joined.broken ParentsEndless
+  pub self-parent-ends : (steps : ℕ) → keyOf file t steps i ≡ Joined.broken ParentsEndless
   unfolding keyOf joinStep append
-  own-parent-ends zero = refl
-  own-parent-ends (suc steps) = rw (own-step, own-parent-ends steps)
+  self-parent-ends zero = refl
+  self-parent-ends (suc steps) = rw (own-step, self-parent-ends steps)
 
   -- listing it is refused with 11
-  pub own-parent-listed : (start end : ℕ) (room : ℕ) → openTable file start end ≡ Opened.Table t
+  pub self-parent-listed : (start end : ℕ) (room : ℕ) → openTable file start end ≡ Opened.Table t
       → listedNumber (listed (keyAt file start end i) room i) ≡ 11
   unfolding keyAt keyOpened listed listedNumber
-  own-parent-listed start end room table = rw (table, in-range file t i below, own-parent-ends (t .count))
+  self-parent-listed start end room table = rw (table, in-range file t i below, self-parent-ends (t .count))
 
   -- and it matches no key
-  pub own-parent-no-match : (rule : ℕ → ℕ) (key : List ℕ) → itemMatches rule file t key i ≡ false
+  pub self-parent-no-match : (rule : ℕ → ℕ) (key : List ℕ) → itemMatches rule file t key i ≡ false
   unfolding itemMatches names
-  own-parent-no-match rule key = rw (own-parent-ends (t .count)) (pick-same _ false)
+  self-parent-no-match rule key = rw (self-parent-ends (t .count)) (pick-same _ false)

@@ -54,23 +54,23 @@ pub record Placed (kind : ℕ) (item : Item) (from to : ℕ) : Type 0 where
   pub starts : item .from ≡ from
   pub ends : item .to ≡ to
 
-value-placed : (file : List ℕ) (item : Item) {from to : ℕ} → valueOf file item ≡ Looked.Place from to → Placed 118 item from to
+value-pointer : (file : List ℕ) (item : Item) {from to : ℕ} → valueOf file item ≡ Looked.Pointer from to → Placed 118 item from to
 unfolding valueOf atPointer
-value-placed file item {from} {to} =
-    let P : Looked → Type 0 = λ l. l ≡ Looked.Place from to → Placed 118 item from to in
+value-pointer file item {from} {to} =
+    let P : Looked → Type 0 = λ l. l ≡ Looked.Pointer from to → Placed 118 item from to in
     pick-with P _ _ _ (λ kind. by-pointer (eqb-true _ _ kind) (openPointer (length file) (item .from) (item .to) 8)) (λ _ e. let z : _≡_ {A = ℕ} 0 1 = cc in absurd (omega arith))
   where
-    by-pointer : item .kind ≡ 118 → (p : Pointed) → atPointer p item ≡ Looked.Place from to → Placed 118 item from to
+    by-pointer : item .kind ≡ 118 → (p : Pointed) → atPointer p item ≡ Looked.Pointer from to → Placed 118 item from to
     by-pointer kind Pointed.Inside e = record { kinded = kind; starts = (cc); ends = (cc) }
     by-pointer kind (Pointed.Refused why) e = let z : _≡_ {A = ℕ} 0 1 = cc in absurd (omega arith)
 
-nested-placed : (file : List ℕ) (item : Item) {from to : ℕ} → nestedOf file item ≡ Looked.Place from to → Placed 72 item from to
+nested-pointer : (file : List ℕ) (item : Item) {from to : ℕ} → nestedOf file item ≡ Looked.Pointer from to → Placed 72 item from to
 unfolding nestedOf atNested
-nested-placed file item {from} {to} =
-    let P : Looked → Type 0 = λ l. l ≡ Looked.Place from to → Placed 72 item from to in
+nested-pointer file item {from} {to} =
+    let P : Looked → Type 0 = λ l. l ≡ Looked.Pointer from to → Placed 72 item from to in
     pick-with P _ _ _ (λ kind. by-table (eqb-true _ _ kind) (openTable file (item .from) (item .to))) (λ _ e. let z : _≡_ {A = ℕ} 0 1 = cc in absurd (omega arith))
   where
-    by-table : item .kind ≡ 72 → (o : Opened) → atNested o item ≡ Looked.Place from to → Placed 72 item from to
+    by-table : item .kind ≡ 72 → (o : Opened) → atNested o item ≡ Looked.Pointer from to → Placed 72 item from to
     by-table kind (Opened.Table t) e = record { kinded = kind; starts = (cc); ends = (cc) }
     by-table kind (Opened.Refused why) e = let z : _≡_ {A = ℕ} 0 1 = cc in absurd (omega arith)
 
@@ -81,17 +81,17 @@ pub record Answers (rule : ℕ → ℕ) (file : List ℕ) (start end : ℕ) (key
   pub placed : Placed kind item from to
 
 module _ (rule : ℕ → ℕ) (file : List ℕ) (start end : ℕ) (key : List ℕ) {from to : ℕ} where
-  at-item : (of : Item → Looked) (kind : ℕ) → ((item : Item) → of item ≡ Looked.Place from to → Placed kind item from to)
-      → (s : Sought) → lookupItem rule file start end key ≡ s → atItem s of ≡ Looked.Place from to → Answers rule file start end key kind from to
+  at-item : (of : Item → Looked) (kind : ℕ) → ((item : Item) → of item ≡ Looked.Pointer from to → Placed kind item from to)
+      → (s : Sought) → lookupItem rule file start end key ≡ s → atItem s of ≡ Looked.Pointer from to → Answers rule file start end key kind from to
   unfolding atItem
   at-item of kind placed (Sought.Item item) sought e =
       record { item = item; seeks = sought-item rule file start end key sought; placed = placed item e }
   at-item of kind placed (Sought.Refused why) sought e = let z : _≡_ {A = ℕ} 0 1 = cc in absurd (omega arith)
 
-  pub value-answers : lookupValue rule file start end key ≡ Looked.Place from to → Answers rule file start end key 118 from to
+  pub value-answers : lookupValue rule file start end key ≡ Looked.Pointer from to → Answers rule file start end key 118 from to
   unfolding lookupValue
-  value-answers e = at-item (λ item. valueOf file item) 118 (λ item h. value-placed file item h) _ refl e
+  value-answers e = at-item (λ item. valueOf file item) 118 (λ item h. value-pointer file item h) _ refl e
 
-  pub table-answers : lookupTable rule file start end key ≡ Looked.Place from to → Answers rule file start end key 72 from to
+  pub table-answers : lookupTable rule file start end key ≡ Looked.Pointer from to → Answers rule file start end key 72 from to
   unfolding lookupTable
-  table-answers e = at-item (λ item. nestedOf file item) 72 (λ item h. nested-placed file item h) _ refl e
+  table-answers e = at-item (λ item. nestedOf file item) 72 (λ item h. nested-pointer file item h) _ refl e

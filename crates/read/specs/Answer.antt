@@ -9,17 +9,17 @@ use Rattle.read.specs.declared.listing.Listed.{Listed}
 use Rattle.read.specs.declared.listing.Valued.{Valued}
 
 unfoldable pub lookedNumber : Looked → ℕ
-lookedNumber (Looked.Place start end) = 0
+lookedNumber (Looked.Pointer start end) = 0
 lookedNumber (Looked.Refused why) = number why
 
 -- start and end of the place
-unfoldable pub lookedPlace : Looked → ℕ × ℕ
-lookedPlace (Looked.Place start end) = (start, end)
-lookedPlace (Looked.Refused why) = (0, 0)
+unfoldable pub lookedPointer : Looked → ℕ × ℕ
+lookedPointer (Looked.Pointer start end) = (start, end)
+lookedPointer (Looked.Refused why) = (0, 0)
 
 -- a view is that stretch of the file, and empty on a refusal
 unfoldable pub lookedBytes : List ℕ → Looked → List ℕ
-lookedBytes file (Looked.Place start end) = part file start (end - start)
+lookedBytes file (Looked.Pointer start end) = part file start (end - start)
 lookedBytes file (Looked.Refused why) = []
 
 unfoldable pub listedNumber : Listed → ℕ
@@ -43,10 +43,10 @@ valuedItem (Valued.Unopened why index next) = (index, next .at)
 valuedItem (Valued.Refused why) = (0, 0)
 
 -- start and end of the place
-unfoldable pub valuedPlace : Valued → ℕ × ℕ
-valuedPlace (Valued.Value index start end next) = (start, end)
-valuedPlace (Valued.Unopened why index next) = (0, 0)
-valuedPlace (Valued.Refused why) = (0, 0)
+unfoldable pub valuedPointer : Valued → ℕ × ℕ
+valuedPointer (Valued.Value index start end next) = (start, end)
+valuedPointer (Valued.Unopened why index next) = (0, 0)
+valuedPointer (Valued.Refused why) = (0, 0)
 
 unfoldable pub valuedBytes : List ℕ → Valued → List ℕ
 valuedBytes file (Valued.Value index start end next) = part file start (end - start)

@@ -39,11 +39,11 @@ unfoldable pub lookupItem : (ℕ → ℕ) → List ℕ → ℕ → ℕ → List 
 lookupItem rule file start end key = atOpened (openTable file start end) (λ t. lookupIn rule file key t)
 
 unfoldable pub atPointer : Pointed → Item → Looked
-atPointer Pointed.Inside item = Looked.Place (item .from) (item .to)
+atPointer Pointed.Inside item = Looked.Pointer (item .from) (item .to)
 atPointer (Pointed.Refused why) item = Looked.Refused why
 
 unfoldable pub atNested : Opened → Item → Looked
-atNested (Opened.Table t) item = Looked.Place (item .from) (item .to)
+atNested (Opened.Table t) item = Looked.Pointer (item .from) (item .to)
 atNested (Opened.Refused why) item = Looked.Refused why
 
 -- 13 where the kind is not 'v', then 2 or 3 of the value pointer, whose alignment is 8

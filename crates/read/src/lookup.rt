@@ -43,7 +43,7 @@ pub enum Sought {
 
 // The bytes of the file that a key leads to: a value's, or a nested table's.
 pub enum Looked {
-    Place { start: u32, end: u32 },
+    Pointer { start: u32, end: u32 },
     Refused(Refusal),
 }
 
@@ -184,7 +184,7 @@ fn value_of(file: &[u8], item: Item) -> Looked
         Alignment::Value,
     ) {
         Pointed::Refused(why) => Looked::Refused(why),
-        Pointed::Inside => Looked::Place {
+        Pointed::Inside => Looked::Pointer {
             start: item.from,
             end: item.to,
         },
@@ -200,7 +200,7 @@ fn nested_of(file: &[u8], item: Item) -> Looked
     }
     match open_table(file, item.from, item.to) {
         Opened::Refused(why) => Looked::Refused(why),
-        Opened::Table(_) => Looked::Place {
+        Opened::Table(_) => Looked::Pointer {
             start: item.from,
             end: item.to,
         },

@@ -1,7 +1,7 @@
 // Calls on a builder: whether the library answers, and lays, as the record says.
 use crate::list;
 use crate::list::Record;
-use build_memory::place::part_of;
+use build_memory::fields::part_of;
 use gvdb::building::gvdb_fresh;
 use gvdb::building::gvdb_insert;
 use gvdb::building::gvdb_insert_table;

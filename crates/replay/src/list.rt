@@ -1,6 +1,6 @@
 // A list: records one behind the other. A record is eleven words, lowest byte first, and two strings of bytes behind them: what is asked (its kind),
 // the answer's number, start and end of a table's pointer, five numbers whose meaning is the kind's, and the lengths of the two strings.
-use build_memory::place::part_of;
+use build_memory::fields::part_of;
 use std::num::wrapping_add_usize;
 use words::field::word_at;
 use words::wide::word_size;

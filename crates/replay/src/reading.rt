@@ -1,7 +1,7 @@
 // Questions that change nothing: whether the library answers as the record says.
 use crate::list;
 use crate::list::Record;
-use build_memory::place::part_of;
+use build_memory::fields::part_of;
 use gvdb::reading::gvdb_get;
 use gvdb::reading::gvdb_get_table;
 use gvdb::reading::gvdb_next_key;

@@ -11,7 +11,7 @@ use lib.Dec.{leb, eqb}
 use lib.Bits.{bitAnd, and-zero-l, and-high, and-block}
 use borrow.Author.Tests.{leb-true, leb-false, lt-leb, le-leb, eqb-true, eqb-false, eq-eqb, ne-eqb}
 use Rattle.words.specs.Store.{part}
-use Rattle.words.specs.Field.{number, field, longAt}
+use Rattle.words.specs.Field.{littleEndian, field, longAt}
 use Rattle.words.proofs.ChoiceLaws.{both, both-hold}
 use Rattle.words.proofs.StoreLaws.{length-part}
 use Rattle.words.proofs.FieldLaws.{stretch-bytes}
@@ -80,23 +80,23 @@ both-clear m b = go (eqb b 0) (eqb m 0) refl refl
     go true false e f = ne-eqb (m * 256 + b) 0 (λ z. eqb-false m 0 f (omega arith))
     go false q e f = ne-eqb (m * 256 + b) 0 (λ z. eqb-false b 0 e (omega arith))
 
-clear-ascii : (s : List ℕ) → ((i : ℕ) → getD s i 0 < 256) → eqb (bitAnd (number s) (highest (length s))) 0 ≡ isAscii s
-unfolding number highest isAscii
+clear-ascii : (s : List ℕ) → ((i : ℕ) → getD s i 0 < 256) → eqb (bitAnd (littleEndian s) (highest (length s))) 0 ≡ isAscii s
+unfolding littleEndian highest isAscii
 clear-ascii [] bytes = eq-eqb (bitAnd 0 0) 0 (and-zero-l 0)
 clear-ascii (b ∷ s) bytes =
     let low : b < 2 ^ 8 = bytes 0 in
-    let whole : b + 256 * number s ≡ number s * 2 ^ 8 + b = omega arith in
+    let whole : b + 256 * littleEndian s ≡ littleEndian s * 2 ^ 8 + b = omega arith in
     let mask : 128 + 256 * highest (length s) ≡ highest (length s) * 2 ^ 8 + 128 = omega arith in
     ap₂ (λ (x y : ℕ). eqb (bitAnd x y) 0) whole mask
-    ∙ ap (λ (x : ℕ). eqb x 0) (and-block 8 (number s) (highest (length s)) b 128 low (omega arith))
-    ∙ both-clear (bitAnd (number s) (highest (length s))) (bitAnd b 128)
+    ∙ ap (λ (x : ℕ). eqb x 0) (and-block 8 (littleEndian s) (highest (length s)) b 128 low (omega arith))
+    ∙ both-clear (bitAnd (littleEndian s) (highest (length s))) (bitAnd b 128)
     ∙ ap₂ (λ (p q : Bool). p && q) (bit-clear b (bytes 0)) (clear-ascii s (λ i. bytes (suc i)))
 
 pub eight-ascii : (s : List ℕ) (at : ℕ) → ((i : ℕ) → getD s i 0 < 256) → at + 8 ≤ length s
     → eqb (bitAnd (longAt s at) 0x8080808080808080) 0 ≡ isAscii (part s at 8)
 unfolding field highest
 eight-ascii s at bytes h =
-    ap (λ (n : ℕ). eqb (bitAnd (number (part s at 8)) (highest n)) 0) (sym (length-part s at 8 h))
+    ap (λ (n : ℕ). eqb (bitAnd (littleEndian (part s at 8)) (highest n)) 0) (sym (length-part s at 8 h))
     ∙ clear-ascii (part s at 8) (stretch-bytes 8 at s bytes)
 
 pub ascii-none : (s : List ℕ) (at : ℕ) → isAscii (part s at 0) ≡ true

@@ -43,8 +43,8 @@ same-other a b other = go (sameBytes a b) refl
 pub same-lengths : (a b : List ℕ) → (length a ≡ length b → ⊥) → sameBytes a b ≡ false
 same-lengths a b other = same-other a b (λ e. other (ap length e))
 
-pub same-numbers : (w : ℕ) (a b : List ℕ) (i : ℕ) → (field w a i ≡ field w b i → ⊥) → sameBytes a b ≡ false
-same-numbers w a b i other = same-other a b (λ e. other (ap (λ (l : List ℕ). field w l i) e))
+pub same-little-endian : (w : ℕ) (a b : List ℕ) (i : ℕ) → (field w a i ≡ field w b i → ⊥) → sameBytes a b ≡ false
+same-little-endian w a b i other = same-other a b (λ e. other (ap (λ (l : List ℕ). field w l i) e))
 
 -- no byte, and one
 pub same-none : (a b : List ℕ) → length a ≡ length b → length a ≡ 0 → sameBytes a b ≡ true
@@ -84,7 +84,7 @@ module _ (w : ℕ) (a b : List ℕ) (ha : (i : ℕ) → getD a i 0 < 256) (hb : 
           sym (take-take last i a reach) ∙ ap (λ (l : List ℕ). take last l) front ∙ take-take last i b reach in
           let all : take (last + w) a ≡ take (last + w) b = same-turn last (omega arith) (omega arith) shorter (eqb-true _ _ same) in
           sym (equal-same a b (sym (take-all (last + w) a (omega arith)) ∙ all ∙ take-all (last + w) b (omega arith)))
-      go false other = sym (same-numbers w a b last (eqb-false _ _ other))
+      go false other = sym (same-little-endian w a b last (eqb-false _ _ other))
 
   -- two stretches cover a text of at most twice their length
   pub same-two : (last : ℕ) → last + w ≡ length a → length a ≡ length b → last ≤ w
@@ -93,7 +93,7 @@ module _ (w : ℕ) (a b : List ℕ) (ha : (i : ℕ) → getD a i 0 < 256) (hb : 
     where
       go : (t : Bool) → eqb (field w a 0) (field w b 0) ≡ t → (t && eqb (field w a last) (field w b last)) ≡ sameBytes a b
       go true same = same-last (0 + w) last whole e (omega arith) (same-turn 0 (omega arith) (omega arith) refl (eqb-true _ _ same))
-      go false other = sym (same-numbers w a b 0 (eqb-false _ _ other))
+      go false other = sym (same-little-endian w a b 0 (eqb-false _ _ other))
 
 -- the first n bytes end with the fragment just where they are some bytes and then the fragment
 pub ends-split : (key : List ℕ) (n : ℕ) (frag : List ℕ) → endsAt key n frag ≡ true

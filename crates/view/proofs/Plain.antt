@@ -26,7 +26,7 @@ use Rattle.view.specs.declared.table.OpenedView.{OpenedView}
 use Rattle.view.specs.declared.table.ValueView.{ValueView}
 use Rattle.view.specs.declared.table.NestedView.{NestedView}
 use Rattle.view.specs.declared.table.ListedView.{ListedView}
-use Rattle.view.specs.Part.{Viewed, Stretch, placeStart, placeEnd, listedStart, listedEnd, openedPlace, openedFile, nestedFile}
+use Rattle.view.specs.Part.{Viewed, Stretch, pointerStart, pointerEnd, listedStart, listedEnd, openedPointer, openedFile, nestedFile}
 use Rattle.view.specs.Views.{OpenedOf, ValueOf, NestedOf, ListedOf}
 use Rattle.view.proofs.PartLaws.{stretch-same, stretch-out, viewed-same}
 
@@ -57,12 +57,12 @@ unfolding openTable openPointer tableIn pick
 empty-refused file table empty = rw (empty .seen .holds, empty .starts, empty .ends)
 
 module _ (t : TableView) (key : List ℕ) (r : ValueView) (said : ValueOf t key r) where
-  pub value-seen : {from to : ℕ} → r .answer ≡ Looked.Place from to → Viewed (t .file) (r .bytes) from (take (to - from) (drop from (now (t .file))))
+  pub value-seen : {from to : ℕ} → r .answer ≡ Looked.Pointer from to → Viewed (t .file) (r .bytes) from (take (to - from) (drop from (now (t .file))))
   value-seen {from} {to} e =
-      seen _ _ _ _ from to (ap placeStart e) (ap placeEnd e) (value-in-file plain (now (t .file)) (t .start) (t .end) key (sym (said .answered) ∙ e)) (said .viewed)
+      seen _ _ _ _ from to (ap pointerStart e) (ap pointerEnd e) (value-in-file plain (now (t .file)) (t .start) (t .end) key (sym (said .answered) ∙ e)) (said .viewed)
 
   pub value-refused : {why : Refusal} → r .answer ≡ Looked.Refused why → Viewed (t .file) (r .bytes) 0 []
-  value-refused e = none _ _ _ _ (ap placeStart e) (ap placeEnd e) (said .viewed)
+  value-refused e = none _ _ _ _ (ap pointerStart e) (ap pointerEnd e) (said .viewed)
 
 module _ (t : TableView) (at : ℕ) (r : ListedView) (said : ListedOf t at r) where
   pub listed-seen : {index from to : ℕ} {next : Cursor} → r .answer ≡ Valued.Value index from to next
@@ -80,50 +80,50 @@ module _ (file : RefT (List ℕ)) (start end : ℕ) (r : OpenedView) (said : Ope
   pub opened-whole : {table : Table} → r .answer ≡ Opened.Table table → Whole file (r .table) start end
   opened-whole e = record {
     seen = viewed-same _ _ _ _ _ _ refl (ap (λ o. openedFile o (now file)) e) (said .viewed);
-    starts = said .starts ∙ ap (λ o. openedPlace o start) e;
-    ends = said .ends ∙ ap (λ o. openedPlace o end) e;
+    starts = said .starts ∙ ap (λ o. openedPointer o start) e;
+    ends = said .ends ∙ ap (λ o. openedPointer o end) e;
   }
 
   pub opened-empty : {why : Refusal} → r .answer ≡ Opened.Refused why → Empty file (r .table)
   opened-empty e = record {
     seen = viewed-same _ _ _ _ _ _ refl (ap (λ o. openedFile o (now file)) e) (said .viewed);
-    starts = said .starts ∙ ap (λ o. openedPlace o start) e;
-    ends = said .ends ∙ ap (λ o. openedPlace o end) e;
+    starts = said .starts ∙ ap (λ o. openedPointer o start) e;
+    ends = said .ends ∙ ap (λ o. openedPointer o end) e;
   }
 
 -- a nested table that is looked up opens
-nested-open : (file : List ℕ) (item : Item) {from to : ℕ} → nestedOf file item ≡ Looked.Place from to → (table : Table) × (openTable file from to ≡ Opened.Table table)
+nested-open : (file : List ℕ) (item : Item) {from to : ℕ} → nestedOf file item ≡ Looked.Pointer from to → (table : Table) × (openTable file from to ≡ Opened.Table table)
 unfolding nestedOf atNested
 nested-open file item {from} {to} =
-    let P : Looked → Type 0 = λ l. l ≡ Looked.Place from to → (table : Table) × (openTable file from to ≡ Opened.Table table) in
+    let P : Looked → Type 0 = λ l. l ≡ Looked.Pointer from to → (table : Table) × (openTable file from to ≡ Opened.Table table) in
     pick-with P _ _ _ (λ _. by-opened (openTable file (item .from) (item .to)) refl) (λ _ e. let z : _≡_ {A = ℕ} 0 1 = cc in absurd (omega arith))
   where
-    by-opened : (o : Opened) → openTable file (item .from) (item .to) ≡ o → atNested o item ≡ Looked.Place from to → (table : Table) × (openTable file from to ≡ Opened.Table table)
+    by-opened : (o : Opened) → openTable file (item .from) (item .to) ≡ o → atNested o item ≡ Looked.Pointer from to → (table : Table) × (openTable file from to ≡ Opened.Table table)
     by-opened (Opened.Table table) opens e =
         let f : item .from ≡ from = cc in
         let g : item .to ≡ to = cc in
         (table, subst (λ (n : ℕ). openTable file n to ≡ Opened.Table table) f (subst (λ (n : ℕ). openTable file (item .from) n ≡ Opened.Table table) g opens))
     by-opened (Opened.Refused why) opens e = let z : _≡_ {A = ℕ} 0 1 = cc in absurd (omega arith)
 
-pub table-opens : (rule : ℕ → ℕ) (file : List ℕ) (start end : ℕ) (key : List ℕ) {from to : ℕ} → lookupTable rule file start end key ≡ Looked.Place from to
+pub table-opens : (rule : ℕ → ℕ) (file : List ℕ) (start end : ℕ) (key : List ℕ) {from to : ℕ} → lookupTable rule file start end key ≡ Looked.Pointer from to
     → (table : Table) × (openTable file from to ≡ Opened.Table table)
 unfolding lookupTable atItem
 table-opens rule file start end key {from} {to} = by-item (lookupItem rule file start end key)
   where
-    by-item : (s : Sought) → atItem s (λ item. nestedOf file item) ≡ Looked.Place from to → (table : Table) × (openTable file from to ≡ Opened.Table table)
+    by-item : (s : Sought) → atItem s (λ item. nestedOf file item) ≡ Looked.Pointer from to → (table : Table) × (openTable file from to ≡ Opened.Table table)
     by-item (Sought.Item item) e = nested-open file item e
     by-item (Sought.Refused why) e = let z : _≡_ {A = ℕ} 0 1 = cc in absurd (omega arith)
 
 module _ (t : TableView) (key : List ℕ) (r : NestedView) (said : NestedOf t key r) where
-  pub nested-whole : {from to : ℕ} → r .answer ≡ Looked.Place from to → Whole (t .file) (r .table) from to
+  pub nested-whole : {from to : ℕ} → r .answer ≡ Looked.Pointer from to → Whole (t .file) (r .table) from to
   nested-whole e = record {
     seen = viewed-same _ _ _ _ _ _ refl (ap (λ l. nestedFile l (now (t .file))) e) (said .viewed);
-    starts = said .starts ∙ ap placeStart e;
-    ends = said .ends ∙ ap placeEnd e;
+    starts = said .starts ∙ ap pointerStart e;
+    ends = said .ends ∙ ap pointerEnd e;
   }
 
   -- and the table at the view opens
-  pub nested-opens : {from to : ℕ} → r .answer ≡ Looked.Place from to → (table : Table) × (openTable (now (r .table .file)) (r .table .start) (r .table .end) ≡ Opened.Table table)
+  pub nested-opens : {from to : ℕ} → r .answer ≡ Looked.Pointer from to → (table : Table) × (openTable (now (r .table .file)) (r .table .start) (r .table .end) ≡ Opened.Table table)
   nested-opens {from} {to} e =
       let whole = nested-whole e in
       let opens = table-opens plain (now (t .file)) (t .start) (t .end) key (sym (said .answered) ∙ e) in
@@ -132,6 +132,6 @@ module _ (t : TableView) (key : List ℕ) (r : NestedView) (said : NestedOf t ke
   pub nested-empty : {why : Refusal} → r .answer ≡ Looked.Refused why → Empty (t .file) (r .table)
   nested-empty e = record {
     seen = viewed-same _ _ _ _ _ _ refl (ap (λ l. nestedFile l (now (t .file))) e) (said .viewed);
-    starts = said .starts ∙ ap placeStart e;
-    ends = said .ends ∙ ap placeEnd e;
+    starts = said .starts ∙ ap pointerStart e;
+    ends = said .ends ∙ ap pointerEnd e;
   }

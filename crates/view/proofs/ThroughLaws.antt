@@ -14,9 +14,9 @@ use Rattle.view.specs.declared.table.TableView.{TableView}
 use Rattle.view.specs.declared.table.OpenedView.{OpenedView}
 use Rattle.view.specs.declared.table.ValueView.{ValueView}
 use Rattle.view.specs.declared.table.NestedView.{NestedView}
-use Rattle.view.specs.Part.{Viewed, ValueIn, stretchAt, stretchOf, placeStart, placeEnd}
+use Rattle.view.specs.Part.{Viewed, ValueIn, stretchAt, stretchOf, pointerStart, pointerEnd}
 use Rattle.view.specs.Views.{OpenedOf, ValueOf, NestedOf}
-use Rattle.view.specs.Through.{atPlace, nestedValue}
+use Rattle.view.specs.Through.{atLooked, nestedValue}
 use Rattle.view.proofs.PartLaws.{stretch-in}
 use Rattle.view.proofs.Plain.{Whole, Empty, empty-refused, opened-whole, opened-empty, nested-whole, nested-empty, value-refused}
 
@@ -30,7 +30,7 @@ unfolding lookupTable lookupItem atItem atOpened
 table-unopened file start end key e = rw e
 
 nested-unopened : (file : List ℕ) (start end : ℕ) (name key : List ℕ) {why : Refusal} → openTable file start end ≡ Opened.Refused why → nestedValue file start end name key ≡ Looked.Refused why
-unfolding nestedValue atPlace
+unfolding nestedValue atLooked
 nested-unopened file start end name key e = rw (table-unopened file start end name e)
 
 -- a part of a part
@@ -51,7 +51,7 @@ nothing-seen file r {why = why} e viewed =
 
 -- `ValueIn` with the file's bytes apart from the file
 abbrev ValueAt : RefT (List ℕ) → List ℕ → Looked → RefT (List ℕ) → Type 0
-ValueAt file bytes l r = Viewed file r (stretchAt bytes (placeStart l) (placeEnd l)) (stretchOf bytes (placeStart l) (placeEnd l))
+ValueAt file bytes l r = Viewed file r (stretchAt bytes (pointerStart l) (pointerEnd l)) (stretchOf bytes (pointerStart l) (pointerEnd l))
 
 module _ (file : RefT (List ℕ)) (table : TableView) (start end : ℕ) (whole : Whole file table start end) where
   value-whole : (key : List ℕ) (v : ValueView) → ValueOf table key v → ValueIn file (lookupValue plain (now file) start end key) (v .bytes)
@@ -87,21 +87,21 @@ value-through file start end key o v opened said = by-answer (o .answer) refl
 -- a nested view of a view of the whole file, by what the lookup answered
 nested-through-whole : (file : RefT (List ℕ)) (table : TableView) (start end : ℕ) (name key : List ℕ) (n : NestedView) (v : ValueView) → Whole file table start end
     → NestedOf table name n → ValueOf (n .table) key v → ValueIn file (nestedValue (now file) start end name key) (v .bytes)
-unfolding nestedValue atPlace
+unfolding nestedValue atLooked
 nested-through-whole file table start end name key n v whole nested said = by-answer (n .answer) refl
   where
     same : n .answer ≡ lookupTable plain (now file) start end name
     same = nested .answered ∙ rw (whole .seen .holds, whole .starts, whole .ends) refl
 
-    by-answer : (answer : Looked) → n .answer ≡ answer → ValueIn file (atPlace (lookupTable plain (now file) start end name) (λ from to. lookupValue plain (now file) from to key)) (v .bytes)
-    by-answer (Looked.Place from to) e =
+    by-answer : (answer : Looked) → n .answer ≡ answer → ValueIn file (atLooked (lookupTable plain (now file) start end name) (λ from to. lookupValue plain (now file) from to key)) (v .bytes)
+    by-answer (Looked.Pointer from to) e =
         let on = nested-whole table name n nested e in
         let there : Whole file (n .table) from to = record { seen = viewed-on file (table .file) (n .table .file) 0 (now file) (now file) (whole .seen) (subst (λ (xs : List ℕ). Viewed (table .file) (n .table .file) 0 xs) (whole .seen .holds) (on .seen)); starts = on .starts; ends = on .ends } in
-        subst (λ (l : Looked). ValueIn file (atPlace l (λ from to. lookupValue plain (now file) from to key)) (v .bytes)) (sym e ∙ same) (value-whole file (n .table) from to there key v said)
+        subst (λ (l : Looked). ValueIn file (atLooked l (λ from to. lookupValue plain (now file) from to key)) (v .bytes)) (sym e ∙ same) (value-whole file (n .table) from to there key v said)
     by-answer (Looked.Refused why) e =
         let none = nested-empty table name n nested e in
         let there : Empty file (n .table) = record { seen = viewed-on file (table .file) (n .table .file) 0 (now file) [] (whole .seen) (none .seen); starts = none .starts; ends = none .ends } in
-        subst (λ (l : Looked). ValueIn file (atPlace l (λ from to. lookupValue plain (now file) from to key)) (v .bytes)) (sym e ∙ same)
+        subst (λ (l : Looked). ValueIn file (atLooked l (λ from to. lookupValue plain (now file) from to key)) (v .bytes)) (sym e ∙ same)
         (nothing-seen file (v .bytes) {looked = Looked.Refused why} {why = why} refl (value-none file (n .table) there key v said))
 
 pub nested-through : (file : RefT (List ℕ)) (start end : ℕ) (name key : List ℕ) (o : OpenedView) (n : NestedView) (v : ValueView) → OpenedOf file start end o

@@ -16,7 +16,7 @@ use Rattle.view.specs.declared.table.OpenedView.{OpenedView}
 use Rattle.view.specs.declared.table.ValueView.{ValueView}
 use Rattle.view.specs.declared.table.NestedView.{NestedView}
 use Rattle.view.specs.declared.table.ListedView.{ListedView}
-use Rattle.view.specs.Part.{Viewed, ValueIn, ListedIn, OpenedIn, NestedIn, openedPlace, placeStart, placeEnd}
+use Rattle.view.specs.Part.{Viewed, ValueIn, ListedIn, OpenedIn, NestedIn, openedPointer, pointerStart, pointerEnd}
 use Rattle.view.specs.Views.{OpenedOf, ValueOf, NestedOf, ListedOf, KeyOf}
 
 -- two slices are the same bytes of the same memory
@@ -45,8 +45,8 @@ open-view-unique file start end r s p q =
       same,
       record {
         file = viewed-unique file _ _ _ _ (subst (λ (o : Opened). OpenedIn file o (r .table .file)) same (p .viewed)) (q .viewed);
-        start = p .starts ∙ ap (λ o. openedPlace o start) same ∙ sym (q .starts);
-        end = p .ends ∙ ap (λ o. openedPlace o end) same ∙ sym (q .ends);
+        start = p .starts ∙ ap (λ o. openedPointer o start) same ∙ sym (q .starts);
+        end = p .ends ∙ ap (λ o. openedPointer o end) same ∙ sym (q .ends);
       },
     )
 
@@ -62,8 +62,8 @@ module _ (t : TableView) where
         same,
         record {
           file = viewed-unique (t .file) _ _ _ _ (subst (λ (l : Looked). NestedIn (t .file) l (r .table .file)) same (p .viewed)) (q .viewed);
-          start = p .starts ∙ ap placeStart same ∙ sym (q .starts);
-          end = p .ends ∙ ap placeEnd same ∙ sym (q .ends);
+          start = p .starts ∙ ap pointerStart same ∙ sym (q .starts);
+          end = p .ends ∙ ap pointerEnd same ∙ sym (q .ends);
         },
       )
 

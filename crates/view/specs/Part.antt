@@ -29,17 +29,17 @@ abbrev pub Stretch : RefT (List ℕ) → ℕ → ℕ → RefT (List ℕ) → Typ
 Stretch file start end r = Viewed file r (stretchAt (now file) start end) (stretchOf (now file) start end)
 
 -- the pointer of a lookup's place; 0 and 0 on a refusal
-abbrev pub placeStart : Looked → ℕ
-placeStart (Looked.Place start end) = start
-placeStart (Looked.Refused why) = 0
+abbrev pub pointerStart : Looked → ℕ
+pointerStart (Looked.Pointer start end) = start
+pointerStart (Looked.Refused why) = 0
 
-abbrev pub placeEnd : Looked → ℕ
-placeEnd (Looked.Place start end) = end
-placeEnd (Looked.Refused why) = 0
+abbrev pub pointerEnd : Looked → ℕ
+pointerEnd (Looked.Pointer start end) = end
+pointerEnd (Looked.Refused why) = 0
 
 -- a value that was looked up
 abbrev pub ValueIn : RefT (List ℕ) → Looked → RefT (List ℕ) → Type 0
-ValueIn file looked r = Stretch file (placeStart looked) (placeEnd looked) r
+ValueIn file looked r = Stretch file (pointerStart looked) (pointerEnd looked) r
 
 -- a listed value's place; 0 and 0 on a refusal
 abbrev pub listedStart : Valued → ℕ
@@ -57,9 +57,9 @@ abbrev pub ListedIn : RefT (List ℕ) → Valued → RefT (List ℕ) → Type 0
 ListedIn file valued r = Stretch file (listedStart valued) (listedEnd valued) r
 
 -- a number of the pointer to a table that opened; 0 on a refusal
-abbrev pub openedPlace : Opened → ℕ → ℕ
-openedPlace (Opened.Table table) number = number
-openedPlace (Opened.Refused why) number = 0
+abbrev pub openedPointer : Opened → ℕ → ℕ
+openedPointer (Opened.Table table) number = number
+openedPointer (Opened.Refused why) number = 0
 
 -- the file of a table that opened, or of a nested table; none on a refusal
 abbrev pub openedFile : Opened → List ℕ → List ℕ
@@ -67,7 +67,7 @@ openedFile (Opened.Table table) file = file
 openedFile (Opened.Refused why) file = []
 
 abbrev pub nestedFile : Looked → List ℕ → List ℕ
-nestedFile (Looked.Place start end) file = file
+nestedFile (Looked.Pointer start end) file = file
 nestedFile (Looked.Refused why) file = []
 
 abbrev pub OpenedIn : RefT (List ℕ) → Opened → RefT (List ℕ) → Type 0

@@ -5,9 +5,9 @@ use Rattle.words.specs.Hash.{plain}
 use Rattle.read.specs.declared.lookup.Looked.{Looked}
 use Rattle.read.specs.Lookup.{lookupValue, lookupTable}
 
-unfoldable pub atPlace : Looked → (ℕ → ℕ → Looked) → Looked
-atPlace (Looked.Place start end) looked = looked start end
-atPlace (Looked.Refused why) looked = Looked.Refused why
+unfoldable pub atLooked : Looked → (ℕ → ℕ → Looked) → Looked
+atLooked (Looked.Pointer start end) looked = looked start end
+atLooked (Looked.Refused why) looked = Looked.Refused why
 
 unfoldable pub nestedValue : List ℕ → ℕ → ℕ → List ℕ → List ℕ → Looked
-nestedValue file start end table key = atPlace (lookupTable plain file start end table) (λ from to. lookupValue plain file from to key)
+nestedValue file start end table key = atLooked (lookupTable plain file start end table) (λ from to. lookupValue plain file from to key)

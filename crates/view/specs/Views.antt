@@ -14,14 +14,14 @@ use Rattle.view.specs.declared.table.OpenedView.{OpenedView}
 use Rattle.view.specs.declared.table.ValueView.{ValueView}
 use Rattle.view.specs.declared.table.NestedView.{NestedView}
 use Rattle.view.specs.declared.table.ListedView.{ListedView}
-use Rattle.view.specs.Part.{ValueIn, ListedIn, OpenedIn, NestedIn, openedPlace, placeStart, placeEnd}
+use Rattle.view.specs.Part.{ValueIn, ListedIn, OpenedIn, NestedIn, openedPointer, pointerStart, pointerEnd}
 
 -- an opening of a file at a pointer
 pub record OpenedOf (file : RefT (List ℕ)) (start end : ℕ) (r : OpenedView) : Type 0 where
   pub answered : r .answer ≡ openTable (now file) start end
   pub viewed : OpenedIn file (r .answer) (r .table .file)
-  pub starts : r .table .start ≡ openedPlace (r .answer) start
-  pub ends : r .table .end ≡ openedPlace (r .answer) end
+  pub starts : r .table .start ≡ openedPointer (r .answer) start
+  pub ends : r .table .end ≡ openedPointer (r .answer) end
 
 -- a lookup of a value in the table t
 pub record ValueOf (t : TableView) (key : List ℕ) (r : ValueView) : Type 0 where
@@ -32,8 +32,8 @@ pub record ValueOf (t : TableView) (key : List ℕ) (r : ValueView) : Type 0 whe
 pub record NestedOf (t : TableView) (key : List ℕ) (r : NestedView) : Type 0 where
   pub answered : r .answer ≡ lookupTable plain (now (t .file)) (t .start) (t .end) key
   pub viewed : NestedIn (t .file) (r .answer) (r .table .file)
-  pub starts : r .table .start ≡ placeStart (r .answer)
-  pub ends : r .table .end ≡ placeEnd (r .answer)
+  pub starts : r .table .start ≡ pointerStart (r .answer)
+  pub ends : r .table .end ≡ pointerEnd (r .answer)
 
 -- a value listing of the table t from a position on
 pub record ListedOf (t : TableView) (at : ℕ) (r : ListedView) : Type 0 where

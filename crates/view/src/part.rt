@@ -4,7 +4,7 @@ use read::listing::Valued;
 use read::lookup::Looked;
 ghost use mathlib.Core.Path.{_≡_};
 ghost use mathlib.Core.List.{[]};
-ghost use Rattle.view.specs.Part.{Viewed, Stretch, ValueIn, ListedIn, OpenedIn, NestedIn, openedPlace, placeStart, placeEnd, listedStart, listedEnd};
+ghost use Rattle.view.specs.Part.{Viewed, Stretch, ValueIn, ListedIn, OpenedIn, NestedIn, openedPointer, pointerStart, pointerEnd, listedStart, listedEnd};
 
 // No bytes of the file.
 pub fn nothing<'a>(file: &'a [u8]) -> &'a [u8]
@@ -29,20 +29,20 @@ pub fn stretch<'a>(file: &'a [u8], start: u32, end: u32) -> &'a [u8]
 }
 
 // The place that a lookup answers.
-pub fn place_start(looked: Looked) -> u32
-    ensures { λ r. ⌜ r ≡ placeStart looked ⌝ }
+pub fn pointer_start(looked: Looked) -> u32
+    ensures { λ r. ⌜ r ≡ pointerStart looked ⌝ }
 {
     match looked {
-        Looked::Place { start, end: _ } => start,
+        Looked::Pointer { start, end: _ } => start,
         Looked::Refused(_) => 0,
     }
 }
 
-pub fn place_end(looked: Looked) -> u32
-    ensures { λ r. ⌜ r ≡ placeEnd looked ⌝ }
+pub fn pointer_end(looked: Looked) -> u32
+    ensures { λ r. ⌜ r ≡ pointerEnd looked ⌝ }
 {
     match looked {
-        Looked::Place { start: _, end } => end,
+        Looked::Pointer { start: _, end } => end,
         Looked::Refused(_) => 0,
     }
 }
@@ -90,7 +90,7 @@ pub fn listed_end(valued: Valued) -> u32
 pub fn value_part<'a>(file: &'a [u8], looked: Looked) -> &'a [u8]
     ensures { λ r. ⌜ ValueIn (file .entry) looked r ⌝ }
 {
-    stretch(file, place_start(looked), place_end(looked))
+    stretch(file, pointer_start(looked), pointer_end(looked))
 }
 
 // The bytes of a value that was listed.
@@ -105,7 +105,7 @@ pub fn nested_part<'a>(file: &'a [u8], looked: Looked) -> &'a [u8]
     ensures { λ r. ⌜ NestedIn (file .entry) looked r ⌝ }
 {
     match looked {
-        Looked::Place { start: _, end: _ } => file,
+        Looked::Pointer { start: _, end: _ } => file,
         Looked::Refused(_) => nothing(file),
     }
 }
@@ -121,8 +121,8 @@ pub fn opened_part<'a>(file: &'a [u8], opened: Opened) -> &'a [u8]
 }
 
 // A number of the pointer to a table that opened.
-pub fn opened_place(opened: Opened, number: u32) -> u32
-    ensures { λ r. ⌜ r ≡ openedPlace opened number ⌝ }
+pub fn opened_pointer(opened: Opened, number: u32) -> u32
+    ensures { λ r. ⌜ r ≡ openedPointer opened number ⌝ }
 {
     match opened {
         Opened::Table(_) => number,

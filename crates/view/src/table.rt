@@ -48,8 +48,8 @@ pub fn open_view<'a>(file: &'a [u8], start: u32, end: u32) -> OpenedView<'a>
 {
     let answer = layout::table::open_table(file, start, end);
     let lent = crate::part::opened_part(file, answer);
-    let from = crate::part::opened_place(answer, start);
-    let to = crate::part::opened_place(answer, end);
+    let from = crate::part::opened_pointer(answer, start);
+    let to = crate::part::opened_pointer(answer, end);
     OpenedView {
         answer,
         table: TableView {
@@ -76,8 +76,8 @@ impl<'a> TableView<'a> {
     {
         let answer = read::lookup::lookup_table(self.file, self.start, self.end, key);
         let lent = crate::part::nested_part(self.file, answer);
-        let from = crate::part::place_start(answer);
-        let to = crate::part::place_end(answer);
+        let from = crate::part::pointer_start(answer);
+        let to = crate::part::pointer_end(answer);
         NestedView {
             answer,
             table: TableView {

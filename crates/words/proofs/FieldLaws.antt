@@ -11,17 +11,17 @@ use borrow.Author.Tests.{ltb-true, ltb-false}
 use lib.ListN.{length, getD, take, drop, set, length-take, length-drop, List·getD-eq-default}
 use lib.Seq.{drop-cons, getD-take, getD-drop}
 use Rattle.words.specs.Store.{part, putAt}
-use Rattle.words.specs.Field.{number, spelled, field, halfAt, wordAt, longAt}
+use Rattle.words.specs.Field.{littleEndian, spelled, field, halfAt, wordAt, longAt}
 use Rattle.words.proofs.StoreLaws.{part-put, part-before, part-after, part-part}
 
 -- a field is its first byte and 256 times the field of the others
 pub field-step : (n : ℕ) (bytes : List ℕ) (at next : ℕ) → next ≡ at + 1 → at < length bytes
     → field (suc n) bytes at ≡ getD bytes at 0 + 256 * field n bytes next
-unfolding field number
+unfolding field littleEndian
 field-step n bytes at next e h = rw (e, add-one, drop-cons bytes at 0)
 
 pub field-none : (bytes : List ℕ) (at : ℕ) → field 0 bytes at ≡ 0
-unfolding field number
+unfolding field littleEndian
 field-none bytes at = refl
 
 -- a field of two and one of four, byte by byte
@@ -64,10 +64,10 @@ unfolding spelled
 length-spelled zero v = refl
 length-spelled (suc n) v = ap suc (length-spelled n (v / 256))
 
-pub number-spelled : (n v : ℕ) → v < 256 ^ n → number (spelled n v) ≡ v
-unfolding number spelled
-number-spelled zero v h = omega arith
-number-spelled (suc n) v h = omega (arith, number-spelled n (v / 256) (omega arith))
+pub little-endian-spelled : (n v : ℕ) → v < 256 ^ n → littleEndian (spelled n v) ≡ v
+unfolding littleEndian spelled
+little-endian-spelled zero v h = omega arith
+little-endian-spelled (suc n) v h = omega (arith, little-endian-spelled n (v / 256) (omega arith))
 
 -- what straight-line code leaves is the definition's store
 pub two-stores : (out : List ℕ) (at v : ℕ) → set (set out at (v % 256)) (at + 1) (v / 256 % 256) ≡ putAt out at (spelled 2 v)
@@ -89,28 +89,28 @@ four-stores out at v =
 pub field-put : (n : ℕ) (out : List ℕ) (at v : ℕ) → at + n ≤ length out → v < 256 ^ n → field n (putAt out at (spelled n v)) at ≡ v
 unfolding field
 field-put n out at v fits small =
-    ap number (rw (length-spelled n v) at (part-put out at (spelled n v) (rw (length-spelled n v) fits))) ∙ number-spelled n v small
+    ap littleEndian (rw (length-spelled n v) at (part-put out at (spelled n v) (rw (length-spelled n v) fits))) ∙ little-endian-spelled n v small
 
 -- reading a field before a store, or behind it
 pub field-before : (n : ℕ) (out : List ℕ) (at : ℕ) (vs : List ℕ) (k : ℕ) → k + n ≤ at → field n (putAt out at vs) k ≡ field n out k
 unfolding field
-field-before n out at vs k h = ap number (part-before out at vs k n h)
+field-before n out at vs k h = ap littleEndian (part-before out at vs k n h)
 
 pub field-after : (n : ℕ) (out : List ℕ) (at : ℕ) (vs : List ℕ) (k : ℕ) → at + length vs ≤ k → field n (putAt out at vs) k ≡ field n out k
 unfolding field
-field-after n out at vs k h = ap number (part-after out at vs k n h)
+field-after n out at vs k h = ap littleEndian (part-after out at vs k n h)
 
 -- a field of a part of a file is the file's own, further on
 pub field-part : (n : ℕ) (bytes : List ℕ) (start size at : ℕ) → at + n ≤ size → field n (part bytes start size) at ≡ field n bytes (start + at)
 unfolding field
-field-part n bytes start size at h = ap number (part-part bytes start size at n h)
+field-part n bytes start size at h = ap littleEndian (part-part bytes start size at n h)
 
 -- a field of bytes is below 256 ^ n. A slice's own rule gives `all`: `c .shared-slice-known .given` is of this form
-number-below : (bytes : List ℕ) (n : ℕ) → length bytes ≤ n → ((i : ℕ) → getD bytes i 0 < 256) → number bytes < 256 ^ n
-unfolding number
-number-below [] n h all = one-le-pow n 256 (omega arith)
-number-below (b ∷ bytes) zero h all = absurd (omega arith)
-number-below (b ∷ bytes) (suc n) h all = omega (arith, all 0, number-below bytes n (omega arith) (λ i. all (suc i)))
+little-endian-below : (bytes : List ℕ) (n : ℕ) → length bytes ≤ n → ((i : ℕ) → getD bytes i 0 < 256) → littleEndian bytes < 256 ^ n
+unfolding littleEndian
+little-endian-below [] n h all = one-le-pow n 256 (omega arith)
+little-endian-below (b ∷ bytes) zero h all = absurd (omega arith)
+little-endian-below (b ∷ bytes) (suc n) h all = omega (arith, all 0, little-endian-below bytes n (omega arith) (λ i. all (suc i)))
 
 -- a stretch of bytes is bytes
 pub stretch-bytes : (n at : ℕ) (bytes : List ℕ) → ((i : ℕ) → getD bytes i 0 < 256) → (i : ℕ) → getD (take n (drop at bytes)) i 0 < 256
@@ -125,25 +125,25 @@ stretch-bytes n at bytes all i = go (ltb i n) refl
 pub field-below : (n : ℕ) (bytes : List ℕ) (at : ℕ) → ((i : ℕ) → getD bytes i 0 < 256) → field n bytes at < 256 ^ n
 unfolding field
 field-below n bytes at all =
-    number-below (take n (drop at bytes)) n (omega (arith, length-take n (drop at bytes))) (stretch-bytes n at bytes all)
+    little-endian-below (take n (drop at bytes)) n (omega (arith, length-take n (drop at bytes))) (stretch-bytes n at bytes all)
 
 -- ---- a number says which bytes spell it
 
-numbers-same : (a b : List ℕ) → length a ≡ length b → ((i : ℕ) → getD a i 0 < 256) → ((i : ℕ) → getD b i 0 < 256) → number a ≡ number b → a ≡ b
-unfolding number
-numbers-same [] [] e ha hb same = refl
-numbers-same [] (y ∷ b) e ha hb same = absurd (omega arith)
-numbers-same (x ∷ a) [] e ha hb same = absurd (omega arith)
-numbers-same (x ∷ a) (y ∷ b) e ha hb same =
+little-endian-same : (a b : List ℕ) → length a ≡ length b → ((i : ℕ) → getD a i 0 < 256) → ((i : ℕ) → getD b i 0 < 256) → littleEndian a ≡ littleEndian b → a ≡ b
+unfolding littleEndian
+little-endian-same [] [] e ha hb same = refl
+little-endian-same [] (y ∷ b) e ha hb same = absurd (omega arith)
+little-endian-same (x ∷ a) [] e ha hb same = absurd (omega arith)
+little-endian-same (x ∷ a) (y ∷ b) e ha hb same =
     let first : x ≡ y = omega (arith, ha 0, hb 0) in
-    let others : number a ≡ number b = omega (arith, ha 0, hb 0) in
-    cc (first, numbers-same a b (omega arith) (λ i. ha (suc i)) (λ i. hb (suc i)) others)
+    let others : littleEndian a ≡ littleEndian b = omega (arith, ha 0, hb 0) in
+    cc (first, little-endian-same a b (omega arith) (λ i. ha (suc i)) (λ i. hb (suc i)) others)
 
 -- stretches of bytes that are one number are the same bytes
 pub field-same : (n : ℕ) (a b : List ℕ) (at : ℕ) → at + n ≤ length a → at + n ≤ length b → ((i : ℕ) → getD a i 0 < 256) → ((i : ℕ) → getD b i 0 < 256)
     → field n a at ≡ field n b at → part a at n ≡ part b at n
 unfolding field
 field-same n a b at fa fb ha hb same =
-    numbers-same (take n (drop at a)) (take n (drop at b))
+    little-endian-same (take n (drop at a)) (take n (drop at b))
     (omega (arith, length-take n (drop at a), length-take n (drop at b), length-drop at a, length-drop at b))
     (stretch-bytes n at a ha) (stretch-bytes n at b hb) same

@@ -4,9 +4,9 @@ use mathlib.Core.List.{List, [], _∷_}
 use Rattle.words.specs.Store.{part}
 
 -- the number that bytes spell, lowest first
-unfoldable pub number : List ℕ → ℕ
-number [] = 0
-number (b ∷ bytes) = b + 256 * number bytes
+unfoldable pub littleEndian : List ℕ → ℕ
+littleEndian [] = 0
+littleEndian (b ∷ bytes) = b + 256 * littleEndian bytes
 
 -- the n lowest bytes of a number, lowest first
 unfoldable pub spelled : ℕ → ℕ → List ℕ
@@ -15,7 +15,7 @@ spelled (suc n) v = v % 256 ∷ spelled n (v / 256)
 
 -- the field of n bytes at `at`
 unfoldable pub field : ℕ → List ℕ → ℕ → ℕ
-field n bytes at = number (part bytes at n)
+field n bytes at = littleEndian (part bytes at n)
 
 abbrev pub halfAt : List ℕ → ℕ → ℕ
 halfAt = field 2

@@ -60,7 +60,7 @@ fn value(file: &[u8], start: u32, end: u32, at: usize) {
 
 fn looked(answer: Looked) {
     match answer {
-        Looked::Place { start, end } => say::place(start, end),
+        Looked::Pointer { start, end } => say::place(start, end),
         Looked::Refused(why) => {
             say::text(b" ");
             say::number(number_of(why) as u64);

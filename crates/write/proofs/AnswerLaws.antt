@@ -14,31 +14,31 @@ use Rattle.words.proofs.StoreLaws.{put-front}
 use Rattle.layout.specs.Table.{longestFile}
 use Rattle.layout.specs.declared.refusal.Refusal.the-variants.{MemoryBroken, TableUnknown, EmptyKey, ImageTooLong}
 use Rattle.build_memory.specs.Memory.{tableTotal, tablePlaced}
-use Rattle.build_rules.specs.Whole.{wholeSound}
+use Rattle.build_rules.specs.Valid.{fullyValid}
 use Rattle.image.specs.Plan.{chunkSize}
 use Rattle.image.specs.Image.{headerSize, depth}
-use Rattle.write_bytes.specs.Sheet.{slotCount, sheetImage}
+use Rattle.write_bytes.specs.Numbered.{slotCount, numberedImage}
 use Rattle.write_numbers.specs.Roster.{stateOf}
 use Rattle.write.specs.declared.Written.{Written}
-use Rattle.write.specs.Write.{hasEmpty, isRoot, tooLong, imageFor, writeAnswer, laidBy, imageAfter}
-use Rattle.write.specs.Answer.{sizeAnswer, sheetAnswer, rootAnswer}
-use Rattle.write.specs.Sheeted.{Sheeted}
-use Rattle.write.proofs.SheetLaws.{sheet-image, sheet-count}
+use Rattle.write.specs.Write.{hasEmpty, freeStanding, tooLong, imageFor, writeAnswer, laidBy, imageAfter}
+use Rattle.write.specs.Answer.{sizeAnswer, fitAnswer, tableAnswer}
+use Rattle.write.specs.NumberedAs.{NumberedAs}
+use Rattle.write.proofs.NumberedLaws.{numbered-image, numbered-count}
 
 -- ---- the table
 
 module _ (ws : List ℕ) (t : ℕ) where
-  pub root-unknown : tableTotal ws ≤ t → false ≡ isRoot ws t
-  unfolding isRoot
-  root-unknown h = simp (le-ltb _ _ h)
+  pub free-unknown : tableTotal ws ≤ t → false ≡ freeStanding ws t
+  unfolding freeStanding
+  free-unknown h = simp (le-ltb _ _ h)
 
-  pub root-known : t < tableTotal ws → (placed : ℕ) → placed ≡ tablePlaced ws t → eqb placed 0 ≡ isRoot ws t
-  unfolding isRoot
-  root-known h placed e = simp (lt-ltb _ _ h, e)
+  pub free-known : t < tableTotal ws → (placed : ℕ) → placed ≡ tablePlaced ws t → eqb placed 0 ≡ freeStanding ws t
+  unfolding freeStanding
+  free-known h placed e = simp (lt-ltb _ _ h, e)
 
-  pub root-below : isRoot ws t ≡ true → t < tableTotal ws
-  unfolding isRoot
-  root-below e = ltb-true _ _ (both (ltb t (tableTotal ws)) _ e .0)
+  pub free-below : freeStanding ws t ≡ true → t < tableTotal ws
+  unfolding freeStanding
+  free-below e = ltb-true _ _ (both (ltb t (tableTotal ws)) _ e .0)
 
 -- ---- an answer, and what it lays
 
@@ -92,29 +92,29 @@ chunk-is : (count : ℕ) → 32 + 28 * count ≡ headerSize + chunkSize count
 unfolding chunkSize
 chunk-is count = omega arith
 
-module _ (sheet ar before : List ℕ) (t : ℕ) where
+module _ (numbered ar before : List ℕ) (t : ℕ) where
   -- the answer from the sheet
-  abbrev pub FromSheet : Written → List ℕ → Type 0
-  FromSheet r after = Given (sheetAnswer sheet ar t (length before)) r (sheetImage sheet ar t) before after
+  abbrev pub FromNumbered : Written → List ℕ → Type 0
+  FromNumbered r after = Given (fitAnswer numbered ar t (length before)) r (numberedImage numbered ar t) before after
 
-  pub sheet-long : longestFile < length (sheetImage sheet ar t) → FromSheet (Written.Refused ImageTooLong) before
-  unfolding sheetAnswer
-  sheet-long h = refused _ (sheetImage sheet ar t) before (Written.Refused ImageTooLong) (size-long (length before) (slotCount sheet t) (length (sheetImage sheet ar t)) h) (nothing-long (sheetImage sheet ar t) before)
+  pub numbered-long : longestFile < length (numberedImage numbered ar t) → FromNumbered (Written.Refused ImageTooLong) before
+  unfolding fitAnswer
+  numbered-long h = refused _ (numberedImage numbered ar t) before (Written.Refused ImageTooLong) (size-long (length before) (slotCount numbered t) (length (numberedImage numbered ar t)) h) (nothing-long (numberedImage numbered ar t) before)
 
-  pub sheet-wide : length before < length (sheetImage sheet ar t) → FromSheet (Written.Refused ImageTooLong) before
-  unfolding sheetAnswer
-  sheet-wide h = refused _ (sheetImage sheet ar t) before (Written.Refused ImageTooLong) (size-wide (length before) (slotCount sheet t) (length (sheetImage sheet ar t)) h) (nothing-long (sheetImage sheet ar t) before)
+  pub numbered-wide : length before < length (numberedImage numbered ar t) → FromNumbered (Written.Refused ImageTooLong) before
+  unfolding fitAnswer
+  numbered-wide h = refused _ (numberedImage numbered ar t) before (Written.Refused ImageTooLong) (size-wide (length before) (slotCount numbered t) (length (numberedImage numbered ar t)) h) (nothing-long (numberedImage numbered ar t) before)
 
-  pub sheet-laid : (size count : ℕ) (after : List ℕ) → size ≡ length (sheetImage sheet ar t) → size ≤ longestFile → size ≤ length before → count ≡ slotCount sheet t
-      → after ≡ putAt before 0 (sheetImage sheet ar t) → FromSheet (Written.Image 24 (32 + 28 * count) size) after
-  unfolding sheetAnswer
-  sheet-laid size count after es h k ec ea =
-      let e : Written.Image 24 (32 + 28 * count) size ≡ sizeAnswer (length before) (slotCount sheet t) (length (sheetImage sheet ar t)) =
+  pub numbered-laid : (size count : ℕ) (after : List ℕ) → size ≡ length (numberedImage numbered ar t) → size ≤ longestFile → size ≤ length before → count ≡ slotCount numbered t
+      → after ≡ putAt before 0 (numberedImage numbered ar t) → FromNumbered (Written.Image 24 (32 + 28 * count) size) after
+  unfolding fitAnswer
+  numbered-laid size count after es h k ec ea =
+      let e : Written.Image 24 (32 + 28 * count) size ≡ sizeAnswer (length before) (slotCount numbered t) (length (numberedImage numbered ar t)) =
       ap (λ (n : ℕ). Written.Image 24 n size) (chunk-is count) ∙ size-fits (length before) count size h k ∙ ap (λ (n : ℕ). sizeAnswer (length before) n size) ec
-      ∙ ap (λ (n : ℕ). sizeAnswer (length before) (slotCount sheet t) n) es in
+      ∙ ap (λ (n : ℕ). sizeAnswer (length before) (slotCount numbered t) n) es in
       record {
         answers = e;
-        lays = ea ∙ all-laid 24 (32 + 28 * count) size (sheetImage sheet ar t) before ∙ ap (λ (a : Written). laidBy a (sheetImage sheet ar t) before) e;
+        lays = ea ∙ all-laid 24 (32 + 28 * count) size (numberedImage numbered ar t) before ∙ ap (λ (a : Written). laidBy a (numberedImage numbered ar t) before) e;
       }
 
 -- ---- the part of the buffer that is lent
@@ -125,49 +125,49 @@ laid-front size before part image h e = ap (λ (l : List ℕ). l ++ drop size be
 -- ---- from the roster
 
 module _ (ws ar before : List ℕ) (t : ℕ) where
-  abbrev pub FromRoot : Written → List ℕ → Type 0
-  FromRoot r after = Given (rootAnswer ws ar t (length before)) r (imageFor ws ar t) before after
+  abbrev pub FromTable : Written → List ℕ → Type 0
+  FromTable r after = Given (tableAnswer ws ar t (length before)) r (imageFor ws ar t) before after
 
-  pub root-empty : hasEmpty (stateOf ws ar) depth t ≡ true → FromRoot (Written.Refused EmptyKey) before
-  unfolding rootAnswer
-  root-empty e = refused _ (imageFor ws ar t) before (Written.Refused EmptyKey) (sym (pick-true (Written.Refused EmptyKey) (sizeAnswer (length before) (length (stateOf ws ar t .members)) (length (imageFor ws ar t))) e)) (nothing-empty (imageFor ws ar t) before)
+  pub table-empty : hasEmpty (stateOf ws ar) depth t ≡ true → FromTable (Written.Refused EmptyKey) before
+  unfolding tableAnswer
+  table-empty e = refused _ (imageFor ws ar t) before (Written.Refused EmptyKey) (sym (pick-true (Written.Refused EmptyKey) (sizeAnswer (length before) (length (stateOf ws ar t .members)) (length (imageFor ws ar t))) e)) (nothing-empty (imageFor ws ar t) before)
 
-  pub root-sheet : hasEmpty (stateOf ws ar) depth t ≡ false → (sheet after : List ℕ) (r : Written) → Sheeted ws ar sheet → t < 64
-      → r ≡ sheetAnswer sheet ar t (length before) → after ≡ laidBy (sheetAnswer sheet ar t (length before)) (sheetImage sheet ar t) before → FromRoot r after
-  unfolding rootAnswer sheetAnswer
-  root-sheet none sheet after r s l e f =
-      let image : sheetImage sheet ar t ≡ imageFor ws ar t = sheet-image ws ar sheet s t l in
-      let same : sizeAnswer (length before) (slotCount sheet t) (length (sheetImage sheet ar t)) ≡ pick (hasEmpty (stateOf ws ar) depth t) (Written.Refused EmptyKey) (sizeAnswer (length before) (length (stateOf ws ar t .members)) (length (imageFor ws ar t))) =
-      ap (λ (n : ℕ). sizeAnswer (length before) n (length (sheetImage sheet ar t))) (sheet-count ws ar sheet s t l) ∙ ap (λ (x : List ℕ). sizeAnswer (length before) (length (stateOf ws ar t .members)) (length x)) image
+  pub table-indexed : hasEmpty (stateOf ws ar) depth t ≡ false → (numbered after : List ℕ) (r : Written) → NumberedAs ws ar numbered → t < 64
+      → r ≡ fitAnswer numbered ar t (length before) → after ≡ laidBy (fitAnswer numbered ar t (length before)) (numberedImage numbered ar t) before → FromTable r after
+  unfolding tableAnswer fitAnswer
+  table-indexed none numbered after r s l e f =
+      let image : numberedImage numbered ar t ≡ imageFor ws ar t = numbered-image ws ar numbered s t l in
+      let same : sizeAnswer (length before) (slotCount numbered t) (length (numberedImage numbered ar t)) ≡ pick (hasEmpty (stateOf ws ar) depth t) (Written.Refused EmptyKey) (sizeAnswer (length before) (length (stateOf ws ar t .members)) (length (imageFor ws ar t))) =
+      ap (λ (n : ℕ). sizeAnswer (length before) n (length (numberedImage numbered ar t))) (numbered-count ws ar numbered s t l) ∙ ap (λ (x : List ℕ). sizeAnswer (length before) (length (stateOf ws ar t .members)) (length x)) image
       ∙ sym (pick-false (Written.Refused EmptyKey) (sizeAnswer (length before) (length (stateOf ws ar t .members)) (length (imageFor ws ar t))) none) in
-      record { answers = e ∙ same; lays = f ∙ ap (λ (a : Written). laidBy a (sheetImage sheet ar t) before) same ∙ ap (λ (x : List ℕ). laidBy (pick (hasEmpty (stateOf ws ar) depth t) (Written.Refused EmptyKey) (sizeAnswer (length before) (length (stateOf ws ar t .members)) (length (imageFor ws ar t)))) x before) image }
+      record { answers = e ∙ same; lays = f ∙ ap (λ (a : Written). laidBy a (numberedImage numbered ar t) before) same ∙ ap (λ (x : List ℕ). laidBy (pick (hasEmpty (stateOf ws ar) depth t) (Written.Refused EmptyKey) (sizeAnswer (length before) (length (stateOf ws ar t .members)) (length (imageFor ws ar t)))) x before) image }
 
   -- ---- the whole answer
 
   abbrev pub FromWrite : Written → List ℕ → Type 0
   FromWrite r after = Given (writeAnswer ws ar t (length before)) r (imageFor ws ar t) before after
 
-  write-is : writeAnswer ws ar t (length before) ≡ pick (wholeSound ws ar) (pick (isRoot ws t) (rootAnswer ws ar t (length before)) (Written.Refused TableUnknown)) (Written.Refused MemoryBroken)
-  unfolding writeAnswer rootAnswer sizeAnswer
+  write-is : writeAnswer ws ar t (length before) ≡ pick (fullyValid ws ar) (pick (freeStanding ws t) (tableAnswer ws ar t (length before)) (Written.Refused TableUnknown)) (Written.Refused MemoryBroken)
+  unfolding writeAnswer tableAnswer sizeAnswer
   write-is = refl
 
-  pub write-broken : wholeSound ws ar ≡ false → FromWrite (Written.Refused MemoryBroken) before
+  pub write-broken : fullyValid ws ar ≡ false → FromWrite (Written.Refused MemoryBroken) before
   write-broken e =
       refused _ (imageFor ws ar t) before (Written.Refused MemoryBroken)
-      (sym (write-is ∙ pick-false (pick (isRoot ws t) (rootAnswer ws ar t (length before)) (Written.Refused TableUnknown)) (Written.Refused MemoryBroken) e)) (nothing-broken (imageFor ws ar t) before)
+      (sym (write-is ∙ pick-false (pick (freeStanding ws t) (tableAnswer ws ar t (length before)) (Written.Refused TableUnknown)) (Written.Refused MemoryBroken) e)) (nothing-broken (imageFor ws ar t) before)
 
-  module _ (ok : wholeSound ws ar ≡ true) where
-    write-sound : writeAnswer ws ar t (length before) ≡ pick (isRoot ws t) (rootAnswer ws ar t (length before)) (Written.Refused TableUnknown)
-    write-sound = write-is ∙ pick-true (pick (isRoot ws t) (rootAnswer ws ar t (length before)) (Written.Refused TableUnknown)) (Written.Refused MemoryBroken) ok
+  module _ (ok : fullyValid ws ar ≡ true) where
+    write-valid : writeAnswer ws ar t (length before) ≡ pick (freeStanding ws t) (tableAnswer ws ar t (length before)) (Written.Refused TableUnknown)
+    write-valid = write-is ∙ pick-true (pick (freeStanding ws t) (tableAnswer ws ar t (length before)) (Written.Refused TableUnknown)) (Written.Refused MemoryBroken) ok
 
-    pub write-unknown : isRoot ws t ≡ false → FromWrite (Written.Refused TableUnknown) before
+    pub write-unknown : freeStanding ws t ≡ false → FromWrite (Written.Refused TableUnknown) before
     write-unknown e =
         refused _ (imageFor ws ar t) before (Written.Refused TableUnknown)
-        (sym (write-sound ∙ pick-false (rootAnswer ws ar t (length before)) (Written.Refused TableUnknown) e)) (nothing-unknown (imageFor ws ar t) before)
+        (sym (write-valid ∙ pick-false (tableAnswer ws ar t (length before)) (Written.Refused TableUnknown) e)) (nothing-unknown (imageFor ws ar t) before)
 
-    pub write-root : isRoot ws t ≡ true → (r : Written) (after : List ℕ) → r ≡ rootAnswer ws ar t (length before) → after ≡ laidBy (rootAnswer ws ar t (length before)) (imageFor ws ar t) before → FromWrite r after
-    write-root e r after er ea =
-        let same : rootAnswer ws ar t (length before) ≡ writeAnswer ws ar t (length before) = sym (write-sound ∙ pick-true (rootAnswer ws ar t (length before)) (Written.Refused TableUnknown) e) in
+    pub index-and-write : freeStanding ws t ≡ true → (r : Written) (after : List ℕ) → r ≡ tableAnswer ws ar t (length before) → after ≡ laidBy (tableAnswer ws ar t (length before)) (imageFor ws ar t) before → FromWrite r after
+    index-and-write e r after er ea =
+        let same : tableAnswer ws ar t (length before) ≡ writeAnswer ws ar t (length before) = sym (write-valid ∙ pick-true (tableAnswer ws ar t (length before)) (Written.Refused TableUnknown) e) in
         record { answers = er ∙ same; lays = ea ∙ ap (λ (a : Written). laidBy a (imageFor ws ar t) before) same }
 
   pub image-after : laidBy (writeAnswer ws ar t (length before)) (imageFor ws ar t) before ≡ imageAfter ws ar t before

@@ -14,7 +14,7 @@ use Rattle.words.specs.Store.{part}
 use Rattle.words.proofs.BelowLaws.{below-some, some-turn}
 use Rattle.model.specs.Table.{Content}
 use Rattle.build_memory.specs.Memory.{itemTotal, keySize, itemKind, itemGuest, valueStart, valueSize, tableKind}
-use Rattle.image.specs.Number.{itemOf}
+use Rattle.image.specs.Index.{itemOf}
 use Rattle.write_numbers.specs.Roster.{stateOf, firstSlot, slotCount, slotItem, Rostered}
 use Rattle.write.specs.Write.{emptyHeld, hasEmpty}
 use Rattle.write.specs.Empty.{itemEmpty}

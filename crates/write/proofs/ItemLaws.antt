@@ -17,18 +17,18 @@ use Rattle.layout.specs.Kind.{kindByte}
 use Rattle.model.specs.Table.{Content, Rows, kindOf, isContainer, isChild, fragmentAt, noItem}
 use Rattle.build_memory.specs.Memory.{itemTotal, itemTable, itemHash, keyStart, keySize, itemParent, itemKind, valueStart, valueSize, itemGuest, keyOf, valueKind, tableKind, containerKind, emptyMark}
 use Rattle.build_memory.specs.Meaning.{contentOf}
-use Rattle.image.specs.Number.{numberOf}
+use Rattle.image.specs.Index.{laidIndex}
 use Rattle.image.specs.Plan.{word, wordsOf}
-use Rattle.image.specs.Image.{parentNumber, childWords}
+use Rattle.image.specs.Image.{parentIndex, childWords}
 use Rattle.image.proofs.ChildLaws.{words-append}
 use Rattle.image.proofs.TimesLaws.{eq-or-ne, lt-or-ge}
-use Rattle.write_bytes.specs.Sheet.{byKind}
+use Rattle.write_bytes.specs.Numbered.{byKind}
 use Rattle.write_bytes.proofs.KindLaws.{kind-value, kind-table, kind-container}
-use Rattle.write_numbers.specs.Roster.{stateOf, itemNumber, Rostered}
-use Rattle.write.specs.Sheeted.{kids, childTest, skipped, parentWord}
+use Rattle.write_numbers.specs.Roster.{stateOf, itemIndex, Rostered}
+use Rattle.write.specs.NumberedAs.{childItems, childTest, skipped, parentWord}
 use Rattle.write.proofs.StateLaws.{Right, key-is, content-is, above-is, content-past, key-length}
 use Rattle.write.proofs.SlotLaws.{child-none, child-own, child-some, skip-none, skip-own}
-use Rattle.write.proofs.KinLaws.{kids-more, kids-miss}
+use Rattle.write.proofs.SiblingLaws.{child-items-more, child-items-miss}
 use Rattle.write.proofs.RosterLaws.{by-child}
 
 -- ---- what an item holds, by its kind
@@ -48,53 +48,53 @@ module _ (ws ar : List ℕ) (i : ℕ) where
 
 -- ---- the numbers of children as words
 
-no-words : (table : Rows) (l : List ℕ) → wordsOf (λ j. numberOf plain table (getD l j 0)) 0 ≡ childWords plain table (take 0 l)
+no-words : (table : Rows) (l : List ℕ) → wordsOf (λ j. laidIndex plain table (getD l j 0)) 0 ≡ childWords plain table (take 0 l)
 unfolding wordsOf childWords
 no-words table l = refl
 
-one-word : (table : Rows) (c : ℕ) → childWords plain table (c ∷ []) ≡ word (numberOf plain table c)
+one-word : (table : Rows) (c : ℕ) → childWords plain table (c ∷ []) ≡ word (laidIndex plain table c)
 unfolding childWords
-one-word table c = append-nil (word (numberOf plain table c))
+one-word table c = append-nil (word (laidIndex plain table c))
 
-more-words : (table : Rows) (l : List ℕ) (n : ℕ) → n < length l → wordsOf (λ j. numberOf plain table (getD l j 0)) n ≡ childWords plain table (take n l)
-    → wordsOf (λ j. numberOf plain table (getD l j 0)) (suc n) ≡ childWords plain table (take (suc n) l)
+more-words : (table : Rows) (l : List ℕ) (n : ℕ) → n < length l → wordsOf (λ j. laidIndex plain table (getD l j 0)) n ≡ childWords plain table (take n l)
+    → wordsOf (λ j. laidIndex plain table (getD l j 0)) (suc n) ≡ childWords plain table (take (suc n) l)
 unfolding wordsOf
-more-words table l n h e = rw (take-suc l n 0 h, words-append, one-word) (ap (λ (x : List ℕ). x ++ word (numberOf plain table (getD l n 0))) e)
+more-words table l n h e = rw (take-suc l n 0 h, words-append, one-word) (ap (λ (x : List ℕ). x ++ word (laidIndex plain table (getD l n 0))) e)
 
-pub children-words : (table : Rows) (l : List ℕ) → wordsOf (λ j. numberOf plain table (getD l j 0)) (length l) ≡ childWords plain table l
+pub children-words : (table : Rows) (l : List ℕ) → wordsOf (λ j. laidIndex plain table (getD l j 0)) (length l) ≡ childWords plain table l
 children-words table l = first (length l) (omega arith) ∙ ap (childWords plain table) (take-all (length l) l (omega arith))
   where
-    first : (n : ℕ) → n ≤ length l → wordsOf (λ j. numberOf plain table (getD l j 0)) n ≡ childWords plain table (take n l)
+    first : (n : ℕ) → n ≤ length l → wordsOf (λ j. laidIndex plain table (getD l j 0)) n ≡ childWords plain table (take n l)
     first zero h = no-words table l
     first (suc n) h = more-words table l n h (first n (omega arith))
 
 -- ---- a child has the parent word that it is listed by
 
-kids-hit : (ws : List ℕ) (b n : ℕ) → itemParent ws n ≡ b → kids ws b (suc n) ≡ kids ws b n ++ (n ∷ [])
-kids-hit ws b n e = kids-more ws b n ∙ ap (λ (x : List ℕ). kids ws b n ++ x) (pick-true (n ∷ []) [] (eq-eqb _ _ e))
+child-items-hit : (ws : List ℕ) (b n : ℕ) → itemParent ws n ≡ b → childItems ws b (suc n) ≡ childItems ws b n ++ (n ∷ [])
+child-items-hit ws b n e = child-items-more ws b n ∙ ap (λ (x : List ℕ). childItems ws b n ++ x) (pick-true (n ∷ []) [] (eq-eqb _ _ e))
 
 module _ (P : ℕ → Type 0) (ws : List ℕ) (b : ℕ) where
-  no-kids : (j : ℕ) → j < length (kids ws b 0) → P (getD (kids ws b 0) j 0)
-  unfolding kids
-  no-kids j h = absurd (omega arith)
+  no-child-items : (j : ℕ) → j < length (childItems ws b 0) → P (getD (childItems ws b 0) j 0)
+  unfolding childItems
+  no-child-items j h = absurd (omega arith)
 
-  more-kids : (n : ℕ) → itemParent ws n ≡ b → P n → ((k : ℕ) → k < length (kids ws b n) → P (getD (kids ws b n) k 0)) → (j : ℕ) → j < length (kids ws b (suc n))
-      → P (getD (kids ws b (suc n)) j 0)
-  more-kids n e own rest j h =
-      let g : j < length (kids ws b n ++ (n ∷ [])) = rw (kids-hit ws b n e) at h in
-      rw (kids-hit ws b n e)
+  more-child-items : (n : ℕ) → itemParent ws n ≡ b → P n → ((k : ℕ) → k < length (childItems ws b n) → P (getD (childItems ws b n) k 0)) → (j : ℕ) → j < length (childItems ws b (suc n))
+      → P (getD (childItems ws b (suc n)) j 0)
+  more-child-items n e own rest j h =
+      let g : j < length (childItems ws b n ++ (n ∷ [])) = rw (child-items-hit ws b n e) at h in
+      rw (child-items-hit ws b n e)
       (⊎-elim
-      (λ less. rw (List·getD-append (kids ws b n) (n ∷ []) 0 j less) (rest j less))
-      (λ more. let q : j ≡ length (kids ws b n) = omega (arith, length-append (kids ws b n) (n ∷ [])) in rw (getD-at (kids ws b n) n [] 0 j (sym q)) own)
-      (lt-or-ge j (length (kids ws b n))))
+      (λ less. rw (List·getD-append (childItems ws b n) (n ∷ []) 0 j less) (rest j less))
+      (λ more. let q : j ≡ length (childItems ws b n) = omega (arith, length-append (childItems ws b n) (n ∷ [])) in rw (getD-at (childItems ws b n) n [] 0 j (sym q)) own)
+      (lt-or-ge j (length (childItems ws b n))))
 
   -- what holds of every item that has the parent word holds of every one listed
-  kids-all : (n : ℕ) → ((c : ℕ) → c < n → itemParent ws c ≡ b → P c) → (j : ℕ) → j < length (kids ws b n) → P (getD (kids ws b n) j 0)
-  kids-all zero all j h = no-kids j h
-  kids-all (suc n) all j h =
+  child-items-all : (n : ℕ) → ((c : ℕ) → c < n → itemParent ws c ≡ b → P c) → (j : ℕ) → j < length (childItems ws b n) → P (getD (childItems ws b n) j 0)
+  child-items-all zero all j h = no-child-items j h
+  child-items-all (suc n) all j h =
       ⊎-elim
-      (λ e. more-kids n e (all n (omega arith) e) (kids-all n (λ c l. all c (omega arith))) j h)
-      (λ ne. rw (kids-miss ws b n ne) (kids-all n (λ c l. all c (omega arith)) j (rw (kids-miss ws b n ne) at h)))
+      (λ e. more-child-items n e (all n (omega arith) e) (child-items-all n (λ c l. all c (omega arith))) j h)
+      (λ ne. rw (child-items-miss ws b n ne) (child-items-all n (λ c l. all c (omega arith)) j (rw (child-items-miss ws b n ne) at h)))
       (eq-or-ne (itemParent ws n) b)
 
 drop-part : (l : List ℕ) (at size n : ℕ) → drop n (part l at size) ≡ part l (at + n) (size - n)
@@ -135,7 +135,7 @@ module _ (ws ar roster : List ℕ) (r : Right ws ar) (ro : Rostered ws ar roster
     child-is =
         ⊎-elim
         (λ z. ap (λ (j : ℕ). isContainer (stateOf ws ar t .content j)) (above-none z)
-        ∙ ap isContainer (content-past ws ar t noItem (omega (arith, r .sound .items))) ∙ child-none ws i (itemParent ws i) refl z)
+        ∙ ap isContainer (content-past ws ar t noItem (omega (arith, r .valid .items))) ∙ child-none ws i (itemParent ws i) refl z)
         (λ n. ap (λ (j : ℕ). isContainer (stateOf ws ar t .content j)) (above-some n)
         ∙ holds-children t (itemParent ws i - 1) (above-in n) ∙ child-own ws i (itemParent ws i) (itemKind ws (itemParent ws i - 1)) refl n refl)
         (eq-or-ne (itemParent ws i) 0)
@@ -145,20 +145,20 @@ module _ (ws ar roster : List ℕ) (r : Right ws ar) (ro : Rostered ws ar roster
     pub hash-is : itemHash ws i ≡ hashBy plain (stateOf ws ar t .key i)
     hash-is = r .hash i l ∙ ap (hashBy plain) (sym (key-is ws ar t i l))
 
-    pub parent-is : parentWord ws roster i ≡ parentNumber plain (stateOf ws ar t) i
-    unfolding parentWord parentNumber
+    pub parent-is : parentWord ws roster i ≡ parentIndex plain (stateOf ws ar t) i
+    unfolding parentWord parentIndex
     parent-is = rw child-is (by (by-child ws i))
       where
-        number : childTest ws i ≡ true → itemNumber roster (itemParent ws i - 1) ≡ numberOf plain (stateOf ws ar t) (stateOf ws ar t .above i)
+        number : childTest ws i ≡ true → itemIndex roster (itemParent ws i - 1) ≡ laidIndex plain (stateOf ws ar t) (stateOf ws ar t .above i)
         number e =
             let n = child-some ws i e in
-            ro .numbers (itemParent ws i - 1) (above-in n) ∙ ap (λ (u : ℕ). numberOf plain (stateOf ws ar u) (itemParent ws i - 1)) (r .parent i l n .same ∙ own)
-            ∙ ap (numberOf plain (stateOf ws ar t)) (sym (above-some n))
+            ro .indices (itemParent ws i - 1) (above-in n) ∙ ap (λ (u : ℕ). laidIndex plain (stateOf ws ar u) (itemParent ws i - 1)) (r .parent i l n .same ∙ own)
+            ∙ ap (laidIndex plain (stateOf ws ar t)) (sym (above-some n))
 
         by : (childTest ws i ≡ true) ⊎ (childTest ws i ≡ false)
-            → pick (childTest ws i) (itemNumber roster (itemParent ws i - 1)) emptyMark ≡ pick (childTest ws i) (numberOf plain (stateOf ws ar t) (stateOf ws ar t .above i)) noItem
-        by (inl e) = pick-true (itemNumber roster (itemParent ws i - 1)) emptyMark e ∙ number e ∙ sym (pick-true (numberOf plain (stateOf ws ar t) (stateOf ws ar t .above i)) noItem e)
-        by (inr e) = pick-false (itemNumber roster (itemParent ws i - 1)) emptyMark e ∙ sym (pick-false (numberOf plain (stateOf ws ar t) (stateOf ws ar t .above i)) noItem e)
+            → pick (childTest ws i) (itemIndex roster (itemParent ws i - 1)) emptyMark ≡ pick (childTest ws i) (laidIndex plain (stateOf ws ar t) (stateOf ws ar t .above i)) noItem
+        by (inl e) = pick-true (itemIndex roster (itemParent ws i - 1)) emptyMark e ∙ number e ∙ sym (pick-true (laidIndex plain (stateOf ws ar t) (stateOf ws ar t .above i)) noItem e)
+        by (inr e) = pick-false (itemIndex roster (itemParent ws i - 1)) emptyMark e ∙ sym (pick-false (laidIndex plain (stateOf ws ar t) (stateOf ws ar t .above i)) noItem e)
 
     whole-key : part ar (keyStart ws i) (keySize ws i) ≡ stateOf ws ar t .key i
     unfolding keyOf
@@ -215,15 +215,15 @@ module _ (ws ar roster : List ℕ) (r : Right ws ar) (ro : Rostered ws ar roster
 
     -- ---- its children are items of the table
 
-    module _ (j : ℕ) (less : j < length (kids ws (i + 1) (itemTotal ws))) where
-      kid-parent : itemParent ws (getD (kids ws (i + 1) (itemTotal ws)) j 0) ≡ i + 1
-      kid-parent = kids-all (λ c. itemParent ws c ≡ i + 1) ws (i + 1) (itemTotal ws) (λ c l e. e) j less
+    module _ (j : ℕ) (less : j < length (childItems ws (i + 1) (itemTotal ws))) where
+      kid-parent : itemParent ws (getD (childItems ws (i + 1) (itemTotal ws)) j 0) ≡ i + 1
+      kid-parent = child-items-all (λ c. itemParent ws c ≡ i + 1) ws (i + 1) (itemTotal ws) (λ c l e. e) j less
 
-      pub kid-in : getD (kids ws (i + 1) (itemTotal ws)) j 0 < itemTotal ws
-      kid-in = kids-all (λ c. c < itemTotal ws) ws (i + 1) (itemTotal ws) (λ c l e. l) j less
+      pub kid-in : getD (childItems ws (i + 1) (itemTotal ws)) j 0 < itemTotal ws
+      kid-in = child-items-all (λ c. c < itemTotal ws) ws (i + 1) (itemTotal ws) (λ c l e. l) j less
 
-      pub kid-table : itemTable ws (getD (kids ws (i + 1) (itemTotal ws)) j 0) ≡ t
+      pub kid-table : itemTable ws (getD (childItems ws (i + 1) (itemTotal ws)) j 0) ≡ t
       kid-table =
-          let c = getD (kids ws (i + 1) (itemTotal ws)) j 0 in
+          let c = getD (childItems ws (i + 1) (itemTotal ws)) j 0 in
           let q : itemParent ws c - 1 ≡ i = omega (arith, kid-parent) in
           sym (r .parent c kid-in (λ z. omega (arith, kid-parent)) .same) ∙ ap (itemTable ws) q ∙ own

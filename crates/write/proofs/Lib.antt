@@ -1,6 +1,6 @@
-pub mod SheetLaws
+pub mod NumberedLaws
 pub mod StateLaws
-pub mod KinLaws
+pub mod SiblingLaws
 pub mod SlotLaws
 pub mod RosterLaws
 pub mod TurnLaws

@@ -10,179 +10,179 @@ use Rattle.words.specs.Hash.{plain}
 use Rattle.words.proofs.StoreLaws.{length-part}
 use Rattle.model.specs.Table.{Content}
 use Rattle.build_memory.specs.Memory.{itemTotal, itemTable, itemHash, keyStart, keySize, itemKind, valueStart, valueSize, itemGuest, containerKind}
-use Rattle.image.specs.Number.{itemOf, numberOf}
+use Rattle.image.specs.Index.{itemOf, laidIndex}
 use Rattle.image.specs.Plan.{wordsOf, chunkSize}
 use Rattle.image.specs.Fits.{SamePlan}
 use Rattle.image.specs.Image.{alignOf, childrenOf, childWords, valueOf, coversOf, planOf}
 use Rattle.image.proofs.PlanLaws.{words-same}
 use Rattle.image.proofs.TimesLaws.{lt-or-ge}
-use Rattle.write_bytes.specs.Sheet.{firstSlot, slotCount, slotWord, childWord, slotValue, slotCovers, sheetPlan, SheetFits}
+use Rattle.write_bytes.specs.Numbered.{firstSlot, slotCount, slotWord, childWord, slotValue, slotCovers, numberedPlan, NumberedFits}
 use Rattle.write_numbers.specs.Roster as lists
-use Rattle.write_numbers.specs.Roster.{stateOf, itemNumber, bucketWord, Rostered}
-use Rattle.write.specs.Sheeted.{kids, fromLast, skipped, parentWord, slotOf, startOf, sizeOf, frontWords, backWords, slotWords, Kin, StartSheet, ChildSheet, SlotSheet, Firsts, Sheeted}
+use Rattle.write_numbers.specs.Roster.{stateOf, itemIndex, bucketWord, Rostered}
+use Rattle.write.specs.NumberedAs.{childItems, fromLast, skipped, parentWord, slotOf, startOf, sizeOf, frontWords, backWords, slotWords, Siblings, NumberedStart, NumberedChildren, NumberedSlots, Firsts, NumberedAs}
 use Rattle.write.proofs.StateLaws.{Right}
 use Rattle.write.proofs.SlotLaws.{start-value, start-guest, start-child, size-value, size-child}
-use Rattle.write.proofs.KinLaws.{children-kids}
-use Rattle.write.proofs.RosterLaws.{number-few, item-in, item-of, slot-of}
+use Rattle.write.proofs.SiblingLaws.{children-child-items}
+use Rattle.write.proofs.RosterLaws.{index-few, item-in, item-of, slot-of}
 use Rattle.write.proofs.TurnLaws.{start-in, start-out}
 use Rattle.write.proofs.ItemLaws.{children-words, hash-is, parent-is, fragment-is, kind-is, by-content, kid-in, kid-table}
 
-pub kin-firsts : (ws order firsts : List ℕ) → itemTotal ws ≤ 1024 → Kin ws order firsts → Firsts firsts
-kin-firsts ws order firsts few k = record { wide = k .wide; up = λ i h. omega (arith, k .next i h); few = λ i h. omega (arith, k .few i h) }
+pub siblings-firsts : (ws order firsts : List ℕ) → itemTotal ws ≤ 1024 → Siblings ws order firsts → Firsts firsts
+siblings-firsts ws order firsts few k = record { wide = k .wide; up = λ i h. omega (arith, k .next i h); few = λ i h. omega (arith, k .few i h) }
 
-module _ (ws ar roster order firsts a b sheet : List ℕ) (r : Right ws ar) (ro : Rostered ws ar roster) (kin : Kin ws order firsts)
-    (st : StartSheet roster a) (ch : ChildSheet ws roster order a b) (sl : SlotSheet ws ar roster firsts b sheet (itemTotal ws)) where
-  head-is : (k : ℕ) → k < 128 → getD sheet k 0 ≡ getD roster k 0
+module _ (ws ar roster order firsts a b numbered : List ℕ) (r : Right ws ar) (ro : Rostered ws ar roster) (siblings : Siblings ws order firsts)
+    (st : NumberedStart roster a) (ch : NumberedChildren ws roster order a b) (sl : NumberedSlots ws ar roster firsts b numbered (itemTotal ws)) where
+  head-is : (k : ℕ) → k < 128 → getD numbered k 0 ≡ getD roster k 0
   head-is k h = sl .head k h ∙ ch .kept k (omega arith) ∙ st .is k (omega arith) ∙ sym (start-in roster k h)
 
-  first-is : (t : ℕ) → t < 64 → firstSlot sheet t ≡ lists.firstSlot roster t
+  first-is : (t : ℕ) → t < 64 → firstSlot numbered t ≡ lists.firstSlot roster t
   unfolding firstSlot lists.firstSlot
   first-is t h = head-is (2 * t) (omega arith)
 
-  count-is : (t : ℕ) → t < 64 → slotCount sheet t ≡ lists.slotCount roster t
+  count-is : (t : ℕ) → t < 64 → slotCount numbered t ≡ lists.slotCount roster t
   unfolding slotCount lists.slotCount
   count-is t h = head-is (2 * t + 1) (omega arith)
 
-  members-is : (t : ℕ) → t < 64 → slotCount sheet t ≡ length (stateOf ws ar t .members)
+  members-is : (t : ℕ) → t < 64 → slotCount numbered t ≡ length (stateOf ws ar t .members)
   members-is t h = count-is t h ∙ ro .counts t h
 
-  child-is : (j : ℕ) → j < itemTotal ws → childWord sheet j ≡ itemNumber roster (fromLast ws (getD order j 0))
+  child-is : (j : ℕ) → j < itemTotal ws → childWord numbered j ≡ itemIndex roster (fromLast ws (getD order j 0))
   unfolding childWord
   child-is j h = sl .tail (8320 + j) (omega arith) ∙ child-before
     where
-      child-before : getD b (8320 + j) 0 ≡ itemNumber roster (fromLast ws (getD order j 0))
+      child-before : getD b (8320 + j) 0 ≡ itemIndex roster (fromLast ws (getD order j 0))
       child-before = ch .is j h
 
-  child-none : (j : ℕ) → itemTotal ws ≤ j → j < 1024 → childWord sheet j ≡ 0
+  child-none : (j : ℕ) → itemTotal ws ≤ j → j < 1024 → childWord numbered j ≡ 0
   unfolding childWord
   child-none j g h =
       sl .tail (8320 + j) (omega arith) ∙ ch .rest (8320 + j) (omega arith) ∙ st .is (8320 + j) (omega arith) ∙ sym (start-out roster (8320 + j) (omega arith))
 
-  child-few : (j : ℕ) → j < 1024 → childWord sheet j < 2 ^ 32
+  child-few : (j : ℕ) → j < 1024 → childWord numbered j < 2 ^ 32
   child-few j h =
       ⊎-elim
-      (λ l. omega (arith, child-is j l, number-few ws ar roster r ro (fromLast ws (getD order j 0)) (omega arith)))
+      (λ l. omega (arith, child-is j l, index-few ws ar roster r ro (fromLast ws (getD order j 0)) (omega arith)))
       (λ g. omega (arith, child-none j g h))
       (lt-or-ge j (itemTotal ws))
 
-  sheet-fits : SheetFits sheet ar
-  sheet-fits = record {
+  numbered-fits : NumberedFits numbered ar
+  numbered-fits = record {
     long = sl .long ∙ ch .long ∙ st .long;
     tables = λ t h. omega (arith, first-is t h, count-is t h, ro .inside t h);
     slots = sl .fits;
-    numbers = child-few;
+    children = child-few;
   }
 
   -- the words of a slot, by the item that it is of
   module _ (s i : ℕ) (l : i < itemTotal ws) (at-slot : slotOf ws roster i ≡ s) where
-    word-is : (which : ℕ) → which < 8 → slotWord sheet s which ≡ getD (slotWords ws roster firsts i) which 0
-    word-is which w = ap (λ (u : ℕ). slotWord sheet u which) (sym at-slot) ∙ sl .is i l which w
+    word-is : (which : ℕ) → which < 8 → slotWord numbered s which ≡ getD (slotWords ws roster firsts i) which 0
+    word-is which w = ap (λ (u : ℕ). slotWord numbered u which) (sym at-slot) ∙ sl .is i l which w
 
-    w0 : slotWord sheet s 0 ≡ itemHash ws i
+    w0 : slotWord numbered s 0 ≡ itemHash ws i
     unfolding slotWords frontWords backWords
     w0 = word-is 0 (omega arith)
 
-    w1 : slotWord sheet s 1 ≡ parentWord ws roster i
+    w1 : slotWord numbered s 1 ≡ parentWord ws roster i
     unfolding slotWords frontWords backWords
     w1 = word-is 1 (omega arith)
 
-    w2 : slotWord sheet s 2 ≡ keyStart ws i + skipped ws i
+    w2 : slotWord numbered s 2 ≡ keyStart ws i + skipped ws i
     unfolding slotWords frontWords backWords
     w2 = word-is 2 (omega arith)
 
-    w3 : slotWord sheet s 3 ≡ keySize ws i - skipped ws i
+    w3 : slotWord numbered s 3 ≡ keySize ws i - skipped ws i
     unfolding slotWords frontWords backWords
     w3 = word-is 3 (omega arith)
 
-    w4 : slotWord sheet s 4 ≡ itemKind ws i
+    w4 : slotWord numbered s 4 ≡ itemKind ws i
     unfolding slotWords frontWords backWords
     w4 = word-is 4 (omega arith)
 
-    w5 : slotWord sheet s 5 ≡ startOf ws firsts i
+    w5 : slotWord numbered s 5 ≡ startOf ws firsts i
     unfolding slotWords frontWords backWords
     w5 = word-is 5 (omega arith)
 
-    w6 : slotWord sheet s 6 ≡ sizeOf ws firsts i
+    w6 : slotWord numbered s 6 ≡ sizeOf ws firsts i
     unfolding slotWords frontWords backWords
     w6 = word-is 6 (omega arith)
 
-    w7 : slotWord sheet s 7 ≡ bucketWord roster s
+    w7 : slotWord numbered s 7 ≡ bucketWord roster s
     unfolding slotWords frontWords backWords
     w7 = word-is 7 (omega arith) ∙ ap (bucketWord roster) at-slot
 
     module _ (t : ℕ) (own : itemTable ws i ≡ t) where
       inside : i < 1024
-      inside = omega (arith, r .sound .items)
+      inside = omega (arith, r .valid .items)
 
-      kin-start : itemKind ws i ≡ containerKind → startOf ws firsts i ≡ getD firsts (i + 1) 0
-      kin-start e = sym (start-child ws firsts i (itemKind ws i) refl (λ q. omega arith) (λ q. omega arith))
+      siblings-start : itemKind ws i ≡ containerKind → startOf ws firsts i ≡ getD firsts (i + 1) 0
+      siblings-start e = sym (start-child ws firsts i (itemKind ws i) refl (λ q. omega arith) (λ q. omega arith))
 
-      kin-size : itemKind ws i ≡ containerKind → sizeOf ws firsts i ≡ length (kids ws (i + 1) (itemTotal ws))
-      kin-size e = sym (size-child ws firsts i (itemKind ws i) refl (λ q. omega arith) (λ q. omega arith)) ∙ omega (arith, kin .next i inside)
+      siblings-size : itemKind ws i ≡ containerKind → sizeOf ws firsts i ≡ length (childItems ws (i + 1) (itemTotal ws))
+      siblings-size e = sym (size-child ws firsts i (itemKind ws i) refl (λ q. omega arith) (λ q. omega arith)) ∙ omega (arith, siblings .next i inside)
 
-      kid-word : (j : ℕ) → j < length (kids ws (i + 1) (itemTotal ws)) → childWord sheet (getD firsts (i + 1) 0 + j) ≡ numberOf plain (stateOf ws ar t) (getD (kids ws (i + 1) (itemTotal ws)) j 0)
+      kid-word : (j : ℕ) → j < length (childItems ws (i + 1) (itemTotal ws)) → childWord numbered (getD firsts (i + 1) 0 + j) ≡ laidIndex plain (stateOf ws ar t) (getD (childItems ws (i + 1) (itemTotal ws)) j 0)
       kid-word j h =
-          let c = getD (kids ws (i + 1) (itemTotal ws)) j 0 in
+          let c = getD (childItems ws (i + 1) (itemTotal ws)) j 0 in
           let below : c < itemTotal ws = kid-in ws ar roster r ro t i l own j h in
-          child-is (getD firsts (i + 1) 0 + j) (omega (arith, kin .next i inside, kin .few i inside))
-          ∙ ap (itemNumber roster) (kin .child i j inside h) ∙ ro .numbers c below
-          ∙ ap (λ (u : ℕ). numberOf plain (stateOf ws ar u) c) (kid-table ws ar roster r ro t i l own j h)
+          child-is (getD firsts (i + 1) 0 + j) (omega (arith, siblings .next i inside, siblings .few i inside))
+          ∙ ap (itemIndex roster) (siblings .child i j inside h) ∙ ro .indices c below
+          ∙ ap (λ (u : ℕ). laidIndex plain (stateOf ws ar u) c) (kid-table ws ar roster r ro t i l own j h)
 
-      kids-words : wordsOf (λ j. childWord sheet (getD firsts (i + 1) 0 + j)) (length (kids ws (i + 1) (itemTotal ws))) ≡ childWords plain (stateOf ws ar t) (childrenOf (stateOf ws ar t) i)
-      kids-words =
-          words-same (λ j. childWord sheet (getD firsts (i + 1) 0 + j)) (λ j. numberOf plain (stateOf ws ar t) (getD (kids ws (i + 1) (itemTotal ws)) j 0)) (length (kids ws (i + 1) (itemTotal ws))) kid-word
-          ∙ children-words (stateOf ws ar t) (kids ws (i + 1) (itemTotal ws)) ∙ ap (childWords plain (stateOf ws ar t)) (sym (children-kids ws ar r t i l own))
+      child-items-words : wordsOf (λ j. childWord numbered (getD firsts (i + 1) 0 + j)) (length (childItems ws (i + 1) (itemTotal ws))) ≡ childWords plain (stateOf ws ar t) (childrenOf (stateOf ws ar t) i)
+      child-items-words =
+          words-same (λ j. childWord numbered (getD firsts (i + 1) 0 + j)) (λ j. laidIndex plain (stateOf ws ar t) (getD (childItems ws (i + 1) (itemTotal ws)) j 0)) (length (childItems ws (i + 1) (itemTotal ws))) kid-word
+          ∙ children-words (stateOf ws ar t) (childItems ws (i + 1) (itemTotal ws)) ∙ ap (childWords plain (stateOf ws ar t)) (sym (children-child-items ws ar r t i l own))
 
-      value-is : (inner : ℕ → ℕ → List ℕ) (at : ℕ) → slotValue inner sheet ar s at ≡ valueOf plain inner (stateOf ws ar) (stateOf ws ar t) i (stateOf ws ar t .content i) at
+      value-is : (inner : ℕ → ℕ → List ℕ) (at : ℕ) → slotValue inner numbered ar s at ≡ valueOf plain inner (stateOf ws ar) (stateOf ws ar t) i (stateOf ws ar t .content i) at
       unfolding slotValue valueOf
       value-is inner at =
           rw (w4, w5, w6)
           (by-content ws ar roster r ro t i l own (λ (x : Content). valueOf plain inner (stateOf ws ar) (stateOf ws ar t) i x at)
-          (part ar (startOf ws firsts i) (sizeOf ws firsts i)) (inner (startOf ws firsts i) at) (wordsOf (λ j. childWord sheet (startOf ws firsts i + j)) (sizeOf ws firsts i))
+          (part ar (startOf ws firsts i) (sizeOf ws firsts i)) (inner (startOf ws firsts i) at) (wordsOf (λ j. childWord numbered (startOf ws firsts i + j)) (sizeOf ws firsts i))
           (λ e. rw (← (start-value ws firsts i (itemKind ws i) refl e (valueStart ws i) refl), ← (size-value ws firsts i (itemKind ws i) refl e (valueSize ws i) refl)))
           (λ e. rw (← (start-guest ws firsts i (itemKind ws i) refl e (itemGuest ws i) refl)))
-          (λ e. rw (kin-start e, kin-size e) kids-words))
+          (λ e. rw (siblings-start e, siblings-size e) child-items-words))
 
-      covers-is : (inner : ℕ → ℕ → List ℕ) → slotCovers inner sheet ar s ≡ coversOf plain inner (stateOf ws ar) (stateOf ws ar t) i (stateOf ws ar t .content i)
+      covers-is : (inner : ℕ → ℕ → List ℕ) → slotCovers inner numbered ar s ≡ coversOf plain inner (stateOf ws ar) (stateOf ws ar t) i (stateOf ws ar t .content i)
       unfolding slotCovers coversOf
       covers-is inner =
           rw (w4, w5, w6)
           (by-content ws ar roster r ro t i l own (λ (x : Content). coversOf plain inner (stateOf ws ar) (stateOf ws ar t) i x)
-          (sizeOf ws firsts i) (chunkSize (slotCount sheet (startOf ws firsts i))) (4 * sizeOf ws firsts i)
+          (sizeOf ws firsts i) (chunkSize (slotCount numbered (startOf ws firsts i))) (4 * sizeOf ws firsts i)
           (λ e. sym (size-value ws firsts i (itemKind ws i) refl e (valueSize ws i) refl) ∙ sym (length-part ar (valueStart ws i) (valueSize ws i) (r .value i l e)))
-          (λ e. ap chunkSize (ap (slotCount sheet) (sym (start-guest ws firsts i (itemKind ws i) refl e (itemGuest ws i) refl)) ∙ members-is (itemGuest ws i) (r .guest i l e)))
-          (λ e. ap (λ (n : ℕ). 4 * n) (kin-size e ∙ ap length (sym (children-kids ws ar r t i l own)))))
+          (λ e. ap chunkSize (ap (slotCount numbered) (sym (start-guest ws firsts i (itemKind ws i) refl e (itemGuest ws i) refl)) ∙ members-is (itemGuest ws i) (r .guest i l e)))
+          (λ e. ap (λ (n : ℕ). 4 * n) (siblings-size e ∙ ap length (sym (children-child-items ws ar r t i l own)))))
 
   -- ---- the tables
 
-  plan-is : (inner : ℕ → ℕ → List ℕ) (t : ℕ) → t < 64 → SamePlan (sheetPlan inner sheet ar t) (planOf plain inner (stateOf ws ar) (stateOf ws ar t))
-  unfolding sheetPlan planOf
+  plan-is : (inner : ℕ → ℕ → List ℕ) (t : ℕ) → t < 64 → SamePlan (numberedPlan inner numbered ar t) (planOf plain inner (stateOf ws ar) (stateOf ws ar t))
+  unfolding numberedPlan planOf
   plan-is inner t h = record {
     count = members-is t h;
-    first = λ k l. w7 (firstSlot sheet t + k) (it k) (item k l) (slot k l) ∙ ap (λ (n : ℕ). bucketWord roster (n + k)) (first-is t h) ∙ ro .buckets t k h (low k l);
-    hash = λ k l. w0 (firstSlot sheet t + k) (it k) (item k l) (slot k l) ∙ hash-is ws ar roster r ro t (it k) (item k l) (own k l);
-    parent = λ k l. w1 (firstSlot sheet t + k) (it k) (item k l) (slot k l) ∙ parent-is ws ar roster r ro t (it k) (item k l) (own k l);
-    fragment = λ k l. rw (w2 (firstSlot sheet t + k) (it k) (item k l) (slot k l), w3 (firstSlot sheet t + k) (it k) (item k l) (slot k l)) (fragment-is ws ar roster r ro t (it k) (item k l) (own k l));
-    kind = λ k l. w4 (firstSlot sheet t + k) (it k) (item k l) (slot k l) ∙ kind-is ws ar roster r ro t (it k) (item k l) (own k l);
-    align = λ k l. rw (w4 (firstSlot sheet t + k) (it k) (item k l) (slot k l)) (by-content ws ar roster r ro t (it k) (item k l) (own k l) alignOf 8 4 4 (λ e. refl) (λ e. refl) (λ e. refl));
-    value = λ k at l. value-is (firstSlot sheet t + k) (it k) (item k l) (slot k l) t (own k l) inner at;
-    covers = λ k l. covers-is (firstSlot sheet t + k) (it k) (item k l) (slot k l) t (own k l) inner;
+    first = λ k l. w7 (firstSlot numbered t + k) (it k) (item k l) (slot k l) ∙ ap (λ (n : ℕ). bucketWord roster (n + k)) (first-is t h) ∙ ro .buckets t k h (low k l);
+    hash = λ k l. w0 (firstSlot numbered t + k) (it k) (item k l) (slot k l) ∙ hash-is ws ar roster r ro t (it k) (item k l) (own k l);
+    parent = λ k l. w1 (firstSlot numbered t + k) (it k) (item k l) (slot k l) ∙ parent-is ws ar roster r ro t (it k) (item k l) (own k l);
+    fragment = λ k l. rw (w2 (firstSlot numbered t + k) (it k) (item k l) (slot k l), w3 (firstSlot numbered t + k) (it k) (item k l) (slot k l)) (fragment-is ws ar roster r ro t (it k) (item k l) (own k l));
+    kind = λ k l. w4 (firstSlot numbered t + k) (it k) (item k l) (slot k l) ∙ kind-is ws ar roster r ro t (it k) (item k l) (own k l);
+    align = λ k l. rw (w4 (firstSlot numbered t + k) (it k) (item k l) (slot k l)) (by-content ws ar roster r ro t (it k) (item k l) (own k l) alignOf 8 4 4 (λ e. refl) (λ e. refl) (λ e. refl));
+    value = λ k at l. value-is (firstSlot numbered t + k) (it k) (item k l) (slot k l) t (own k l) inner at;
+    covers = λ k l. covers-is (firstSlot numbered t + k) (it k) (item k l) (slot k l) t (own k l) inner;
   }
     where
       it : ℕ → ℕ
       it k = itemOf plain (stateOf ws ar t) k
 
-      low : (k : ℕ) → k < slotCount sheet t → k < lists.slotCount roster t
+      low : (k : ℕ) → k < slotCount numbered t → k < lists.slotCount roster t
       low k l = omega (arith, count-is t h)
 
-      item : (k : ℕ) → k < slotCount sheet t → it k < itemTotal ws
+      item : (k : ℕ) → k < slotCount numbered t → it k < itemTotal ws
       item k l = item-in ws ar roster r ro t k h (low k l)
 
-      own : (k : ℕ) (l : k < slotCount sheet t) → itemTable ws (it k) ≡ t
+      own : (k : ℕ) (l : k < slotCount numbered t) → itemTable ws (it k) ≡ t
       own k l = item-of ws ar roster r ro t k h (low k l)
 
-      slot : (k : ℕ) (l : k < slotCount sheet t) → slotOf ws roster (it k) ≡ firstSlot sheet t + k
+      slot : (k : ℕ) (l : k < slotCount numbered t) → slotOf ws roster (it k) ≡ firstSlot numbered t + k
       slot k l = slot-of ws ar roster r ro t k h (low k l) ∙ ap (λ (n : ℕ). n + k) (sym (first-is t h))
 
-  pub sheeted : Sheeted ws ar sheet
-  sheeted = record { fits = sheet-fits; plans = plan-is }
+  pub numbered-as : NumberedAs ws ar numbered
+  numbered-as = record { fits = numbered-fits; plans = plan-is }

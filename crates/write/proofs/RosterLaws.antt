@@ -10,11 +10,11 @@ use Rattle.words.specs.Hash.{plain}
 use Rattle.words.proofs.ChoiceLaws.{pick-true, pick-false}
 use Rattle.model.specs.Table.{Has}
 use Rattle.build_memory.specs.Memory.{itemTotal, itemTable, itemParent, keySize, emptyMark}
-use Rattle.image.specs.Number.{itemOf, numberOf}
+use Rattle.image.specs.Index.{itemOf, laidIndex}
 use Rattle.image.proofs.TimesLaws.{eq-or-ne}
-use Rattle.image.proofs.NumberLaws.{number-within, item-number, number-item, item-within, first-most}
-use Rattle.write_numbers.specs.Roster.{stateOf, firstSlot, slotCount, slotItem, itemNumber, bucketWord, Rostered}
-use Rattle.write.specs.Sheeted.{childTest, skipped, parentWord, slotOf, Slotted}
+use Rattle.image.proofs.IndexLaws.{index-within, item-index, index-item, item-within, first-most}
+use Rattle.write_numbers.specs.Roster.{stateOf, firstSlot, slotCount, slotItem, itemIndex, bucketWord, Rostered}
+use Rattle.write.specs.NumberedAs.{childTest, skipped, parentWord, slotOf, Slotted}
 use Rattle.write.proofs.StateLaws.{Right, member-once, has-item, item-below, item-table}
 use Rattle.write.proofs.SlotLaws.{skip-none, skip-own, child-some}
 
@@ -30,32 +30,32 @@ module _ (ws ar roster : List ℕ) (r : Right ws ar) (ro : Rostered ws ar roster
     mine : Has (stateOf ws ar (itemTable ws i) .members) i
     mine = has-item ws ar (itemTable ws i) i l refl
 
-    pub number-low : itemNumber roster i < slotCount roster (itemTable ws i)
-    number-low =
+    pub index-low : itemIndex roster i < slotCount roster (itemTable ws i)
+    index-low =
         let t = itemTable ws i in
-        let h : numberOf plain (stateOf ws ar t) i < length (stateOf ws ar t .members) = number-within plain (stateOf ws ar t) (member-once ws ar t) i mine in
-        omega (arith, ro .numbers i l, ro .counts t (r .table i l))
+        let h : laidIndex plain (stateOf ws ar t) i < length (stateOf ws ar t .members) = index-within plain (stateOf ws ar t) (member-once ws ar t) i mine in
+        omega (arith, ro .indices i l, ro .counts t (r .table i l))
 
     pub slot-low : slotOf ws roster i < 1024
     unfolding slotOf
-    slot-low = omega (arith, number-low, ro .inside (itemTable ws i) (r .table i l))
+    slot-low = omega (arith, index-low, ro .inside (itemTable ws i) (r .table i l))
 
-    pub number-few : itemNumber roster i < 1024
-    number-few = omega (arith, number-low, ro .inside (itemTable ws i) (r .table i l))
+    pub index-few : itemIndex roster i < 1024
+    index-few = omega (arith, index-low, ro .inside (itemTable ws i) (r .table i l))
 
     slot-item : slotItem roster (slotOf ws roster i) ≡ i
     unfolding slotOf
     slot-item =
         let t = itemTable ws i in
-        ro .items t (itemNumber roster i) (r .table i l) number-low ∙ ap (itemOf plain (stateOf ws ar t)) (ro .numbers i l)
-        ∙ item-number plain (stateOf ws ar t) (member-once ws ar t) i mine
+        ro .items t (itemIndex roster i) (r .table i l) index-low ∙ ap (itemOf plain (stateOf ws ar t)) (ro .indices i l)
+        ∙ item-index plain (stateOf ws ar t) (member-once ws ar t) i mine
 
     -- the word of the bucket with its number
     pub bucket-few : bucketWord roster (slotOf ws roster i) ≤ 1024
     unfolding slotOf
     bucket-few =
         let t = itemTable ws i in
-        omega (arith, ro .buckets t (itemNumber roster i) (r .table i l) number-low, first-most plain (stateOf ws ar t) (itemNumber roster i), ro .counts t (r .table i l), ro .inside t (r .table i l))
+        omega (arith, ro .buckets t (itemIndex roster i) (r .table i l) index-low, first-most plain (stateOf ws ar t) (itemIndex roster i), ro .counts t (r .table i l), ro .inside t (r .table i l))
 
     earlier : itemParent ws i ≤ i
     earlier = ⊎-elim (λ e. omega arith) (λ n. r .parent i l n .earlier) (eq-or-ne (itemParent ws i) 0)
@@ -69,9 +69,9 @@ module _ (ws ar roster : List ℕ) (r : Right ws ar) (ro : Rostered ws ar roster
 
     pub slotted : length ar < 2 ^ 64 → Slotted ws roster i
     slotted room = record {
-      long = r .sound .long;
+      long = r .valid .long;
       roster-long = ro .long;
-      inside = omega (arith, r .sound .items);
+      inside = omega (arith, r .valid .items);
       table = r .table i l;
       earlier = earlier;
       shorter = skip-most;
@@ -86,8 +86,8 @@ module _ (ws ar roster : List ℕ) (r : Right ws ar) (ro : Rostered ws ar roster
       ⊎-elim
       (λ e. let b = r .parent i l (child-some ws i e) in
       let less : itemParent ws i - 1 < itemTotal ws = omega (arith, b .earlier) in
-      omega (arith, pick-true (itemNumber roster (itemParent ws i - 1)) emptyMark e, number-few (itemParent ws i - 1) less))
-      (λ e. omega (arith, pick-false (itemNumber roster (itemParent ws i - 1)) emptyMark e))
+      omega (arith, pick-true (itemIndex roster (itemParent ws i - 1)) emptyMark e, index-few (itemParent ws i - 1) less))
+      (λ e. omega (arith, pick-false (itemIndex roster (itemParent ws i - 1)) emptyMark e))
       (by-child ws i)
 
   -- no two items have one slot
@@ -110,6 +110,6 @@ module _ (ws ar roster : List ℕ) (r : Right ws ar) (ro : Rostered ws ar roster
     unfolding slotOf
     slot-of =
         let i = itemOf plain (stateOf ws ar t) k in
-        let e : itemNumber roster i ≡ k = ro .numbers i item-in ∙ ap (λ (u : ℕ). numberOf plain (stateOf ws ar u) i) item-of
-        ∙ number-item plain (stateOf ws ar t) (member-once ws ar t) k (omega (arith, ro .counts t known)) in
+        let e : itemIndex roster i ≡ k = ro .indices i item-in ∙ ap (λ (u : ℕ). laidIndex plain (stateOf ws ar u) i) item-of
+        ∙ index-item plain (stateOf ws ar t) (member-once ws ar t) k (omega (arith, ro .counts t known)) in
         rw (item-of, e)

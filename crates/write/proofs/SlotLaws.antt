@@ -14,8 +14,8 @@ use Rattle.words.proofs.ChoiceLaws.{pick-true, pick-false, both}
 use Rattle.build_memory.specs.Memory.{emptyMark, itemTable, keySize, itemParent, itemKind, valueStart, valueSize, itemGuest, containerKind}
 use Rattle.image.proofs.TimesLaws.{eq-or-ne}
 use Rattle.write_bytes.proofs.KindLaws.{kind-value, kind-table, kind-container}
-use Rattle.write_numbers.specs.Roster.{firstSlot, itemNumber}
-use Rattle.write.specs.Sheeted.{childTest, skipped, parentWord, slotOf, startOf, sizeOf}
+use Rattle.write_numbers.specs.Roster.{firstSlot, itemIndex}
+use Rattle.write.specs.NumberedAs.{childTest, skipped, parentWord, slotOf, startOf, sizeOf}
 
 -- ---- one word more
 
@@ -50,9 +50,9 @@ four-put l at a b c d =
 
 -- ---- children
 
-pub number-read : (roster : List ℕ) (c : ℕ) → getD roster (1152 + c) 0 ≡ itemNumber roster c
-unfolding itemNumber
-number-read roster c = refl
+pub index-read : (roster : List ℕ) (c : ℕ) → getD roster (1152 + c) 0 ≡ itemIndex roster c
+unfolding itemIndex
+index-read roster c = refl
 
 module _ (ws : List ℕ) (i : ℕ) where
   pub child-none : (parent : ℕ) → parent ≡ itemParent ws i → parent ≡ 0 → false ≡ childTest ws i
@@ -84,10 +84,10 @@ module _ (ws : List ℕ) (i : ℕ) where
 
   pub word-none : (roster : List ℕ) → childTest ws i ≡ false → emptyMark ≡ parentWord ws roster i
   unfolding parentWord
-  word-none roster e = sym (pick-false (itemNumber roster (itemParent ws i - 1)) emptyMark e)
+  word-none roster e = sym (pick-false (itemIndex roster (itemParent ws i - 1)) emptyMark e)
 
   pub word-own : (roster : List ℕ) → childTest ws i ≡ true → (parent : ℕ) → parent ≡ itemParent ws i → getD roster (1152 + (parent - 1)) 0 ≡ parentWord ws roster i
-  unfolding parentWord itemNumber
+  unfolding parentWord itemIndex
   word-own roster e parent is = ap (λ (p : ℕ). getD roster (1152 + (p - 1)) 0) is ∙ sym (pick-true (getD roster (1152 + (itemParent ws i - 1)) 0) emptyMark e)
 
 -- ---- a test that was turned round
@@ -103,7 +103,7 @@ turned-off false r e f = sym e
 -- ---- the slot of an item, and what depends on its kind
 
 pub slot-own : (ws roster : List ℕ) (i t : ℕ) → t ≡ itemTable ws i → getD roster (2 * t) 0 + getD roster (1152 + i) 0 ≡ slotOf ws roster i
-unfolding slotOf firstSlot itemNumber
+unfolding slotOf firstSlot itemIndex
 slot-own ws roster i t e = rw e
 
 module _ (ws firsts : List ℕ) (i kind : ℕ) (is : kind ≡ itemKind ws i) where

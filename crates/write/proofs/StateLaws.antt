@@ -18,11 +18,11 @@ use Rattle.words.proofs.BelowLaws.{all-below}
 use Rattle.words.proofs.StoreLaws.{length-part}
 use Rattle.model.specs.Builder.{mostTables, longestKey}
 use Rattle.model.specs.Table.{Content, Entry, Has, times, entryAt, noEntry, noItem, membersBelow, rowsOf}
-use Rattle.build_memory.specs.Memory.{tableTotal, itemTotal, roomUsed, itemTable, itemHash, keyStart, keySize, itemParent, itemKind, valueStart, valueSize, itemGuest, keyOf, valueKind, tableKind, containerKind, sound, Sound}
+use Rattle.build_memory.specs.Memory.{tableTotal, itemTotal, roomUsed, itemTable, itemHash, keyStart, keySize, itemParent, itemKind, valueStart, valueSize, itemGuest, keyOf, valueKind, tableKind, containerKind, valid, Valid}
 use Rattle.build_memory.specs.Meaning.{contentOf, entryOf, listed, meaning}
-use Rattle.build_memory.proofs.MemoryLaws.{sound-facts}
-use Rattle.build_rules.specs.Whole.{tableKnown, keyPlaced, keyShort, kindRight, valuePlaced, placeRight, keyUtf8, hashRight, keyRight, begunBy, parentRight, itemRight, wholeSound}
-use Rattle.build_rules.proofs.WholeLaws.{right-guest, item-guest}
+use Rattle.build_memory.proofs.MemoryLaws.{valid-facts}
+use Rattle.build_rules.specs.Valid.{tableKnown, keyWithin, keyShort, kindValid, valueWithin, rangesValid, keyUtf8, hashValid, keyValid, begunBy, parentValid, itemValid, fullyValid}
+use Rattle.build_rules.proofs.ValidLaws.{valid-guest, item-guest}
 use Rattle.image.proofs.TimesLaws.{eq-or-ne, lt-or-ge, times-here, times-there, times-none, times-append}
 use Rattle.write_numbers.specs.Roster.{stateOf}
 
@@ -35,7 +35,7 @@ pub record Below (ws : List ℕ) (i : ℕ) : Type 0 where
   pub shorter : keySize ws (itemParent ws i - 1) ≤ keySize ws i
 
 pub record Right (ws ar : List ℕ) : Type 0 where
-  pub sound : Sound ws (length ar)
+  pub valid : Valid ws (length ar)
   pub table : (i : ℕ) → i < itemTotal ws → itemTable ws i < mostTables
   pub key : (i : ℕ) → i < itemTotal ws → keyStart ws i + keySize ws i ≤ length ar
   pub short : (i : ℕ) → i < itemTotal ws → keySize ws i ≤ longestKey
@@ -63,47 +63,47 @@ unless : (p q : Bool) → (p || q) ≡ true → p ≡ false → q ≡ true
 unless true q e h = let z : _≡_ {A = ℕ} 0 1 = cc in absurd (omega arith)
 unless false q e h = e
 
-module _ (ws ar : List ℕ) (s : Sound ws (length ar)) (i : ℕ) (right : itemRight ws ar i ≡ true) where
-  placed : placeRight ws i ≡ true
-  unfolding itemRight
-  placed = both (placeRight ws i) _ right .0
+module _ (ws ar : List ℕ) (s : Valid ws (length ar)) (i : ℕ) (right : itemValid ws ar i ≡ true) where
+  placed : rangesValid ws i ≡ true
+  unfolding itemValid
+  placed = both (rangesValid ws i) _ right .0
 
   known : itemTable ws i < mostTables
-  unfolding placeRight tableKnown
+  unfolding rangesValid tableKnown
   known = let h : itemTable ws i < tableTotal ws = ltb-true _ _ (both (ltb (itemTable ws i) (tableTotal ws)) _ placed .0) in omega (arith, s .tables)
 
-  rest : (keyPlaced ws i && (keyShort ws i && (kindRight ws i && valuePlaced ws i))) ≡ true
-  unfolding placeRight
+  rest : (keyWithin ws i && (keyShort ws i && (kindValid ws i && valueWithin ws i))) ≡ true
+  unfolding rangesValid
   rest = both (tableKnown ws i) _ placed .1
 
   key-inside : keyStart ws i + keySize ws i ≤ length ar
-  unfolding keyPlaced
+  unfolding keyWithin
   key-inside = let h : keyStart ws i + keySize ws i ≤ roomUsed ws = leb-true _ _ (both (leb (keyStart ws i + keySize ws i) (roomUsed ws)) _ rest .0) in omega (arith, s .used)
 
   key-short : keySize ws i ≤ longestKey
   unfolding keyShort
-  key-short = leb-true _ _ (both (leb (keySize ws i) longestKey) _ (both (keyPlaced ws i) _ rest .1) .0)
+  key-short = leb-true _ _ (both (leb (keySize ws i) longestKey) _ (both (keyWithin ws i) _ rest .1) .0)
 
-  last : (kindRight ws i && valuePlaced ws i) ≡ true
-  last = both (keyShort ws i) _ (both (keyPlaced ws i) _ rest .1) .1
+  last : (kindValid ws i && valueWithin ws i) ≡ true
+  last = both (keyShort ws i) _ (both (keyWithin ws i) _ rest .1) .1
 
   kind-one : (itemKind ws i ≡ valueKind) ⊎ ((itemKind ws i ≡ tableKind) ⊎ (itemKind ws i ≡ containerKind))
-  unfolding kindRight
-  kind-one = kind-cases (itemKind ws i) (both (kindRight ws i) (valuePlaced ws i) last .0)
+  unfolding kindValid
+  kind-one = kind-cases (itemKind ws i) (both (kindValid ws i) (valueWithin ws i) last .0)
 
   value-inside : itemKind ws i ≡ valueKind → valueStart ws i + valueSize ws i ≤ length ar
-  unfolding valuePlaced
+  unfolding valueWithin
   value-inside e =
-      let h : valueStart ws i + valueSize ws i ≤ roomUsed ws = leb-true _ _ (unless-not (eqb (itemKind ws i) valueKind) (leb (valueStart ws i + valueSize ws i) (roomUsed ws)) (both (kindRight ws i) (valuePlaced ws i) last .1) (eq-eqb _ _ e)) in
+      let h : valueStart ws i + valueSize ws i ≤ roomUsed ws = leb-true _ _ (unless-not (eqb (itemKind ws i) valueKind) (leb (valueStart ws i + valueSize ws i) (roomUsed ws)) (both (kindValid ws i) (valueWithin ws i) last .1) (eq-eqb _ _ e)) in
       omega (arith, s .used)
 
   key-hash : itemHash ws i ≡ hashOf (keyOf ws ar i)
-  unfolding itemRight keyRight hashRight
-  key-hash = eqb-true _ _ (both (hashRight ws ar i) _ (both (keyUtf8 ws ar i) _ (both (keyRight ws ar i) _ (both (placeRight ws i) _ right .1) .0) .1) .0)
+  unfolding itemValid keyValid hashValid
+  key-hash = eqb-true _ _ (both (hashValid ws ar i) _ (both (keyUtf8 ws ar i) _ (both (keyValid ws ar i) _ (both (rangesValid ws i) _ right .1) .0) .1) .0)
 
   begun : (itemParent ws i ≡ 0 → ⊥) → (leb (itemParent ws i) i && (eqb (itemTable ws (itemParent ws i - 1)) (itemTable ws i) && begunBy (keyOf ws ar (itemParent ws i - 1)) (keyOf ws ar i))) ≡ true
-  unfolding itemRight parentRight
-  begun n = unless (eqb (itemParent ws i) 0) _ (both (parentRight ws ar i) _ (both (keyRight ws ar i) _ (both (placeRight ws i) _ right .1) .1) .0) (ne-eqb _ _ n)
+  unfolding itemValid parentValid
+  begun n = unless (eqb (itemParent ws i) 0) _ (both (parentValid ws ar i) _ (both (keyValid ws ar i) _ (both (rangesValid ws i) _ right .1) .1) .0) (ne-eqb _ _ n)
 
   begun-early : (itemParent ws i ≡ 0 → ⊥) → itemParent ws i ≤ i
   begun-early n = leb-true _ _ (both (leb (itemParent ws i) i) _ (begun n) .0)
@@ -116,14 +116,14 @@ pub key-length : (ws ar : List ℕ) (i : ℕ) → keyStart ws i + keySize ws i �
 unfolding keyOf
 key-length ws ar i h = length-part ar (keyStart ws i) (keySize ws i) h
 
-pub whole-right : (ws ar : List ℕ) → wholeSound ws ar ≡ true → Right ws ar
-unfolding wholeSound
-whole-right ws ar whole =
-    let ok = both (sound ws (length ar)) _ whole in
-    let s = sound-facts ws (length ar) (ok .0) in
-    let right : (i : ℕ) → i < itemTotal ws → itemRight ws ar i ≡ true = all-below (itemRight ws ar) (itemTotal ws) (both (allBelow (itemRight ws ar) (itemTotal ws)) _ (ok .1) .0) in
+pub fully-valid : (ws ar : List ℕ) → fullyValid ws ar ≡ true → Right ws ar
+unfolding fullyValid
+fully-valid ws ar whole =
+    let ok = both (valid ws (length ar)) _ whole in
+    let s = valid-facts ws (length ar) (ok .0) in
+    let right : (i : ℕ) → i < itemTotal ws → itemValid ws ar i ≡ true = all-below (itemValid ws ar) (itemTotal ws) (both (allBelow (itemValid ws ar) (itemTotal ws)) _ (ok .1) .0) in
     record {
-      sound = s;
+      valid = s;
       table = λ i l. known ws ar s i (right i l);
       key = λ i l. key-inside ws ar s i (right i l);
       short = λ i l. key-short ws ar s i (right i l);
@@ -143,7 +143,7 @@ whole-right ws ar whole =
               key-length ws ar (itemParent ws i - 1) (key-inside ws ar s (itemParent ws i - 1) (right (itemParent ws i - 1) above)),
             );
           };
-      guest = λ i l k. let h : itemGuest ws i < tableTotal ws = right-guest ws i (item-guest ws ar i (right i l)) k in omega (arith, s .tables);
+      guest = λ i l k. let h : itemGuest ws i < tableTotal ws = valid-guest ws i (item-guest ws ar i (right i l)) k in omega (arith, s .tables);
     }
 
 -- ---- the tables that are meant, by their items

@@ -14,9 +14,9 @@ use Rattle.words.proofs.HashLaws.{hash-below}
 use Rattle.words.proofs.StoreLaws.{length-put, get-put, get-before, get-after, put-append}
 use Rattle.build_memory.specs.Memory.{itemTotal, itemHash, keyStart, keySize, itemKind, valueStart, valueSize, itemGuest, keyOf}
 use Rattle.image.proofs.TimesLaws.{eq-or-ne, lt-or-ge}
-use Rattle.write_bytes.specs.Sheet.{slotWord, SlotFits}
+use Rattle.write_bytes.specs.Numbered.{slotWord, SlotFits}
 use Rattle.write_numbers.specs.Roster.{bucketWord, Rostered}
-use Rattle.write.specs.Sheeted.{skipped, parentWord, slotOf, startOf, sizeOf, frontWords, backWords, slotWords, startWord, StartSheet, ChildSheet, SlotSheet, Firsts}
+use Rattle.write.specs.NumberedAs.{skipped, parentWord, slotOf, startOf, sizeOf, frontWords, backWords, slotWords, startWord, NumberedStart, NumberedChildren, NumberedSlots, Firsts}
 use Rattle.write.proofs.StateLaws.{Right}
 use Rattle.write.proofs.SlotLaws.{start-value, start-guest, start-child, size-value, size-child}
 use Rattle.write.proofs.RosterLaws.{slot-low, slot-once, bucket-few, skip-most, parent-few}
@@ -75,20 +75,20 @@ module _ (l vs : List ℕ) (long : length l ≡ 9344) (eight : length vs ≡ 8) 
 
 module _ (ws ar roster firsts : List ℕ) (r : Right ws ar) (ro : Rostered ws ar roster) (fi : Firsts firsts) where
   -- the slot of an item can be laid
-  item-fits : (sheet : List ℕ) (i : ℕ) → i < itemTotal ws
-      → ((which : ℕ) → which < 8 → slotWord sheet (slotOf ws roster i) which ≡ getD (slotWords ws roster firsts i) which 0) → SlotFits sheet ar (slotOf ws roster i)
+  item-fits : (numbered : List ℕ) (i : ℕ) → i < itemTotal ws
+      → ((which : ℕ) → which < 8 → slotWord numbered (slotOf ws roster i) which ≡ getD (slotWords ws roster firsts i) which 0) → SlotFits numbered ar (slotOf ws roster i)
   unfolding slotWords frontWords backWords
-  item-fits sheet i l e =
+  item-fits numbered i l e =
       let s = slotOf ws roster i in
-      let e0 : slotWord sheet s 0 ≡ itemHash ws i = e 0 (omega arith) in
-      let e1 : slotWord sheet s 1 ≡ parentWord ws roster i = e 1 (omega arith) in
-      let e2 : slotWord sheet s 2 ≡ keyStart ws i + skipped ws i = e 2 (omega arith) in
-      let e3 : slotWord sheet s 3 ≡ keySize ws i - skipped ws i = e 3 (omega arith) in
-      let e4 : slotWord sheet s 4 ≡ itemKind ws i = e 4 (omega arith) in
-      let e5 : slotWord sheet s 5 ≡ startOf ws firsts i = e 5 (omega arith) in
-      let e6 : slotWord sheet s 6 ≡ sizeOf ws firsts i = e 6 (omega arith) in
-      let e7 : slotWord sheet s 7 ≡ bucketWord roster s = e 7 (omega arith) in
-      let inside : i < 1024 = omega (arith, r .sound .items) in
+      let e0 : slotWord numbered s 0 ≡ itemHash ws i = e 0 (omega arith) in
+      let e1 : slotWord numbered s 1 ≡ parentWord ws roster i = e 1 (omega arith) in
+      let e2 : slotWord numbered s 2 ≡ keyStart ws i + skipped ws i = e 2 (omega arith) in
+      let e3 : slotWord numbered s 3 ≡ keySize ws i - skipped ws i = e 3 (omega arith) in
+      let e4 : slotWord numbered s 4 ≡ itemKind ws i = e 4 (omega arith) in
+      let e5 : slotWord numbered s 5 ≡ startOf ws firsts i = e 5 (omega arith) in
+      let e6 : slotWord numbered s 6 ≡ sizeOf ws firsts i = e 6 (omega arith) in
+      let e7 : slotWord numbered s 7 ≡ bucketWord roster s = e 7 (omega arith) in
+      let inside : i < 1024 = omega (arith, r .valid .items) in
       record {
         hash = omega (arith, r .hash i l, hash-below plain (keyOf ws ar i));
         parent = omega (arith, parent-few ws ar roster r ro i l);
@@ -112,30 +112,30 @@ module _ (ws ar roster firsts : List ℕ) (r : Right ws ar) (ro : Rostered ws ar
         );
       }
 
-  pub slots-none : (sheet : List ℕ) → ((s : ℕ) → s < 1024 → SlotFits sheet ar s) → SlotSheet ws ar roster firsts sheet sheet 0
-  slots-none sheet fit = record { long = refl; is = λ i h. absurd (omega arith); fits = fit; head = λ k h. refl; tail = λ k h. refl }
+  pub slots-none : (numbered : List ℕ) → ((s : ℕ) → s < 1024 → SlotFits numbered ar s) → NumberedSlots ws ar roster firsts numbered numbered 0
+  slots-none numbered fit = record { long = refl; is = λ i h. absurd (omega arith); fits = fit; head = λ k h. refl; tail = λ k h. refl }
 
-  pub slots-more : (before sheet : List ℕ) (i : ℕ) → length before ≡ 9344 → i < itemTotal ws → SlotSheet ws ar roster firsts before sheet i
-      → SlotSheet ws ar roster firsts before (putAt sheet (128 + 8 * slotOf ws roster i) (slotWords ws roster firsts i)) (i + 1)
-  slots-more before sheet i long l q =
+  pub slots-more : (before numbered : List ℕ) (i : ℕ) → length before ≡ 9344 → i < itemTotal ws → NumberedSlots ws ar roster firsts before numbered i
+      → NumberedSlots ws ar roster firsts before (putAt numbered (128 + 8 * slotOf ws roster i) (slotWords ws roster firsts i)) (i + 1)
+  slots-more before numbered i long l q =
       let s = slotOf ws roster i in
       let vs = slotWords ws roster firsts i in
-      let size : length sheet ≡ 9344 = q .long ∙ long in
+      let size : length numbered ≡ 9344 = q .long ∙ long in
       let eight : length vs ≡ 8 = length-words ws roster firsts i in
       let low : s < 1024 = slot-low ws ar roster r ro i l in
       record {
-        long = length-put sheet (128 + 8 * s) vs ∙ q .long;
+        long = length-put numbered (128 + 8 * s) vs ∙ q .long;
         is = λ j h. ⊎-elim
-            (λ (e : j ≡ i). rw e (put-own sheet vs size eight s low))
+            (λ (e : j ≡ i). rw e (put-own numbered vs size eight s low))
             (λ (n : j ≡ i → ⊥). λ which w. let less : j < i = omega arith in
-            put-other sheet vs size eight s low (slotOf ws roster j) which (λ e. n (slot-once ws ar roster r ro j i (omega arith) l e)) w ∙ q .is j less which w)
+            put-other numbered vs size eight s low (slotOf ws roster j) which (λ e. n (slot-once ws ar roster r ro j i (omega arith) l e)) w ∙ q .is j less which w)
             (eq-or-ne j i);
         fits = λ u h. ⊎-elim
-            (λ (e : u ≡ s). rw e (item-fits (putAt sheet (128 + 8 * s) vs) i l (put-own sheet vs size eight s low)))
-            (λ (n : u ≡ s → ⊥). fits-same sheet (putAt sheet (128 + 8 * s) vs) ar u (λ which w. put-other sheet vs size eight s low u which n w) (q .fits u h))
+            (λ (e : u ≡ s). rw e (item-fits (putAt numbered (128 + 8 * s) vs) i l (put-own numbered vs size eight s low)))
+            (λ (n : u ≡ s → ⊥). fits-same numbered (putAt numbered (128 + 8 * s) vs) ar u (λ which w. put-other numbered vs size eight s low u which n w) (q .fits u h))
             (eq-or-ne u s);
-        head = λ k h. get-before sheet (128 + 8 * s) vs k (omega arith) ∙ q .head k h;
-        tail = λ k h. get-after sheet (128 + 8 * s) vs k (omega arith) ∙ q .tail k h;
+        head = λ k h. get-before numbered (128 + 8 * s) vs k (omega arith) ∙ q .head k h;
+        tail = λ k h. get-after numbered (128 + 8 * s) vs k (omega arith) ∙ q .tail k h;
       }
 
 -- ---- before the first slot: all words of slots are 0
@@ -151,19 +151,19 @@ start-out roster k l = sym (pick-false (getD roster k 0) 0 (le-ltb _ _ l))
 pub set-clear : (l : List ℕ) (k v : ℕ) → ((q : ℕ) → k ≤ q → q < 9344 → getD l q 0 ≡ 0) → (q : ℕ) → k + 1 ≤ q → q < 9344 → getD (set l k v) q 0 ≡ 0
 set-clear l k v clear q g h = getD-set-other l k q v 0 (λ (e : q ≡ k). omega arith) ∙ clear q (omega arith) h
 
-pub start-made : (roster sheet : List ℕ) → length sheet ≡ 9344 → ((k : ℕ) → k < 128 → getD sheet k 0 ≡ getD roster k 0) → ((k : ℕ) → 128 ≤ k → k < 9344 → getD sheet k 0 ≡ 0)
-    → StartSheet roster sheet
-start-made roster sheet long head clear = record {
+pub start-made : (roster numbered : List ℕ) → length numbered ≡ 9344 → ((k : ℕ) → k < 128 → getD numbered k 0 ≡ getD roster k 0) → ((k : ℕ) → 128 ≤ k → k < 9344 → getD numbered k 0 ≡ 0)
+    → NumberedStart roster numbered
+start-made roster numbered long head clear = record {
   long = long;
   is = λ k h. ⊎-elim (λ l. head k l ∙ start-in roster k l) (λ g. clear k g h ∙ start-out roster k g) (lt-or-ge k 128);
 }
 
-zero-word : (ws roster order a b : List ℕ) → StartSheet roster a → ChildSheet ws roster order a b → (s which : ℕ) → s < 1024 → which < 8 → slotWord b s which ≡ 0
+zero-word : (ws roster order a b : List ℕ) → NumberedStart roster a → NumberedChildren ws roster order a b → (s which : ℕ) → s < 1024 → which < 8 → slotWord b s which ≡ 0
 unfolding slotWord
 zero-word ws roster order a b st ch s which h w =
     ch .kept (128 + 8 * s + which) (omega arith) ∙ st .is (128 + 8 * s + which) (omega arith) ∙ sym (start-out roster (128 + 8 * s + which) (omega arith))
 
-pub start-fits : (ws ar roster order a b : List ℕ) → StartSheet roster a → ChildSheet ws roster order a b → (s : ℕ) → s < 1024 → SlotFits b ar s
+pub start-fits : (ws ar roster order a b : List ℕ) → NumberedStart roster a → NumberedChildren ws roster order a b → (s : ℕ) → s < 1024 → SlotFits b ar s
 start-fits ws ar roster order a b st ch s h =
     let e0 : slotWord b s 0 ≡ 0 = word 0 (omega arith) in
     let e1 : slotWord b s 1 ≡ 0 = word 1 (omega arith) in

@@ -6,7 +6,7 @@ use Rattle.words.specs.Choice.{pick}
 use Rattle.layout.specs.declared.refusal.Refusal.the-variants.{EmptyKey, ImageTooLong}
 use Rattle.image.specs.Plan.{chunkSize}
 use Rattle.image.specs.Image.{headerSize, depth}
-use Rattle.write_bytes.specs.Sheet.{slotCount, sheetImage}
+use Rattle.write_bytes.specs.Numbered.{slotCount, numberedImage}
 use Rattle.write_numbers.specs.Roster.{stateOf}
 use Rattle.write.specs.Write.{hasEmpty, tooLong, imageFor}
 use Rattle.write.specs.declared.Written.{Written}
@@ -15,9 +15,9 @@ use Rattle.write.specs.declared.Written.{Written}
 unfoldable pub sizeAnswer : ℕ → ℕ → ℕ → Written
 sizeAnswer room count size = pick (tooLong room size) (Written.Refused ImageTooLong) (Written.Image headerSize (headerSize + chunkSize count) size)
 
-unfoldable pub sheetAnswer : List ℕ → List ℕ → ℕ → ℕ → Written
-sheetAnswer sheet ar t room = sizeAnswer room (slotCount sheet t) (length (sheetImage sheet ar t))
+unfoldable pub fitAnswer : List ℕ → List ℕ → ℕ → ℕ → Written
+fitAnswer numbered ar t room = sizeAnswer room (slotCount numbered t) (length (numberedImage numbered ar t))
 
-unfoldable pub rootAnswer : List ℕ → List ℕ → ℕ → ℕ → Written
-rootAnswer ws ar t room =
+unfoldable pub tableAnswer : List ℕ → List ℕ → ℕ → ℕ → Written
+tableAnswer ws ar t room =
     pick (hasEmpty (stateOf ws ar) depth t) (Written.Refused EmptyKey) (sizeAnswer room (length (stateOf ws ar t .members)) (length (imageFor ws ar t)))

@@ -1,4 +1,4 @@
 pub mod Write
-pub mod Sheeted
+pub mod NumberedAs
 pub mod Empty
 pub mod Answer

@@ -14,8 +14,8 @@ use Rattle.layout.specs.Refusal.{number}
 use Rattle.layout.specs.declared.refusal.Refusal.the-variants.{MemoryBroken, TableUnknown, EmptyKey, ImageTooLong}
 use Rattle.model.specs.Table.{Content, State}
 use Rattle.build_memory.specs.Memory.{tableTotal, tablePlaced}
-use Rattle.build_rules.specs.Whole.{wholeSound}
-use Rattle.image.specs.Number.{itemOf}
+use Rattle.build_rules.specs.Valid.{fullyValid}
+use Rattle.image.specs.Index.{itemOf}
 use Rattle.image.specs.Plan.{chunkSize}
 use Rattle.image.specs.Image.{headerSize, depth, imageOf}
 use Rattle.write_numbers.specs.Roster.{stateOf}
@@ -35,8 +35,8 @@ hasEmpty state (suc d) t =
     (length (state t .members))
 
 -- the table is known and not placed
-unfoldable pub isRoot : List ℕ → ℕ → Bool
-isRoot ws t = ltb t (tableTotal ws) && eqb (tablePlaced ws t) 0
+unfoldable pub freeStanding : List ℕ → ℕ → Bool
+freeStanding ws t = ltb t (tableTotal ws) && eqb (tablePlaced ws t) 0
 
 -- what is to be laid
 unfoldable pub imageFor : List ℕ → List ℕ → ℕ → List ℕ
@@ -49,8 +49,8 @@ tooLong room size = ltb longestFile size || ltb room size
 -- the answer: the root pointer, which covers the table chunk, and the image's length
 unfoldable pub writeAnswer : List ℕ → List ℕ → ℕ → ℕ → Written
 writeAnswer ws ar t room =
-    pick (wholeSound ws ar)
-    (pick (isRoot ws t)
+    pick (fullyValid ws ar)
+    (pick (freeStanding ws t)
     (pick (hasEmpty (stateOf ws ar) depth t) (Written.Refused EmptyKey)
     (pick (tooLong room (length (imageFor ws ar t))) (Written.Refused ImageTooLong)
     (Written.Image headerSize (headerSize + chunkSize (length (stateOf ws ar t .members))) (length (imageFor ws ar t)))))

@@ -1,17 +1,17 @@
 // The children of every container in order of creation: places in buckets by their parent words, the last item first.
-use build_memory::place::EMPTY;
-use build_memory::place::ITEMS;
-use build_memory::place::PARENT;
-use build_memory::place::item_word;
-use write_order::number::number;
+use build_memory::fields::EMPTY;
+use build_memory::fields::ITEMS;
+use build_memory::fields::PARENT;
+use build_memory::fields::item_word;
+use write_order::buckets::index_by_bucket;
 ghost use mathlib.Core.Path.{_≡_};
 ghost use mathlib.Core.Bool.{true};
 ghost use Prim.Native.Nat.{ℕ, _<_, _≤_};
 ghost use lib.ListN.{length, getD};
 ghost use Rattle.model.specs.Builder.{mostItems};
 ghost use Rattle.build_memory.specs.Memory.{leastWords, itemTotal};
-ghost use Rattle.build_rules.specs.Whole.{wholeSound};
-ghost use Rattle.write.specs.Sheeted.{Parents, Kin, ChildSheet};
+ghost use Rattle.build_rules.specs.Valid.{fullyValid};
+ghost use Rattle.write.specs.NumberedAs.{Parents, Siblings, NumberedChildren};
 
 // The parent words, the last item's first.
 fn list_parents(words: &[usize], hashes: &mut [usize])
@@ -27,32 +27,32 @@ fn list_parents(words: &[usize], hashes: &mut [usize])
 }
 
 // Orders the places of all items by their parents. `firsts` has the count of the items past the last.
-pub fn order_kin(words: &[usize], arena: &[u8], order: &mut [usize], firsts: &mut [usize])
-    requires { ⌜ wholeSound (now words) (now arena) ≡ true ⌝ }
+pub fn order_siblings(words: &[usize], arena: &[u8], order: &mut [usize], firsts: &mut [usize])
+    requires { ⌜ fullyValid (now words) (now arena) ≡ true ⌝ }
     requires { ⌜ (length (now order) ≡ 1024) × (length (now firsts) ≡ 1026) ⌝ }
     requires { ⌜ ((b : ℕ) → b < 1026 → getD (now firsts) b 0 ≡ itemTotal (now words)) ⌝ }
-    ensures { λ _. ⌜ Kin (now (words .entry)) (now (order .exit)) (now (firsts .exit)) ⌝ }
+    ensures { λ _. ⌜ Siblings (now (words .entry)) (now (order .exit)) (now (firsts .exit)) ⌝ }
 {
     let n = words[ITEMS];
     let mut hashes = [0usize; 1024];
     let mut links = [EMPTY; 1024];
     list_parents(words, &mut hashes);
-    number(&hashes[..n], &mut links, order, firsts);
+    index_by_bucket(&hashes[..n], &mut links, order, firsts);
 }
 
 // Puts the numbers of all children, parent by parent.
-pub fn put_children(words: &[usize], roster: &[usize], order: &[usize], sheet: &mut [usize])
+pub fn put_children(words: &[usize], roster: &[usize], order: &[usize], numbered: &mut [usize])
     requires { ⌜ (leastWords ≤ length (now words)) × (itemTotal (now words) ≤ mostItems) ⌝ }
-    requires { ⌜ (length (now roster) ≡ 3200) × (length (now sheet) ≡ 9344) ⌝ }
+    requires { ⌜ (length (now roster) ≡ 3200) × (length (now numbered) ≡ 9344) ⌝ }
     requires { ⌜ (length (now order) ≡ 1024) × ((j : ℕ) → j < itemTotal (now words) → getD (now order) j 0 < itemTotal (now words)) ⌝ }
-    ensures { λ _. ⌜ ChildSheet (now (words .entry)) (now (roster .entry)) (now (order .entry)) (now (sheet .entry)) (now (sheet .exit)) ⌝ }
+    ensures { λ _. ⌜ NumberedChildren (now (words .entry)) (now (roster .entry)) (now (order .entry)) (now (numbered .entry)) (now (numbered .exit)) ⌝ }
 {
     let n = words[ITEMS];
     let mut j = 0;
     while j < n {
         let place = order[j];
         let child = n - 1 - place;
-        sheet[8320 + j] = roster[1152 + child];
+        numbered[8320 + j] = roster[1152 + child];
         j += 1;
     }
 }

@@ -1,14 +1,14 @@
 // The search for an empty key in a table and in those nested in it: a table and an item call each other, and the depth left falls.
-use build_memory::place::GUEST;
-use build_memory::place::KEY_SIZE;
-use build_memory::place::KIND;
-use build_memory::place::TABLE_KIND;
-use build_memory::place::item_word;
+use build_memory::fields::GUEST;
+use build_memory::fields::KEY_SIZE;
+use build_memory::fields::KIND;
+use build_memory::fields::TABLE_KIND;
+use build_memory::fields::item_word;
 ghost use mathlib.Core.Path.{_≡_};
 ghost use mathlib.Core.Bool.{true};
 ghost use Prim.Native.Nat.{_<_};
 ghost use Rattle.build_memory.specs.Memory.{itemTotal};
-ghost use Rattle.build_rules.specs.Whole.{wholeSound};
+ghost use Rattle.build_rules.specs.Valid.{fullyValid};
 ghost use Rattle.write_numbers.specs.Roster.{stateOf, Rostered};
 ghost use Rattle.write.specs.Write.{hasEmpty};
 ghost use Rattle.write.specs.Empty.{itemEmpty};
@@ -21,7 +21,7 @@ pub fn has_empty(
     table: usize,
     depth: usize,
 ) -> bool
-    requires { ⌜ wholeSound (now words) (now arena) ≡ true ⌝ }
+    requires { ⌜ fullyValid (now words) (now arena) ≡ true ⌝ }
     requires { ⌜ Rostered (now words) (now arena) (now roster) ⌝ }
     requires { ⌜ table < 64 ⌝ }
     ensures { λ r. ⌜ r ≡ hasEmpty (stateOf (now (words .entry)) (now (arena .entry))) depth table ⌝ }
@@ -44,7 +44,7 @@ pub fn has_empty(
 
 // Whether an item has the empty key, or holds a table with one.
 fn item_empty(words: &[usize], arena: &[u8], roster: &[usize], item: usize, depth: usize) -> bool
-    requires { ⌜ wholeSound (now words) (now arena) ≡ true ⌝ }
+    requires { ⌜ fullyValid (now words) (now arena) ≡ true ⌝ }
     requires { ⌜ Rostered (now words) (now arena) (now roster) ⌝ }
     requires { ⌜ item < itemTotal (now words) ⌝ }
     ensures { λ r. ⌜ r ≡ itemEmpty (now (words .entry)) (now (arena .entry)) depth item ⌝ }

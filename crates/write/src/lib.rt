@@ -1,7 +1,7 @@
 // A write: the image of a table of the builder, laid into a lent buffer.
 mod children;
 mod empty;
-mod sheet;
+mod numbered;
 mod slot;
 pub mod write;
 

@@ -1,24 +1,24 @@
 // The words of an item's slot.
-use build_memory::place::CONTAINER_KIND;
-use build_memory::place::GUEST;
-use build_memory::place::HASH;
-use build_memory::place::KEY;
-use build_memory::place::KEY_SIZE;
-use build_memory::place::KIND;
-use build_memory::place::PARENT;
-use build_memory::place::TABLE;
-use build_memory::place::TABLE_KIND;
-use build_memory::place::VALUE;
-use build_memory::place::VALUE_KIND;
-use build_memory::place::VALUE_SIZE;
-use build_memory::place::item_word;
+use build_memory::fields::CONTAINER_KIND;
+use build_memory::fields::GUEST;
+use build_memory::fields::HASH;
+use build_memory::fields::KEY;
+use build_memory::fields::KEY_SIZE;
+use build_memory::fields::KIND;
+use build_memory::fields::PARENT;
+use build_memory::fields::TABLE;
+use build_memory::fields::TABLE_KIND;
+use build_memory::fields::VALUE;
+use build_memory::fields::VALUE_KIND;
+use build_memory::fields::VALUE_SIZE;
+use build_memory::fields::item_word;
 ghost use mathlib.Core.Path.{_≡_};
 ghost use mathlib.Core.List.{[], _∷_};
 ghost use Prim.Native.Nat.{ℕ, _+_, _*_, _-_, _<_, _≤_};
 ghost use lib.ListN.{length, getD};
 ghost use Rattle.words.specs.Store.{putAt};
 ghost use Rattle.build_memory.specs.Memory.{itemParent, itemTable};
-ghost use Rattle.write.specs.Sheeted.{childTest, skipped, parentWord, slotOf, startOf, sizeOf, frontWords, backWords, slotWords, Slotted, Firsts};
+ghost use Rattle.write.specs.NumberedAs.{childTest, skipped, parentWord, slotOf, startOf, sizeOf, frontWords, backWords, slotWords, Slotted, Firsts};
 
 // Whether an item is laid as a child: it has a parent, which is a container.
 fn is_child(words: &[usize], i: usize) -> bool
@@ -97,28 +97,28 @@ fn size_of(words: &[usize], firsts: &[usize], i: usize) -> usize
 }
 
 // Stores four words.
-fn put_four(sheet: &mut [usize], at: usize, a: usize, b: usize, c: usize, d: usize)
-    requires { ⌜ at + 4 ≤ length (now sheet) ⌝ }
-    ensures { λ _. ⌜ now (sheet .exit) ≡ putAt (now (sheet .entry)) at (a ∷ b ∷ c ∷ d ∷ []) ⌝ }
+fn put_four(numbered: &mut [usize], at: usize, a: usize, b: usize, c: usize, d: usize)
+    requires { ⌜ at + 4 ≤ length (now numbered) ⌝ }
+    ensures { λ _. ⌜ now (numbered .exit) ≡ putAt (now (numbered .entry)) at (a ∷ b ∷ c ∷ d ∷ []) ⌝ }
 {
-    sheet[at] = a;
-    sheet[at + 1] = b;
-    sheet[at + 2] = c;
-    sheet[at + 3] = d;
+    numbered[at] = a;
+    numbered[at + 1] = b;
+    numbered[at + 2] = c;
+    numbered[at + 3] = d;
 }
 
 // Puts the first four words of an item's slot.
-fn put_front(words: &[usize], roster: &[usize], i: usize, sheet: &mut [usize], at: usize)
+fn put_front(words: &[usize], roster: &[usize], i: usize, numbered: &mut [usize], at: usize)
     requires { ⌜ Slotted (now words) (now roster) i ⌝ }
-    requires { ⌜ at + 4 ≤ length (now sheet) ⌝ }
-    ensures { λ _. ⌜ now (sheet .exit) ≡ putAt (now (sheet .entry)) at (frontWords (now (words .entry)) (now (roster .entry)) i) ⌝ }
+    requires { ⌜ at + 4 ≤ length (now numbered) ⌝ }
+    ensures { λ _. ⌜ now (numbered .exit) ≡ putAt (now (numbered .entry)) at (frontWords (now (words .entry)) (now (roster .entry)) i) ⌝ }
 {
     let hash = item_word(words, i, HASH);
     let parent = parent_word(words, roster, i);
     let skip = skip_of(words, i);
     let start = item_word(words, i, KEY) + skip;
     let size = item_word(words, i, KEY_SIZE) - skip;
-    put_four(sheet, at, hash, parent, start, size);
+    put_four(numbered, at, hash, parent, start, size);
 }
 
 // Puts the last four words of an item's slot.
@@ -127,30 +127,36 @@ fn put_back(
     roster: &[usize],
     firsts: &[usize],
     i: usize,
-    sheet: &mut [usize],
+    numbered: &mut [usize],
     at: usize,
 )
     requires { ⌜ Slotted (now words) (now roster) i ⌝ }
     requires { ⌜ Firsts (now firsts) ⌝ }
-    requires { ⌜ at + 4 ≤ length (now sheet) ⌝ }
-    ensures { λ _. ⌜ now (sheet .exit) ≡ putAt (now (sheet .entry)) at (backWords (now (words .entry)) (now (roster .entry)) (now (firsts .entry)) i) ⌝ }
+    requires { ⌜ at + 4 ≤ length (now numbered) ⌝ }
+    ensures { λ _. ⌜ now (numbered .exit) ≡ putAt (now (numbered .entry)) at (backWords (now (words .entry)) (now (roster .entry)) (now (firsts .entry)) i) ⌝ }
 {
     let kind = item_word(words, i, KIND);
     let start = start_of(words, firsts, i);
     let size = size_of(words, firsts, i);
     let slot = slot_of(words, roster, i);
     let bucket = roster[2176 + slot];
-    put_four(sheet, at, kind, start, size, bucket);
+    put_four(numbered, at, kind, start, size, bucket);
 }
 
 // Puts the words of an item's slot.
-pub fn put_slot(words: &[usize], roster: &[usize], firsts: &[usize], i: usize, sheet: &mut [usize])
+pub fn put_slot(
+    words: &[usize],
+    roster: &[usize],
+    firsts: &[usize],
+    i: usize,
+    numbered: &mut [usize],
+)
     requires { ⌜ Slotted (now words) (now roster) i ⌝ }
     requires { ⌜ Firsts (now firsts) ⌝ }
-    requires { ⌜ length (now sheet) ≡ 9344 ⌝ }
-    ensures { λ _. ⌜ now (sheet .exit) ≡ putAt (now (sheet .entry)) (128 + 8 * slotOf (now (words .entry)) (now (roster .entry)) i) (slotWords (now (words .entry)) (now (roster .entry)) (now (firsts .entry)) i) ⌝ }
+    requires { ⌜ length (now numbered) ≡ 9344 ⌝ }
+    ensures { λ _. ⌜ now (numbered .exit) ≡ putAt (now (numbered .entry)) (128 + 8 * slotOf (now (words .entry)) (now (roster .entry)) i) (slotWords (now (words .entry)) (now (roster .entry)) (now (firsts .entry)) i) ⌝ }
 {
     let at = 128 + 8 * slot_of(words, roster, i);
-    put_front(words, roster, i, sheet, at);
-    put_back(words, roster, firsts, i, sheet, at + 4);
+    put_front(words, roster, i, numbered, at);
+    put_back(words, roster, firsts, i, numbered, at + 4);
 }

@@ -1,15 +1,15 @@
 // A write: the judgement of the memory, the table, its empty keys, its image's length; then the image.
 use crate::Written;
 use crate::empty::has_empty;
-use crate::sheet::fill_sheet;
-use build_memory::place::PLACED;
-use build_memory::place::TABLES;
-use build_memory::place::table_word;
-use build_rules::judge::judge_whole;
+use crate::numbered::fill_numbered;
+use build_memory::fields::PLACED;
+use build_memory::fields::TABLES;
+use build_memory::fields::table_word;
+use build_rules::judge::judge_fully;
 use layout::refusal::Refusal;
 use words::wide::word_size;
 use write_bytes::Measured;
-use write_bytes::sheet::slot_count;
+use write_bytes::numbered::slot_count;
 use write_bytes::whole::lay_image;
 use write_bytes::whole::measure;
 use write_numbers::fill::roster_all;
@@ -20,11 +20,11 @@ ghost use lib.ListN.{length};
 ghost use Rattle.words.specs.Store.{putAt};
 ghost use Rattle.model.specs.Builder.{mostTables};
 ghost use Rattle.build_memory.specs.Memory.{leastWords, tableTotal};
-ghost use Rattle.build_rules.specs.Whole.{wholeSound};
-ghost use Rattle.write_bytes.specs.Sheet.{sheetTables, sheetImage, SheetFits};
+ghost use Rattle.build_rules.specs.Valid.{fullyValid};
+ghost use Rattle.write_bytes.specs.Numbered.{numberedTables, numberedImage, NumberedFits};
 ghost use Rattle.write_numbers.specs.Roster.{Rostered};
-ghost use Rattle.write.specs.Write.{isRoot, imageFor, writeAnswer, laidBy, imageAfter};
-ghost use Rattle.write.specs.Answer.{sheetAnswer, rootAnswer};
+ghost use Rattle.write.specs.Write.{freeStanding, imageFor, writeAnswer, laidBy, imageAfter};
+ghost use Rattle.write.specs.Answer.{fitAnswer, tableAnswer};
 
 // Where the image's root table starts, and the deepest that tables nest.
 const HEADER: usize = 24;
@@ -32,9 +32,9 @@ const HEADER: usize = 24;
 const DEPTH: usize = 8;
 
 // Whether a table is known and not placed.
-fn is_root(words: &[usize], table: usize) -> bool
+fn is_free_standing(words: &[usize], table: usize) -> bool
     requires { ⌜ (leastWords ≤ length (now words)) × (tableTotal (now words) ≤ mostTables) ⌝ }
-    ensures { λ r. ⌜ r ≡ isRoot (now (words .entry)) table ⌝ }
+    ensures { λ r. ⌜ r ≡ freeStanding (now (words .entry)) table ⌝ }
 {
     if words[TABLES] <= table {
         return false;
@@ -43,30 +43,30 @@ fn is_root(words: &[usize], table: usize) -> bool
 }
 
 // Lays the image of a table into the front of a buffer that is long enough.
-fn lay_into(sheet: &[usize], arena: &[u8], table: usize, image: &mut [u8], size: usize)
-    requires { ⌜ SheetFits (now sheet) (now arena) ⌝ }
-    requires { ⌜ (table < sheetTables) × (size ≡ length (sheetImage (now sheet) (now arena) table)) ⌝ }
+fn lay_into(numbered: &[usize], arena: &[u8], table: usize, image: &mut [u8], size: usize)
+    requires { ⌜ NumberedFits (now numbered) (now arena) ⌝ }
+    requires { ⌜ (table < numberedTables) × (size ≡ length (numberedImage (now numbered) (now arena) table)) ⌝ }
     requires { ⌜ (size ≤ length (now image)) × (size ≤ 16777216) ⌝ }
-    ensures { λ _. ⌜ now (image .exit) ≡ putAt (now (image .entry)) 0 (sheetImage (now (sheet .entry)) (now (arena .entry)) table) ⌝ }
+    ensures { λ _. ⌜ now (image .exit) ≡ putAt (now (image .entry)) 0 (numberedImage (now (numbered .entry)) (now (arena .entry)) table) ⌝ }
 {
-    lay_image(sheet, arena, table, &mut image[..size]);
+    lay_image(numbered, arena, table, &mut image[..size]);
 }
 
 // Lays a table of a sheet, if its image is not too long.
-fn write_sheet(sheet: &[usize], arena: &[u8], table: usize, image: &mut [u8]) -> Written
-    requires { ⌜ SheetFits (now sheet) (now arena) ⌝ }
-    requires { ⌜ table < sheetTables ⌝ }
-    ensures { λ r. ⌜ r ≡ sheetAnswer (now (sheet .entry)) (now (arena .entry)) table (length (now (image .entry))) ⌝ }
-    ensures { λ _. ⌜ now (image .exit) ≡ laidBy (sheetAnswer (now (sheet .entry)) (now (arena .entry)) table (length (now (image .entry)))) (sheetImage (now (sheet .entry)) (now (arena .entry)) table) (now (image .entry)) ⌝ }
+fn write_if_fits(numbered: &[usize], arena: &[u8], table: usize, image: &mut [u8]) -> Written
+    requires { ⌜ NumberedFits (now numbered) (now arena) ⌝ }
+    requires { ⌜ table < numberedTables ⌝ }
+    ensures { λ r. ⌜ r ≡ fitAnswer (now (numbered .entry)) (now (arena .entry)) table (length (now (image .entry))) ⌝ }
+    ensures { λ _. ⌜ now (image .exit) ≡ laidBy (fitAnswer (now (numbered .entry)) (now (arena .entry)) table (length (now (image .entry)))) (numberedImage (now (numbered .entry)) (now (arena .entry)) table) (now (image .entry)) ⌝ }
 {
-    let Measured::End(size) = measure(sheet, arena, table) else {
+    let Measured::End(size) = measure(numbered, arena, table) else {
         return Written::Refused(Refusal::ImageTooLong);
     };
     if image.len() < size {
         return Written::Refused(Refusal::ImageTooLong);
     }
-    lay_into(sheet, arena, table, image, size);
-    let end = HEADER + 8 + 28 * slot_count(sheet, table);
+    lay_into(numbered, arena, table, image, size);
+    let end = HEADER + 8 + 28 * slot_count(numbered, table);
     Written::Image {
         start: HEADER as u32,
         end: end as u32,
@@ -75,38 +75,38 @@ fn write_sheet(sheet: &[usize], arena: &[u8], table: usize, image: &mut [u8]) ->
 }
 
 // Lays a table by its roster, if no key is empty.
-fn write_with(
+fn write_unless_empty(
     words: &[usize],
     arena: &[u8],
     roster: &[usize],
     table: usize,
     image: &mut [u8],
 ) -> Written
-    requires { ⌜ wholeSound (now words) (now arena) ≡ true ⌝ }
+    requires { ⌜ fullyValid (now words) (now arena) ≡ true ⌝ }
     requires { ⌜ Rostered (now words) (now arena) (now roster) ⌝ }
-    requires { ⌜ table < sheetTables ⌝ }
-    ensures { λ r. ⌜ r ≡ rootAnswer (now (words .entry)) (now (arena .entry)) table (length (now (image .entry))) ⌝ }
-    ensures { λ _. ⌜ now (image .exit) ≡ laidBy (rootAnswer (now (words .entry)) (now (arena .entry)) table (length (now (image .entry)))) (imageFor (now (words .entry)) (now (arena .entry)) table) (now (image .entry)) ⌝ }
+    requires { ⌜ table < numberedTables ⌝ }
+    ensures { λ r. ⌜ r ≡ tableAnswer (now (words .entry)) (now (arena .entry)) table (length (now (image .entry))) ⌝ }
+    ensures { λ _. ⌜ now (image .exit) ≡ laidBy (tableAnswer (now (words .entry)) (now (arena .entry)) table (length (now (image .entry)))) (imageFor (now (words .entry)) (now (arena .entry)) table) (now (image .entry)) ⌝ }
 {
     if has_empty(words, arena, roster, table, DEPTH) {
         return Written::Refused(Refusal::EmptyKey);
     }
-    let mut sheet = [0usize; 9344];
-    fill_sheet(words, arena, roster, &mut sheet);
-    write_sheet(&sheet, arena, table, image)
+    let mut numbered = [0usize; 9344];
+    fill_numbered(words, arena, roster, &mut numbered);
+    write_if_fits(&numbered, arena, table, image)
 }
 
 // Lays a table that is known and not placed.
-fn write_root(words: &mut [usize], arena: &[u8], table: usize, image: &mut [u8]) -> Written
-    requires { ⌜ wholeSound (now words) (now arena) ≡ true ⌝ }
-    requires { ⌜ table < sheetTables ⌝ }
+fn index_and_write(words: &mut [usize], arena: &[u8], table: usize, image: &mut [u8]) -> Written
+    requires { ⌜ fullyValid (now words) (now arena) ≡ true ⌝ }
+    requires { ⌜ table < numberedTables ⌝ }
     ensures { λ _. ⌜ now (words .exit) ≡ now (words .entry) ⌝ }
-    ensures { λ r. ⌜ r ≡ rootAnswer (now (words .entry)) (now (arena .entry)) table (length (now (image .entry))) ⌝ }
-    ensures { λ _. ⌜ now (image .exit) ≡ laidBy (rootAnswer (now (words .entry)) (now (arena .entry)) table (length (now (image .entry)))) (imageFor (now (words .entry)) (now (arena .entry)) table) (now (image .entry)) ⌝ }
+    ensures { λ r. ⌜ r ≡ tableAnswer (now (words .entry)) (now (arena .entry)) table (length (now (image .entry))) ⌝ }
+    ensures { λ _. ⌜ now (image .exit) ≡ laidBy (tableAnswer (now (words .entry)) (now (arena .entry)) table (length (now (image .entry)))) (imageFor (now (words .entry)) (now (arena .entry)) table) (now (image .entry)) ⌝ }
 {
     let mut roster = [0usize; 3200];
     roster_all(words, arena, &mut roster);
-    write_with(words, arena, &roster, table, image)
+    write_unless_empty(words, arena, &roster, table, image)
 }
 
 // Writes the image of a table. The builder stays as it was: the links among its words are empty again.
@@ -115,12 +115,12 @@ pub fn write(words: &mut [usize], arena: &[u8], table: u32, image: &mut [u8]) ->
     ensures { λ r. ⌜ r ≡ writeAnswer (now (words .entry)) (now (arena .entry)) table (length (now (image .entry))) ⌝ }
     ensures { λ _. ⌜ now (image .exit) ≡ imageAfter (now (words .entry)) (now (arena .entry)) table (now (image .entry)) ⌝ }
 {
-    if !judge_whole(words, arena) {
+    if !judge_fully(words, arena) {
         return Written::Refused(Refusal::MemoryBroken);
     }
     let known = word_size(table);
-    if !is_root(words, known) {
+    if !is_free_standing(words, known) {
         return Written::Refused(Refusal::TableUnknown);
     }
-    write_root(words, arena, known, image)
+    index_and_write(words, arena, known, image)
 }

@@ -8,15 +8,15 @@ use Rattle.words.specs.Store.{putAt, zeros}
 use Rattle.words.proofs.StoreLaws.{length-zeros}
 use Rattle.image.specs.Image.{headerSize, depth}
 use Rattle.image.specs.Laid.{Laid}
-use Rattle.write_bytes.specs.Sheet.{sheetBytes, sheetImage}
+use Rattle.write_bytes.specs.Numbered.{numberedBytes, numberedImage}
 use Rattle.write_bytes.proofs.PutLaws.{put-then}
 
-module _ (sheet arena : List ℕ) (root : ℕ) where
-  pub length-image : length (sheetImage sheet arena root) ≡ headerSize + length (sheetBytes sheet arena depth root headerSize)
-  unfolding sheetImage
-  length-image = length-append (zeros 24) (sheetBytes sheet arena 8 root 24) ∙ ap (λ (n : ℕ). n + length (sheetBytes sheet arena 8 root 24)) (length-zeros 24)
+module _ (numbered arena : List ℕ) (root : ℕ) where
+  pub length-image : length (numberedImage numbered arena root) ≡ headerSize + length (numberedBytes numbered arena depth root headerSize)
+  unfolding numberedImage
+  length-image = length-append (zeros 24) (numberedBytes numbered arena 8 root 24) ∙ ap (λ (n : ℕ). n + length (numberedBytes numbered arena 8 root 24)) (length-zeros 24)
 
-  pub image-laid : (l : List ℕ) {m n : List ℕ} {end : ℕ} → m ≡ putAt l 0 (zeros headerSize) → Laid m n headerSize (sheetBytes sheet arena depth root headerSize) end
-      → n ≡ putAt l 0 (sheetImage sheet arena root)
-  unfolding sheetImage
-  image-laid l p laid = put-then l 0 (zeros 24) (sheetBytes sheet arena 8 root 24) (omega (arith, length-zeros 24)) p (laid .image-is)
+  pub image-laid : (l : List ℕ) {m n : List ℕ} {end : ℕ} → m ≡ putAt l 0 (zeros headerSize) → Laid m n headerSize (numberedBytes numbered arena depth root headerSize) end
+      → n ≡ putAt l 0 (numberedImage numbered arena root)
+  unfolding numberedImage
+  image-laid l p laid = put-then l 0 (zeros 24) (numberedBytes numbered arena 8 root 24) (omega (arith, length-zeros 24)) p (laid .image-is)

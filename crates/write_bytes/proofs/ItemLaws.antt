@@ -11,103 +11,103 @@ use Rattle.image.specs.Laid.{Laid}
 use Rattle.image.proofs.TimesLaws.{eq-or-ne}
 use Rattle.image.proofs.LaidLaws.{laid-join}
 use Rattle.image.proofs.PlanLaws.{length-words}
-use Rattle.write_bytes.specs.Sheet.{sheetSlots, kindValue, kindTable, slotWord, childWord, slotValue, SlotFits, SheetFits}
+use Rattle.write_bytes.specs.Numbered.{numberedSlots, kindValue, kindTable, slotWord, childWord, slotValue, SlotFits, NumberedFits}
 use Rattle.write_bytes.specs.Slot.{slotStart, slotCover, slotRecord, slotKey, plainValue, slotItem, SlotIn, CoverFits, RecordFits}
 use Rattle.write_bytes.proofs.KindLaws.{kind-value, kind-table, kind-container}
 use Rattle.write_bytes.proofs.SlotLaws.{cover-value, cover-table, cover-container, start-above, length-key}
 use Rattle.write_bytes.proofs.PutLaws.{plain-bytes, plain-children}
 
 -- a slot of a sheet that fits
-pub record AtSlot (sheet arena : List ℕ) (s : ℕ) : Type 0 where
-  pub fits : SheetFits sheet arena
-  pub inside : s < sheetSlots
+pub record AtSlot (numbered arena : List ℕ) (s : ℕ) : Type 0 where
+  pub fits : NumberedFits numbered arena
+  pub inside : s < numberedSlots
 
-module _ {sheet arena : List ℕ} {s : ℕ} (g : AtSlot sheet arena s) where
-  pub slot-in : SlotIn sheet s
+module _ {numbered arena : List ℕ} {s : ℕ} (g : AtSlot numbered arena s) where
+  pub slot-in : SlotIn numbered s
   slot-in = record { long = g .fits .long; inside = g .inside }
 
-  pub slot-fits : SlotFits sheet arena s
+  pub slot-fits : SlotFits numbered arena s
   slot-fits = g .fits .slots s (g .inside)
 
-  pub cover-fits : CoverFits sheet s
+  pub cover-fits : CoverFits numbered s
   cover-fits = record {
     guest = slot-fits .guest;
-    items = λ e. omega (arith, g .fits .tables (slotWord sheet s 5) (slot-fits .guest e));
+    items = λ e. omega (arith, g .fits .tables (slotWord numbered s 5) (slot-fits .guest e));
     children = λ n m. omega (arith, slot-fits .children n m);
   }
 
   -- a value that is no nested table has the length that its pointer covers
-  pub length-plain : (slotWord sheet s 4 ≡ kindTable → ⊥) → length (plainValue sheet arena s) ≡ slotCover sheet s
+  pub length-plain : (slotWord numbered s 4 ≡ kindTable → ⊥) → length (plainValue numbered arena s) ≡ slotCover numbered s
   length-plain m =
       ⊎-elim
-      (λ e. ap length (plain-bytes sheet arena s e) ∙ length-part arena (slotWord sheet s 5) (slotWord sheet s 6) (slot-fits .value e) ∙ sym (cover-value sheet s e))
-      (λ n. ap length (plain-children sheet arena s n) ∙ length-words (λ j. childWord sheet (slotWord sheet s 5 + j)) (slotWord sheet s 6) ∙ sym (cover-container sheet s n m))
-      (eq-or-ne (slotWord sheet s 4) kindValue)
+      (λ e. ap length (plain-bytes numbered arena s e) ∙ length-part arena (slotWord numbered s 5) (slotWord numbered s 6) (slot-fits .value e) ∙ sym (cover-value numbered s e))
+      (λ n. ap length (plain-children numbered arena s n) ∙ length-words (λ j. childWord numbered (slotWord numbered s 5 + j)) (slotWord numbered s 6) ∙ sym (cover-container numbered s n m))
+      (eq-or-ne (slotWord numbered s 4) kindValue)
 
   module _ (inner : ℕ → ℕ → List ℕ) where
-    pub value-table : (at : ℕ) → slotWord sheet s 4 ≡ kindTable → slotValue inner sheet arena s at ≡ inner (slotWord sheet s 5) at
+    pub value-table : (at : ℕ) → slotWord numbered s 4 ≡ kindTable → slotValue inner numbered arena s at ≡ inner (slotWord numbered s 5) at
     unfolding slotValue
     value-table at e = kind-table _ _ _ _ e
 
-    pub value-plain : (at : ℕ) → (slotWord sheet s 4 ≡ kindTable → ⊥) → slotValue inner sheet arena s at ≡ plainValue sheet arena s
+    pub value-plain : (at : ℕ) → (slotWord numbered s 4 ≡ kindTable → ⊥) → slotValue inner numbered arena s at ≡ plainValue numbered arena s
     unfolding slotValue
     value-plain at m =
         ⊎-elim
-        (λ e. kind-value _ _ _ _ e ∙ sym (plain-bytes sheet arena s e))
-        (λ n. kind-container _ _ _ _ n m ∙ sym (plain-children sheet arena s n))
-        (eq-or-ne (slotWord sheet s 4) kindValue)
+        (λ e. kind-value _ _ _ _ e ∙ sym (plain-bytes numbered arena s e))
+        (λ n. kind-container _ _ _ _ n m ∙ sym (plain-children numbered arena s n))
+        (eq-or-ne (slotWord numbered s 4) kindValue)
 
-    pub key-end : (at : ℕ) → at + length (slotKey sheet arena s at (slotStart sheet s at)) ≡ slotStart sheet s at
-    key-end at = length-key sheet s arena at (slotStart sheet s at) (slot-fits .fragment) (start-above sheet s at)
+    pub key-end : (at : ℕ) → at + length (slotKey numbered arena s at (slotStart numbered s at)) ≡ slotStart numbered s at
+    key-end at = length-key numbered s arena at (slotStart numbered s at) (slot-fits .fragment) (start-above numbered s at)
 
     -- an item ends where its value does
-    pub item-end : (at : ℕ) → at + length (slotItem inner sheet arena s at) ≡ slotStart sheet s at + length (slotValue inner sheet arena s (slotStart sheet s at))
+    pub item-end : (at : ℕ) → at + length (slotItem inner numbered arena s at) ≡ slotStart numbered s at + length (slotValue inner numbered arena s (slotStart numbered s at))
     unfolding slotItem
     item-end at =
-        omega (arith, length-append (slotKey sheet arena s at (slotStart sheet s at)) (slotValue inner sheet arena s (slotStart sheet s at)), key-end at)
+        omega (arith, length-append (slotKey numbered arena s at (slotStart numbered s at)) (slotValue inner numbered arena s (slotStart numbered s at)), key-end at)
 
     -- the pointer's end fits its field, also where a nested table is left out for its depth
-    stop-small : (start : ℕ) → start + length (slotValue inner sheet arena s start) ≤ 16777216 → start + slotCover sheet s < 2 ^ 32
+    stop-small : (start : ℕ) → start + length (slotValue inner numbered arena s start) ≤ 16777216 → start + slotCover numbered s < 2 ^ 32
     stop-small start h =
         ⊎-elim
-        (λ e. omega (arith, cover-table sheet s e, cover-fits .items e))
+        (λ e. omega (arith, cover-table numbered s e, cover-fits .items e))
         (λ m. omega (arith, ap length (value-plain start m), length-plain m))
-        (eq-or-ne (slotWord sheet s 4) kindTable)
+        (eq-or-ne (slotWord numbered s 4) kindTable)
 
-    pub record-fits : (at : ℕ) → at + length (slotItem inner sheet arena s at) ≤ 16777216 → RecordFits sheet s at (slotStart sheet s at)
+    pub record-fits : (at : ℕ) → at + length (slotItem inner numbered arena s at) ≤ 16777216 → RecordFits numbered s at (slotStart numbered s at)
     record-fits at h = record {
       hash = slot-fits .hash;
       parent = slot-fits .parent;
-      key = omega (arith, item-end at, start-above sheet s at);
+      key = omega (arith, item-end at, start-above numbered s at);
       size = slot-fits .size;
       kind = slot-fits .kind;
-      stop = stop-small (slotStart sheet s at) (omega (arith, item-end at));
+      stop = stop-small (slotStart numbered s at) (omega (arith, item-end at));
     }
 
     -- record, key and value laid one after the other
-    pub item-laid : (l : List ℕ) (to at : ℕ) {m n o v : List ℕ} {start end : ℕ} → start ≡ slotStart sheet s at → m ≡ putAt l to (slotRecord sheet s at start)
-        → n ≡ putAt m at (slotKey sheet arena s at start) → v ≡ slotValue inner sheet arena s start → Laid n o start v end
-        → Laid (putAt l to (slotRecord sheet s at (slotStart sheet s at))) o at (slotItem inner sheet arena s at) end
+    pub item-laid : (l : List ℕ) (to at : ℕ) {m n o v : List ℕ} {start end : ℕ} → start ≡ slotStart numbered s at → m ≡ putAt l to (slotRecord numbered s at start)
+        → n ≡ putAt m at (slotKey numbered arena s at start) → v ≡ slotValue inner numbered arena s start → Laid n o start v end
+        → Laid (putAt l to (slotRecord numbered s at (slotStart numbered s at))) o at (slotItem inner numbered arena s at) end
     unfolding slotItem
     item-laid l to at {m} {n} {o} {v} {start} {end} e p q f r =
-        let from = slotStart sheet s at in
-        let p′ : m ≡ putAt l to (slotRecord sheet s at from) = rw (← e) p in
-        let key : Laid (putAt l to (slotRecord sheet s at from)) n at (slotKey sheet arena s at from) from = record {
+        let from = slotStart numbered s at in
+        let p′ : m ≡ putAt l to (slotRecord numbered s at from) = rw (← e) p in
+        let key : Laid (putAt l to (slotRecord numbered s at from)) n at (slotKey numbered arena s at from) from = record {
           end-is = sym (key-end at);
           image-is = rw (← p′, ← e) q;
         } in
-        let value : Laid n o from (slotValue inner sheet arena s from) end = rw (← e, ← f) r in
+        let value : Laid n o from (slotValue inner numbered arena s from) end = rw (← e, ← f) r in
         laid-join key value
 
     -- ---- its value and its end by the words that were read
 
-    pub guest-is : {guest start : ℕ} → slotWord sheet s 4 ≡ kindTable → guest ≡ slotWord sheet s 5 → inner guest start ≡ slotValue inner sheet arena s start
+    pub guest-is : {guest start : ℕ} → slotWord numbered s 4 ≡ kindTable → guest ≡ slotWord numbered s 5 → inner guest start ≡ slotValue inner numbered arena s start
     guest-is {guest} {start} k g = rw g (sym (value-table start k))
 
-    pub table-item : (at : ℕ) {guest start : ℕ} → slotWord sheet s 4 ≡ kindTable → guest ≡ slotWord sheet s 5 → start ≡ slotStart sheet s at
-        → at + length (slotItem inner sheet arena s at) ≡ start + length (inner guest start)
+    pub table-item : (at : ℕ) {guest start : ℕ} → slotWord numbered s 4 ≡ kindTable → guest ≡ slotWord numbered s 5 → start ≡ slotStart numbered s at
+        → at + length (slotItem inner numbered arena s at) ≡ start + length (inner guest start)
     table-item at {guest} {start} k g e = item-end at ∙ rw (guest-is {guest = guest} {start = start} k g, e)
 
-    pub plain-item : (at : ℕ) {start : ℕ} → (slotWord sheet s 4 ≡ kindTable → ⊥) → start ≡ slotStart sheet s at
-        → at + length (slotItem inner sheet arena s at) ≡ start + slotCover sheet s
-    plain-item at m e = omega (arith, e, item-end at, ap length (value-plain (slotStart sheet s at) m), length-plain m)
+    pub plain-item : (at : ℕ) {start : ℕ} → (slotWord numbered s 4 ≡ kindTable → ⊥) → start ≡ slotStart numbered s at
+        → at + length (slotItem inner numbered arena s at) ≡ start + slotCover numbered s
+    plain-item at m e = omega (arith, e, item-end at, ap length (value-plain (slotStart numbered s at) m), length-plain m)

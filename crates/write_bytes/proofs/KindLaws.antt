@@ -6,7 +6,7 @@ use borrow.Author.Tests.{eq-eqb, ne-eqb}
 use lib.Dec.{eqb}
 use Rattle.words.specs.Choice.{pick}
 use Rattle.words.proofs.ChoiceLaws.{pick-same}
-use Rattle.write_bytes.specs.Sheet.{kindValue, kindTable, byKind}
+use Rattle.write_bytes.specs.Numbered.{kindValue, kindTable, byKind}
 
 module _ {A : Type 0} (kind : ℕ) (value table container : A) where
   pub kind-value : kind ≡ kindValue → byKind kind value table container ≡ value

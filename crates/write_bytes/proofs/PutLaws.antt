@@ -13,7 +13,7 @@ use Rattle.words.proofs.FieldLaws.{length-spelled}
 use Rattle.image.specs.Laid.{Laid}
 use Rattle.image.specs.Plan.{word, wordsOf}
 use Rattle.image.proofs.PlanLaws.{length-words, words-more, fourth-word}
-use Rattle.write_bytes.specs.Sheet.{kindValue, slotWord, childWord}
+use Rattle.write_bytes.specs.Numbered.{kindValue, slotWord, childWord}
 use Rattle.write_bytes.specs.Slot.{headBytes, slotCover, slotRecord, slotKey, plainValue}
 
 -- a store right behind another is one store of both
@@ -59,18 +59,18 @@ put-three l to a b c {m} {n} {o} p q r =
     put-then l to (word a) (word b ++ word c) (ap (λ (k : ℕ). to + k) (sym (length-spelled 4 a))) p two
 
 -- both halves of a record
-pub put-record : (sheet l : List ℕ) (s to at start : ℕ) {hash parent size kind stop : ℕ} {m n : List ℕ}
-    → hash ≡ slotWord sheet s 0 → parent ≡ slotWord sheet s 1 → size ≡ slotWord sheet s 3 → kind ≡ slotWord sheet s 4 → stop ≡ start + slotCover sheet s
-    → slotWord sheet s 3 < 65536 → slotWord sheet s 4 < 256
+pub put-record : (numbered l : List ℕ) (s to at start : ℕ) {hash parent size kind stop : ℕ} {m n : List ℕ}
+    → hash ≡ slotWord numbered s 0 → parent ≡ slotWord numbered s 1 → size ≡ slotWord numbered s 3 → kind ≡ slotWord numbered s 4 → stop ≡ start + slotCover numbered s
+    → slotWord numbered s 3 < 65536 → slotWord numbered s 4 < 256
     → m ≡ putAt l to (word hash ++ (word parent ++ word at)) → n ≡ putAt m (to + 12) (word (size + 65536 * kind) ++ (word start ++ word stop))
-    → n ≡ putAt l to (slotRecord sheet s at start)
+    → n ≡ putAt l to (slotRecord numbered s at start)
 unfolding slotRecord
-put-record sheet l s to at start {hash} {parent} {size} {kind} {stop} {m} {n} eh ep es ek et small few p q =
-    let front = word (slotWord sheet s 0) ++ (word (slotWord sheet s 1) ++ word at) in
-    let back = (spelled 2 (slotWord sheet s 3) ++ (slotWord sheet s 4 ∷ 0 ∷ [])) ++ (word start ++ word (start + slotCover sheet s)) in
+put-record numbered l s to at start {hash} {parent} {size} {kind} {stop} {m} {n} eh ep es ek et small few p q =
+    let front = word (slotWord numbered s 0) ++ (word (slotWord numbered s 1) ++ word at) in
+    let back = (spelled 2 (slotWord numbered s 3) ++ (slotWord numbered s 4 ∷ 0 ∷ [])) ++ (word start ++ word (start + slotCover numbered s)) in
     let p′ : m ≡ putAt l to front = rw (← eh, ← ep) p in
-    let q′ : n ≡ putAt m (to + 12) back = rw (← fourth-word (slotWord sheet s 3) (slotWord sheet s 4) small few, ← es, ← ek, ← et) q in
-    put-then l to front back (ap (λ (k : ℕ). to + k) (sym (length-three (slotWord sheet s 0) (slotWord sheet s 1) at))) p′ q′
+    let q′ : n ≡ putAt m (to + 12) back = rw (← fourth-word (slotWord numbered s 3) (slotWord numbered s 4) small few, ← es, ← ek, ← et) q in
+    put-then l to front back (ap (λ (k : ℕ). to + k) (sym (length-three (slotWord numbered s 0) (slotWord numbered s 1) at))) p′ q′
     ∙ ap (putAt l to) (simp append-assoc)
 
 -- ---- a fragment
@@ -79,39 +79,39 @@ pub part-laid : (l arena : List ℕ) (start size at : ℕ) {m : List ℕ} → st
     → Laid l m at (part arena start size) (at + size)
 part-laid l arena start size at fits e = record { end-is = ap (λ (n : ℕ). at + n) (sym (length-part arena start size fits)); image-is = e }
 
-pub part-end : (sheet arena l : List ℕ) (s at : ℕ) {from size end : ℕ} {m : List ℕ} → from ≡ slotWord sheet s 2 → size ≡ slotWord sheet s 3
-    → slotWord sheet s 2 + slotWord sheet s 3 ≤ length arena → Laid l m at (part arena from size) end → end ≡ at + slotWord sheet s 3
-part-end sheet arena l s at {from} {size} {end} ef es fits laid =
-    let e : end ≡ at + length (part arena (slotWord sheet s 2) (slotWord sheet s 3)) = rw (← ef, ← es) (laid .end-is) in
-    e ∙ ap (λ (n : ℕ). at + n) (length-part arena (slotWord sheet s 2) (slotWord sheet s 3) fits)
+pub part-end : (numbered arena l : List ℕ) (s at : ℕ) {from size end : ℕ} {m : List ℕ} → from ≡ slotWord numbered s 2 → size ≡ slotWord numbered s 3
+    → slotWord numbered s 2 + slotWord numbered s 3 ≤ length arena → Laid l m at (part arena from size) end → end ≡ at + slotWord numbered s 3
+part-end numbered arena l s at {from} {size} {end} ef es fits laid =
+    let e : end ≡ at + length (part arena (slotWord numbered s 2) (slotWord numbered s 3)) = rw (← ef, ← es) (laid .end-is) in
+    e ∙ ap (λ (n : ℕ). at + n) (length-part arena (slotWord numbered s 2) (slotWord numbered s 3) fits)
 
 -- and the zeros behind it
-pub put-key : (sheet arena l : List ℕ) (s at start : ℕ) {from size end : ℕ} {m n : List ℕ} → from ≡ slotWord sheet s 2 → size ≡ slotWord sheet s 3
-    → slotWord sheet s 2 + slotWord sheet s 3 ≤ length arena → Laid l m at (part arena from size) end → n ≡ putAt m end (zeros (start - end))
-    → n ≡ putAt l at (slotKey sheet arena s at start)
+pub put-key : (numbered arena l : List ℕ) (s at start : ℕ) {from size end : ℕ} {m n : List ℕ} → from ≡ slotWord numbered s 2 → size ≡ slotWord numbered s 3
+    → slotWord numbered s 2 + slotWord numbered s 3 ≤ length arena → Laid l m at (part arena from size) end → n ≡ putAt m end (zeros (start - end))
+    → n ≡ putAt l at (slotKey numbered arena s at start)
 unfolding slotKey
-put-key sheet arena l s at start {from} {size} {end} {m} {n} ef es fits laid q =
-    let bytes = part arena (slotWord sheet s 2) (slotWord sheet s 3) in
+put-key numbered arena l s at start {from} {size} {end} {m} {n} ef es fits laid q =
+    let bytes = part arena (slotWord numbered s 2) (slotWord numbered s 3) in
     let p : m ≡ putAt l at bytes = rw (← ef, ← es) (laid .image-is) in
     let e : end ≡ at + length bytes = rw (← ef, ← es) (laid .end-is) in
-    let f : end ≡ at + slotWord sheet s 3 = part-end sheet arena l s at ef es fits laid in
-    put-then l at bytes (zeros (start - (at + slotWord sheet s 3))) e p (q ∙ ap (λ (k : ℕ). putAt m end (zeros (start - k))) f)
+    let f : end ≡ at + slotWord numbered s 3 = part-end numbered arena l s at ef es fits laid in
+    put-then l at bytes (zeros (start - (at + slotWord numbered s 3))) e p (q ∙ ap (λ (k : ℕ). putAt m end (zeros (start - k))) f)
 
 -- ---- a value that is no nested table
 
-module _ (sheet arena : List ℕ) (s : ℕ) where
-  pub plain-bytes : slotWord sheet s 4 ≡ kindValue → plainValue sheet arena s ≡ part arena (slotWord sheet s 5) (slotWord sheet s 6)
+module _ (numbered arena : List ℕ) (s : ℕ) where
+  pub plain-bytes : slotWord numbered s 4 ≡ kindValue → plainValue numbered arena s ≡ part arena (slotWord numbered s 5) (slotWord numbered s 6)
   unfolding plainValue pick
-  plain-bytes e = rw (eq-eqb (slotWord sheet s 4) 118 e)
+  plain-bytes e = rw (eq-eqb (slotWord numbered s 4) 118 e)
 
-  pub plain-children : (slotWord sheet s 4 ≡ kindValue → ⊥) → plainValue sheet arena s ≡ wordsOf (λ j. childWord sheet (slotWord sheet s 5 + j)) (slotWord sheet s 6)
+  pub plain-children : (slotWord numbered s 4 ≡ kindValue → ⊥) → plainValue numbered arena s ≡ wordsOf (λ j. childWord numbered (slotWord numbered s 5 + j)) (slotWord numbered s 6)
   unfolding plainValue pick
-  plain-children n = rw (ne-eqb (slotWord sheet s 4) 118 n)
+  plain-children n = rw (ne-eqb (slotWord numbered s 4) 118 n)
 
-  pub bytes-laid : {l m : List ℕ} {at start size end : ℕ} → slotWord sheet s 4 ≡ kindValue → start ≡ slotWord sheet s 5 → size ≡ slotWord sheet s 6
-      → Laid l m at (part arena start size) end → Laid l m at (plainValue sheet arena s) end
+  pub bytes-laid : {l m : List ℕ} {at start size end : ℕ} → slotWord numbered s 4 ≡ kindValue → start ≡ slotWord numbered s 5 → size ≡ slotWord numbered s 6
+      → Laid l m at (part arena start size) end → Laid l m at (plainValue numbered arena s) end
   bytes-laid k e f p = rw (plain-bytes k, ← e, ← f) p
 
-  pub children-laid : {l m : List ℕ} {at start size end : ℕ} → (slotWord sheet s 4 ≡ kindValue → ⊥) → start ≡ slotWord sheet s 5 → size ≡ slotWord sheet s 6
-      → Laid l m at (wordsOf (λ j. childWord sheet (start + j)) size) end → Laid l m at (plainValue sheet arena s) end
+  pub children-laid : {l m : List ℕ} {at start size end : ℕ} → (slotWord numbered s 4 ≡ kindValue → ⊥) → start ≡ slotWord numbered s 5 → size ≡ slotWord numbered s 6
+      → Laid l m at (wordsOf (λ j. childWord numbered (start + j)) size) end → Laid l m at (plainValue numbered arena s) end
   children-laid k e f p = rw (plain-children k) (rw (← e, ← f) p)

@@ -9,44 +9,44 @@ use Rattle.words.specs.Align.{aligned}
 use Rattle.words.proofs.StoreLaws.{length-zeros, length-part}
 use Rattle.image.specs.Plan.{chunkSize}
 use Rattle.image.proofs.PlanLaws.{aligned-above}
-use Rattle.write_bytes.specs.Sheet.{kindValue, kindTable, slotCount, slotWord, byKind}
+use Rattle.write_bytes.specs.Numbered.{kindValue, kindTable, slotCount, slotWord, byKind}
 use Rattle.write_bytes.specs.Slot.{slotStart, slotCover, slotKey}
 use Rattle.write_bytes.proofs.KindLaws.{kind-value, kind-table, kind-container}
 
-module _ (sheet : List ℕ) (s : ℕ) where
+module _ (numbered : List ℕ) (s : ℕ) where
   -- ---- what its pointer covers, kind by kind
 
-  pub cover-value : slotWord sheet s 4 ≡ kindValue → slotCover sheet s ≡ slotWord sheet s 6
+  pub cover-value : slotWord numbered s 4 ≡ kindValue → slotCover numbered s ≡ slotWord numbered s 6
   unfolding slotCover
   cover-value e = kind-value _ _ _ _ e
 
-  pub cover-table : slotWord sheet s 4 ≡ kindTable → slotCover sheet s ≡ 8 + 28 * slotCount sheet (slotWord sheet s 5)
+  pub cover-table : slotWord numbered s 4 ≡ kindTable → slotCover numbered s ≡ 8 + 28 * slotCount numbered (slotWord numbered s 5)
   unfolding slotCover chunkSize
   cover-table e = kind-table _ _ _ _ e
 
-  pub cover-container : (slotWord sheet s 4 ≡ kindValue → ⊥) → (slotWord sheet s 4 ≡ kindTable → ⊥) → slotCover sheet s ≡ 4 * slotWord sheet s 6
+  pub cover-container : (slotWord numbered s 4 ≡ kindValue → ⊥) → (slotWord numbered s 4 ≡ kindTable → ⊥) → slotCover numbered s ≡ 4 * slotWord numbered s 6
   unfolding slotCover
   cover-container n m = kind-container _ _ _ _ n m
 
   -- ---- its fragment and the zeros behind it
 
-  pub start-above : (at : ℕ) → at + slotWord sheet s 3 ≤ slotStart sheet s at
+  pub start-above : (at : ℕ) → at + slotWord numbered s 3 ≤ slotStart numbered s at
   unfolding slotStart
-  start-above at = aligned-above (at + slotWord sheet s 3) (byKind (slotWord sheet s 4) 8 4 4)
+  start-above at = aligned-above (at + slotWord numbered s 3) (byKind (slotWord numbered s 4) 8 4 4)
 
-  pub start-is : (at : ℕ) {size r : ℕ} → size ≡ slotWord sheet s 3 → r ≡ aligned (at + size) (byKind (slotWord sheet s 4) 8 4 4) → r ≡ slotStart sheet s at
+  pub start-is : (at : ℕ) {size r : ℕ} → size ≡ slotWord numbered s 3 → r ≡ aligned (at + size) (byKind (slotWord numbered s 4) 8 4 4) → r ≡ slotStart numbered s at
   unfolding slotStart
-  start-is at e p = p ∙ ap (λ (n : ℕ). aligned (at + n) (byKind (slotWord sheet s 4) 8 4 4)) e
+  start-is at e p = p ∙ ap (λ (n : ℕ). aligned (at + n) (byKind (slotWord numbered s 4) 8 4 4)) e
 
   -- they end where the value starts
-  pub length-key : (arena : List ℕ) (at start : ℕ) → slotWord sheet s 2 + slotWord sheet s 3 ≤ length arena → at + slotWord sheet s 3 ≤ start
-      → at + length (slotKey sheet arena s at start) ≡ start
+  pub length-key : (arena : List ℕ) (at start : ℕ) → slotWord numbered s 2 + slotWord numbered s 3 ≤ length arena → at + slotWord numbered s 3 ≤ start
+      → at + length (slotKey numbered arena s at start) ≡ start
   unfolding slotKey
   length-key arena at start fits above =
-      let pad = start - (at + slotWord sheet s 3) in
+      let pad = start - (at + slotWord numbered s 3) in
       omega (
         arith,
-        length-append (part arena (slotWord sheet s 2) (slotWord sheet s 3)) (zeros pad),
-        length-part arena (slotWord sheet s 2) (slotWord sheet s 3) fits,
+        length-append (part arena (slotWord numbered s 2) (slotWord numbered s 3)) (zeros pad),
+        length-part arena (slotWord numbered s 2) (slotWord numbered s 3) fits,
         length-zeros pad,
       )

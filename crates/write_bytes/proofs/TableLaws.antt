@@ -10,20 +10,20 @@ use Rattle.words.proofs.StoreLaws.{put-none, put-comm, length-part}
 use Rattle.image.specs.Plan.{Plan, wordsOf, chunkSize, valueStart, itemBytes, payload, place, recordBytes, records, planBytes}
 use Rattle.image.specs.Laid.{Laid}
 use Rattle.image.proofs.LaidLaws.{put-both}
-use Rattle.image.proofs.PlanLaws.{length-words, length-record, length-records, length-item, place-zero, place-next, place-rises, payload-more, records-more, plan-end}
-use Rattle.write_bytes.specs.Sheet.{sheetTables, sheetSlots, firstSlot, slotCount, slotWord, slotCovers, sheetPlan, sheetBytes, SheetFits}
+use Rattle.image.proofs.PlanLaws.{length-words, length-record, length-records, length-item, offset-zero, offset-next, offset-rises, payload-more, records-more, plan-end}
+use Rattle.write_bytes.specs.Numbered.{numberedTables, numberedSlots, firstSlot, slotCount, slotWord, slotCovers, numberedPlan, numberedBytes, NumberedFits}
 use Rattle.write_bytes.specs.Slot.{headBytes, slotStart, slotCover, slotRecord, slotKey, slotItem}
 use Rattle.write_bytes.proofs.PutLaws.{put-then, length-head}
 
 -- ---- a plan, and what a loop over its items has laid
 
-place-is : (p : Plan) (at k : ℕ) → place p at k ≡ at + length (payload p at k)
+offset-is : (p : Plan) (at k : ℕ) → place p at k ≡ at + length (payload p at k)
 unfolding place
-place-is p at k = refl
+offset-is p at k = refl
 
 -- where the next item starts
-pub place-more : (p : Plan) (at k : ℕ) → place p at (k + 1) ≡ place p at k + length (itemBytes p k (place p at k))
-place-more p at k = rw add-one (place-next p at k ∙ sym (length-item p k (place p at k)))
+pub offset-more : (p : Plan) (at k : ℕ) → place p at (k + 1) ≡ place p at k + length (itemBytes p k (place p at k))
+offset-more p at k = rw add-one (offset-next p at k ∙ sym (length-item p k (place p at k)))
 
 regroup : (p : Plan) (at : ℕ)
     → ((headBytes (p .count) ++ wordsOf (p .first) (p .count)) ++ records p (at + chunkSize (p .count)) (p .count)) ++ payload p (at + chunkSize (p .count)) (p .count)
@@ -40,7 +40,7 @@ module _ (p : Plan) where
   pub half-none : (front : List ℕ) (first base end : ℕ) → end ≡ base → Half p front front first base 0 end
   unfolding records payload
   half-none front first base end e = record {
-    end-is = e ∙ sym (place-zero p base);
+    end-is = e ∙ sym (offset-zero p base);
     image-is = sym (put-none (putAt front first []) base ∙ put-none front first);
   }
 
@@ -56,13 +56,13 @@ module _ (p : Plan) where
       let er1 : rec ≡ rec1 = er ∙ rw e in
       let ei1 : item ≡ itemBytes p k here = ei ∙ rw e in
       let mid : after ≡ putAt (putAt image (first + 24 * k) rec1) end (itemBytes p k here) = rw (← er1, ← ei1) (laid .image-is) in
-      let base-below : base ≤ end = omega (arith, e, place-rises p base 0 k (omega arith), place-zero p base) in
+      let base-below : base ≤ end = omega (arith, e, offset-rises p base 0 k (omega arith), offset-zero p base) in
       let swapped : after ≡ putAt (putAt image end (itemBytes p k here)) (first + 24 * k) rec1 =
       mid ∙ put-comm image (first + 24 * k) rec1 end (itemBytes p k here) (omega (arith, long)) in
       record {
-        end-is = laid .end-is ∙ rw (ei1, e) (sym (place-more p base k));
+        end-is = laid .end-is ∙ rw (ei1, e) (sym (offset-more p base k));
         image-is = rw (records-more p base k, payload-more p base k)
-            (put-both front first base (records p base k) (payload p base k) rec1 (itemBytes p k here) (h .image-is) (e ∙ place-is p base k) refl q (omega (arith, long)) swapped);
+            (put-both front first base (records p base k) (payload p base k) rec1 (itemBytes p k here) (h .image-is) (e ∙ offset-is p base k) refl q (omega (arith, long)) swapped);
       }
 
   -- front, records, fragments and values are the table
@@ -83,41 +83,41 @@ module _ (p : Plan) where
 
 -- ---- a sheet's table as a plan, slot by slot
 
-module _ (inner : ℕ → ℕ → List ℕ) (sheet arena : List ℕ) (t : ℕ) where
-  pub plan-count : sheetPlan inner sheet arena t .count ≡ slotCount sheet t
-  unfolding sheetPlan
+module _ (inner : ℕ → ℕ → List ℕ) (numbered arena : List ℕ) (t : ℕ) where
+  pub plan-count : numberedPlan inner numbered arena t .count ≡ slotCount numbered t
+  unfolding numberedPlan
   plan-count = refl
 
-  pub plan-first : (n : ℕ) → wordsOf (sheetPlan inner sheet arena t .first) n ≡ wordsOf (λ b. slotWord sheet (firstSlot sheet t + b) 7) n
-  unfolding sheetPlan
+  pub plan-first : (n : ℕ) → wordsOf (numberedPlan inner numbered arena t .first) n ≡ wordsOf (λ b. slotWord numbered (firstSlot numbered t + b) 7) n
+  unfolding numberedPlan
   plan-first n = refl
 
-  module _ (fits : SheetFits sheet arena) (known : t < sheetTables) (k : ℕ) (less : k < slotCount sheet t) where
-    pub slot-below : firstSlot sheet t + k < sheetSlots
+  module _ (fits : NumberedFits numbered arena) (known : t < numberedTables) (k : ℕ) (less : k < slotCount numbered t) where
+    pub slot-below : firstSlot numbered t + k < numberedSlots
     slot-below = omega (arith, fits .tables t known)
 
-    fragment-size : length (part arena (slotWord sheet (firstSlot sheet t + k) 2) (slotWord sheet (firstSlot sheet t + k) 3)) ≡ slotWord sheet (firstSlot sheet t + k) 3
-    fragment-size = length-part arena (slotWord sheet (firstSlot sheet t + k) 2) (slotWord sheet (firstSlot sheet t + k) 3) (fits .slots (firstSlot sheet t + k) slot-below .fragment)
+    fragment-size : length (part arena (slotWord numbered (firstSlot numbered t + k) 2) (slotWord numbered (firstSlot numbered t + k) 3)) ≡ slotWord numbered (firstSlot numbered t + k) 3
+    fragment-size = length-part arena (slotWord numbered (firstSlot numbered t + k) 2) (slotWord numbered (firstSlot numbered t + k) 3) (fits .slots (firstSlot numbered t + k) slot-below .fragment)
 
-    pub plan-start : (at : ℕ) → valueStart (sheetPlan inner sheet arena t) k at ≡ slotStart sheet (firstSlot sheet t + k) at
-    unfolding sheetPlan valueStart slotStart
+    pub plan-start : (at : ℕ) → valueStart (numberedPlan inner numbered arena t) k at ≡ slotStart numbered (firstSlot numbered t + k) at
+    unfolding numberedPlan valueStart slotStart
     plan-start at = rw fragment-size
 
-    pub plan-item : (at : ℕ) → itemBytes (sheetPlan inner sheet arena t) k at ≡ slotItem inner sheet arena (firstSlot sheet t + k) at
-    unfolding sheetPlan itemBytes slotItem slotKey
+    pub plan-item : (at : ℕ) → itemBytes (numberedPlan inner numbered arena t) k at ≡ slotItem inner numbered arena (firstSlot numbered t + k) at
+    unfolding numberedPlan itemBytes slotItem slotKey
     plan-item at = rw (plan-start at, fragment-size)
 
-    pub plan-record : (at start : ℕ) → recordBytes (sheetPlan inner sheet arena t) k at start ≡ slotRecord sheet (firstSlot sheet t + k) at start
-    unfolding sheetPlan recordBytes slotRecord slotCovers slotCover
+    pub plan-record : (at start : ℕ) → recordBytes (numberedPlan inner numbered arena t) k at start ≡ slotRecord numbered (firstSlot numbered t + k) at start
+    unfolding numberedPlan recordBytes slotRecord slotCovers slotCover
     plan-record at start = rw fragment-size
 
 -- ---- a table by the depth left
 
-module _ (sheet arena : List ℕ) (t at d : ℕ) where
-  pub table-none : d ≡ 0 → sheetBytes sheet arena d t at ≡ []
-  unfolding sheetBytes
+module _ (numbered arena : List ℕ) (t at d : ℕ) where
+  pub table-none : d ≡ 0 → numberedBytes numbered arena d t at ≡ []
+  unfolding numberedBytes
   table-none e = rw e
 
-  pub table-plan : (d ≡ 0 → ⊥) → sheetBytes sheet arena d t at ≡ planBytes (sheetPlan (sheetBytes sheet arena (d - 1)) sheet arena t) at
-  unfolding sheetBytes
-  table-plan n = let e : d ≡ suc (d - 1) = omega arith in ap (λ (m : ℕ). sheetBytes sheet arena m t at) e
+  pub table-plan : (d ≡ 0 → ⊥) → numberedBytes numbered arena d t at ≡ planBytes (numberedPlan (numberedBytes numbered arena (d - 1)) numbered arena t) at
+  unfolding numberedBytes
+  table-plan n = let e : d ≡ suc (d - 1) = omega arith in ap (λ (m : ℕ). numberedBytes numbered arena m t at) e

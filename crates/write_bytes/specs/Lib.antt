@@ -1,3 +1,3 @@
-pub mod Sheet
+pub mod Numbered
 pub mod Slot
 pub mod Measure

@@ -9,59 +9,59 @@ use Rattle.words.specs.Store.{part, zeros}
 use Rattle.words.specs.Field.{spelled}
 use Rattle.words.specs.Align.{aligned}
 use Rattle.image.specs.Plan.{word, wordsOf, chunkSize}
-use Rattle.write_bytes.specs.Sheet.{sheetTables, sheetSlots, sheetSize, kindValue, kindTable, slotCount, slotWord, childWord, byKind, slotValue}
+use Rattle.write_bytes.specs.Numbered.{numberedTables, numberedSlots, numberedSize, kindValue, kindTable, slotCount, slotWord, childWord, byKind, slotValue}
 
 -- a table's first word and its count of buckets
 unfoldable pub headBytes : ℕ → List ℕ
 headBytes count = word 0x28000000 ++ word count
 
-module _ (sheet : List ℕ) where
+module _ (numbered : List ℕ) where
   -- where the value of slot s starts, if its key starts at `at`
   unfoldable pub slotStart : ℕ → ℕ → ℕ
-  slotStart s at = aligned (at + slotWord sheet s 3) (byKind (slotWord sheet s 4) 8 4 4)
+  slotStart s at = aligned (at + slotWord numbered s 3) (byKind (slotWord numbered s 4) 8 4 4)
 
   -- the length that its value pointer covers
   unfoldable pub slotCover : ℕ → ℕ
-  slotCover s = byKind (slotWord sheet s 4) (slotWord sheet s 6) (chunkSize (slotCount sheet (slotWord sheet s 5))) (4 * slotWord sheet s 6)
+  slotCover s = byKind (slotWord numbered s 4) (slotWord numbered s 6) (chunkSize (slotCount numbered (slotWord numbered s 5))) (4 * slotWord numbered s 6)
 
   -- its record, the key at `at`, the value at `start`
   unfoldable pub slotRecord : ℕ → ℕ → ℕ → List ℕ
   slotRecord s at start =
-      word (slotWord sheet s 0) ++ (word (slotWord sheet s 1) ++ (word at
-      ++ ((spelled 2 (slotWord sheet s 3) ++ (slotWord sheet s 4 ∷ 0 ∷ [])) ++ (word start ++ word (start + slotCover s)))))
+      word (slotWord numbered s 0) ++ (word (slotWord numbered s 1) ++ (word at
+      ++ ((spelled 2 (slotWord numbered s 3) ++ (slotWord numbered s 4 ∷ 0 ∷ [])) ++ (word start ++ word (start + slotCover s)))))
 
 -- its fragment at `at`, and zeros up to the value at `start`
 unfoldable pub slotKey : List ℕ → List ℕ → ℕ → ℕ → ℕ → List ℕ
-slotKey sheet arena s at start = part arena (slotWord sheet s 2) (slotWord sheet s 3) ++ zeros (start - (at + slotWord sheet s 3))
+slotKey numbered arena s at start = part arena (slotWord numbered s 2) (slotWord numbered s 3) ++ zeros (start - (at + slotWord numbered s 3))
 
 -- its value, where that is no nested table: bytes, or the children's numbers
 unfoldable pub plainValue : List ℕ → List ℕ → ℕ → List ℕ
-plainValue sheet arena s =
-    pick (eqb (slotWord sheet s 4) kindValue) (part arena (slotWord sheet s 5) (slotWord sheet s 6))
-    (wordsOf (λ j. childWord sheet (slotWord sheet s 5 + j)) (slotWord sheet s 6))
+plainValue numbered arena s =
+    pick (eqb (slotWord numbered s 4) kindValue) (part arena (slotWord numbered s 5) (slotWord numbered s 6))
+    (wordsOf (λ j. childWord numbered (slotWord numbered s 5 + j)) (slotWord numbered s 6))
 
 -- its fragment, zeros and value
 unfoldable pub slotItem : (ℕ → ℕ → List ℕ) → List ℕ → List ℕ → ℕ → ℕ → List ℕ
-slotItem inner sheet arena s at = slotKey sheet arena s at (slotStart sheet s at) ++ slotValue inner sheet arena s (slotStart sheet s at)
+slotItem inner numbered arena s at = slotKey numbered arena s at (slotStart numbered s at) ++ slotValue inner numbered arena s (slotStart numbered s at)
 
 -- ---- what the functions over one slot ask
 
 -- it is a slot of a whole sheet
-pub record SlotIn (sheet : List ℕ) (s : ℕ) : Type 0 where
-  pub long : length sheet ≡ sheetSize
-  pub inside : s < sheetSlots
+pub record SlotIn (numbered : List ℕ) (s : ℕ) : Type 0 where
+  pub long : length numbered ≡ numberedSize
+  pub inside : s < numberedSlots
 
 -- its guest is a table, and what its pointer covers can be counted
-pub record CoverFits (sheet : List ℕ) (s : ℕ) : Type 0 where
-  pub guest : slotWord sheet s 4 ≡ kindTable → slotWord sheet s 5 < sheetTables
-  pub items : slotWord sheet s 4 ≡ kindTable → slotCount sheet (slotWord sheet s 5) ≤ sheetSlots
-  pub children : (slotWord sheet s 4 ≡ kindValue → ⊥) → (slotWord sheet s 4 ≡ kindTable → ⊥) → slotWord sheet s 6 ≤ sheetSlots
+pub record CoverFits (numbered : List ℕ) (s : ℕ) : Type 0 where
+  pub guest : slotWord numbered s 4 ≡ kindTable → slotWord numbered s 5 < numberedTables
+  pub items : slotWord numbered s 4 ≡ kindTable → slotCount numbered (slotWord numbered s 5) ≤ numberedSlots
+  pub children : (slotWord numbered s 4 ≡ kindValue → ⊥) → (slotWord numbered s 4 ≡ kindTable → ⊥) → slotWord numbered s 6 ≤ numberedSlots
 
 -- the numbers of its record fit their fields
-pub record RecordFits (sheet : List ℕ) (s at start : ℕ) : Type 0 where
-  pub hash : slotWord sheet s 0 < 2 ^ 32
-  pub parent : slotWord sheet s 1 < 2 ^ 32
+pub record RecordFits (numbered : List ℕ) (s at start : ℕ) : Type 0 where
+  pub hash : slotWord numbered s 0 < 2 ^ 32
+  pub parent : slotWord numbered s 1 < 2 ^ 32
   pub key : at < 2 ^ 32
-  pub size : slotWord sheet s 3 < 65536
-  pub kind : slotWord sheet s 4 < 256
-  pub stop : start + slotCover sheet s < 2 ^ 32
+  pub size : slotWord numbered s 3 < 65536
+  pub kind : slotWord numbered s 4 < 256
+  pub stop : start + slotCover numbered s < 2 ^ 32

@@ -1,7 +1,7 @@
 // A sheet measured, and laid as an image.
 pub mod measure;
+pub mod numbered;
 pub mod put;
-pub mod sheet;
 pub mod slot;
 pub mod table;
 pub mod whole;

@@ -1,6 +1,6 @@
 // Bytes laid into an image: a table's head and bucket words, a record, a fragment with its zeros, a value.
-use crate::sheet::child_word;
-use crate::sheet::slot_word;
+use crate::numbered::child_word;
+use crate::numbered::slot_word;
 use crate::slot::VALUE;
 use crate::slot::cover;
 use words::field::put_word;
@@ -13,7 +13,7 @@ ghost use lib.ListN.{length};
 ghost use Rattle.words.specs.Store.{part, putAt};
 ghost use Rattle.image.specs.Laid.{Laid};
 ghost use Rattle.image.specs.Plan.{word, wordsOf};
-ghost use Rattle.write_bytes.specs.Sheet.{slotWord, childWord, sheetSlots, sheetSize, kindTable, SheetFits};
+ghost use Rattle.write_bytes.specs.Numbered.{slotWord, childWord, numberedSlots, numberedSize, kindTable, NumberedFits};
 ghost use Rattle.write_bytes.specs.Slot.{headBytes, slotRecord, slotKey, slotCover, plainValue, SlotIn, CoverFits, RecordFits};
 
 // The first word of every table: a shift of 5, and no bloom words.
@@ -29,29 +29,29 @@ fn lay_head(image: &mut [u8], count: usize, at: usize)
 }
 
 // Lays the bucket words of a table, whose slots begin with `first`.
-fn lay_buckets(sheet: &[usize], image: &mut [u8], first: usize, count: usize, at: usize)
-    requires { ⌜ (length (now sheet) ≡ sheetSize) × (first + count ≤ sheetSlots) ⌝ }
-    requires { ⌜ ((b : ℕ) → b < count → slotWord (now sheet) (first + b) 7 < 2 ^ 32) ⌝ }
+fn lay_buckets(numbered: &[usize], image: &mut [u8], first: usize, count: usize, at: usize)
+    requires { ⌜ (length (now numbered) ≡ numberedSize) × (first + count ≤ numberedSlots) ⌝ }
+    requires { ⌜ ((b : ℕ) → b < count → slotWord (now numbered) (first + b) 7 < 2 ^ 32) ⌝ }
     requires { ⌜ at + 4 * count ≤ length (now image) ⌝ }
-    ensures { λ _. ⌜ now (image .exit) ≡ putAt (now (image .entry)) at (wordsOf (λ b. slotWord (now (sheet .entry)) (first + b) 7) count) ⌝ }
+    ensures { λ _. ⌜ now (image .exit) ≡ putAt (now (image .entry)) at (wordsOf (λ b. slotWord (now (numbered .entry)) (first + b) 7) count) ⌝ }
 {
     let mut b = 0;
     while b < count {
-        let word = slot_word(sheet, first + b, 7);
+        let word = slot_word(numbered, first + b, 7);
         put_word(image, at + 4 * b, word as u32);
         b += 1;
     }
 }
 
 // Lays what stands before a table's records: its head and its bucket words.
-pub fn lay_front(sheet: &[usize], image: &mut [u8], first: usize, count: usize, at: usize)
-    requires { ⌜ (length (now sheet) ≡ sheetSize) × (first + count ≤ sheetSlots) ⌝ }
-    requires { ⌜ ((b : ℕ) → b < count → slotWord (now sheet) (first + b) 7 < 2 ^ 32) ⌝ }
+pub fn lay_front(numbered: &[usize], image: &mut [u8], first: usize, count: usize, at: usize)
+    requires { ⌜ (length (now numbered) ≡ numberedSize) × (first + count ≤ numberedSlots) ⌝ }
+    requires { ⌜ ((b : ℕ) → b < count → slotWord (now numbered) (first + b) 7 < 2 ^ 32) ⌝ }
     requires { ⌜ at + 8 + 4 * count ≤ length (now image) ⌝ }
-    ensures { λ _. ⌜ now (image .exit) ≡ putAt (now (image .entry)) at (headBytes count ++ wordsOf (λ b. slotWord (now (sheet .entry)) (first + b) 7) count) ⌝ }
+    ensures { λ _. ⌜ now (image .exit) ≡ putAt (now (image .entry)) at (headBytes count ++ wordsOf (λ b. slotWord (now (numbered .entry)) (first + b) 7) count) ⌝ }
 {
     lay_head(image, count, at);
-    lay_buckets(sheet, image, first, count, at + 8);
+    lay_buckets(numbered, image, first, count, at + 8);
 }
 
 // Lays three words.
@@ -67,25 +67,25 @@ fn lay_three(image: &mut [u8], to: usize, a: usize, b: usize, c: usize)
 
 // Lays the record of a slot whose key is at `at` and whose value is at `start`.
 pub fn lay_record(
-    sheet: &[usize],
+    numbered: &[usize],
     image: &mut [u8],
     slot: usize,
     to: usize,
     at: usize,
     start: usize,
 )
-    requires { ⌜ SlotIn (now sheet) slot ⌝ }
-    requires { ⌜ CoverFits (now sheet) slot ⌝ }
-    requires { ⌜ RecordFits (now sheet) slot at start ⌝ }
+    requires { ⌜ SlotIn (now numbered) slot ⌝ }
+    requires { ⌜ CoverFits (now numbered) slot ⌝ }
+    requires { ⌜ RecordFits (now numbered) slot at start ⌝ }
     requires { ⌜ to + 24 ≤ length (now image) ⌝ }
-    ensures { λ _. ⌜ now (image .exit) ≡ putAt (now (image .entry)) to (slotRecord (now (sheet .entry)) slot at start) ⌝ }
+    ensures { λ _. ⌜ now (image .exit) ≡ putAt (now (image .entry)) to (slotRecord (now (numbered .entry)) slot at start) ⌝ }
 {
-    let hash = slot_word(sheet, slot, 0);
-    let parent = slot_word(sheet, slot, 1);
+    let hash = slot_word(numbered, slot, 0);
+    let parent = slot_word(numbered, slot, 1);
     lay_three(image, to, hash, parent, at);
-    let size = slot_word(sheet, slot, 3);
-    let kind = slot_word(sheet, slot, 4);
-    let stop = start + cover(sheet, slot);
+    let size = slot_word(numbered, slot, 3);
+    let kind = slot_word(numbered, slot, 4);
+    let stop = start + cover(numbered, slot);
     lay_three(image, to + 12, size + 65536 * kind, start, stop);
 }
 
@@ -102,34 +102,34 @@ fn lay_part(arena: &[u8], image: &mut [u8], start: usize, size: usize, at: usize
 
 // Lays a slot's fragment at `at`, and zeros up to its value at `start`.
 pub fn lay_key(
-    sheet: &[usize],
+    numbered: &[usize],
     arena: &[u8],
     image: &mut [u8],
     slot: usize,
     at: usize,
     start: usize,
 )
-    requires { ⌜ SlotIn (now sheet) slot ⌝ }
-    requires { ⌜ slotWord (now sheet) slot 2 + slotWord (now sheet) slot 3 ≤ length (now arena) ⌝ }
-    requires { ⌜ (at + slotWord (now sheet) slot 3 ≤ start) × (start ≤ length (now image)) ⌝ }
-    ensures { λ _. ⌜ now (image .exit) ≡ putAt (now (image .entry)) at (slotKey (now (sheet .entry)) (now (arena .entry)) slot at start) ⌝ }
+    requires { ⌜ SlotIn (now numbered) slot ⌝ }
+    requires { ⌜ slotWord (now numbered) slot 2 + slotWord (now numbered) slot 3 ≤ length (now arena) ⌝ }
+    requires { ⌜ (at + slotWord (now numbered) slot 3 ≤ start) × (start ≤ length (now image)) ⌝ }
+    ensures { λ _. ⌜ now (image .exit) ≡ putAt (now (image .entry)) at (slotKey (now (numbered .entry)) (now (arena .entry)) slot at start) ⌝ }
 {
-    let from = slot_word(sheet, slot, 2);
-    let size = slot_word(sheet, slot, 3);
+    let from = slot_word(numbered, slot, 2);
+    let size = slot_word(numbered, slot, 3);
     let end = lay_part(arena, image, from, size, at);
     put_zeros(image, end, start - end);
 }
 
 // Lays the numbers of a container's children as words. Answers where they end.
-fn lay_children(sheet: &[usize], image: &mut [u8], from: usize, count: usize, at: usize) -> usize
-    requires { ⌜ (length (now sheet) ≡ sheetSize) × (from + count ≤ sheetSlots) ⌝ }
-    requires { ⌜ ((j : ℕ) → j < count → childWord (now sheet) (from + j) < 2 ^ 32) ⌝ }
+fn lay_children(numbered: &[usize], image: &mut [u8], from: usize, count: usize, at: usize) -> usize
+    requires { ⌜ (length (now numbered) ≡ numberedSize) × (from + count ≤ numberedSlots) ⌝ }
+    requires { ⌜ ((j : ℕ) → j < count → childWord (now numbered) (from + j) < 2 ^ 32) ⌝ }
     requires { ⌜ at + 4 * count ≤ length (now image) ⌝ }
-    ensures { λ r. ⌜ Laid (now (image .entry)) (now (image .exit)) at (wordsOf (λ j. childWord (now (sheet .entry)) (from + j)) count) r ⌝ }
+    ensures { λ r. ⌜ Laid (now (image .entry)) (now (image .exit)) at (wordsOf (λ j. childWord (now (numbered .entry)) (from + j)) count) r ⌝ }
 {
     let mut j = 0;
     while j < count {
-        let word = child_word(sheet, from + j);
+        let word = child_word(numbered, from + j);
         put_word(image, at + 4 * j, word as u32);
         j += 1;
     }
@@ -137,18 +137,24 @@ fn lay_children(sheet: &[usize], image: &mut [u8], from: usize, count: usize, at
 }
 
 // Lays a slot's value that is no nested table: bytes, or children. Answers where it ends.
-pub fn lay_plain(sheet: &[usize], arena: &[u8], image: &mut [u8], slot: usize, at: usize) -> usize
-    requires { ⌜ SheetFits (now sheet) (now arena) ⌝ }
-    requires { ⌜ slot < sheetSlots ⌝ }
-    requires { ⌜ (slotWord (now sheet) slot 4 ≡ kindTable → ⊥) ⌝ }
-    requires { ⌜ at + slotCover (now sheet) slot ≤ length (now image) ⌝ }
-    ensures { λ r. ⌜ Laid (now (image .entry)) (now (image .exit)) at (plainValue (now (sheet .entry)) (now (arena .entry)) slot) r ⌝ }
+pub fn lay_plain(
+    numbered: &[usize],
+    arena: &[u8],
+    image: &mut [u8],
+    slot: usize,
+    at: usize,
+) -> usize
+    requires { ⌜ NumberedFits (now numbered) (now arena) ⌝ }
+    requires { ⌜ slot < numberedSlots ⌝ }
+    requires { ⌜ (slotWord (now numbered) slot 4 ≡ kindTable → ⊥) ⌝ }
+    requires { ⌜ at + slotCover (now numbered) slot ≤ length (now image) ⌝ }
+    ensures { λ r. ⌜ Laid (now (image .entry)) (now (image .exit)) at (plainValue (now (numbered .entry)) (now (arena .entry)) slot) r ⌝ }
 {
-    let kind = slot_word(sheet, slot, 4);
-    let start = slot_word(sheet, slot, 5);
-    let size = slot_word(sheet, slot, 6);
+    let kind = slot_word(numbered, slot, 4);
+    let start = slot_word(numbered, slot, 5);
+    let size = slot_word(numbered, slot, 6);
     if kind == VALUE {
         return lay_part(arena, image, start, size, at);
     }
-    lay_children(sheet, image, start, size, at)
+    lay_children(numbered, image, start, size, at)
 }

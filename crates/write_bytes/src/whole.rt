@@ -7,7 +7,7 @@ ghost use mathlib.Core.Path.{_≡_};
 ghost use Prim.Native.Nat.{_≤_, _<_};
 ghost use lib.ListN.{length};
 ghost use Rattle.words.specs.Store.{putAt};
-ghost use Rattle.write_bytes.specs.Sheet.{sheetTables, sheetImage, SheetFits};
+ghost use Rattle.write_bytes.specs.Numbered.{numberedTables, numberedImage, NumberedFits};
 ghost use Rattle.write_bytes.specs.Measure.{measured};
 
 const HEADER: usize = 24;
@@ -15,21 +15,21 @@ const HEADER: usize = 24;
 const DEPTH: usize = 8;
 
 // Measures the image of a table.
-pub fn measure(sheet: &[usize], arena: &[u8], table: usize) -> Measured
-    requires { ⌜ SheetFits (now sheet) (now arena) ⌝ }
-    requires { ⌜ table < sheetTables ⌝ }
-    ensures { λ r. ⌜ r ≡ measured (length (sheetImage (now (sheet .entry)) (now (arena .entry)) table)) ⌝ }
+pub fn measure(numbered: &[usize], arena: &[u8], table: usize) -> Measured
+    requires { ⌜ NumberedFits (now numbered) (now arena) ⌝ }
+    requires { ⌜ table < numberedTables ⌝ }
+    ensures { λ r. ⌜ r ≡ measured (length (numberedImage (now (numbered .entry)) (now (arena .entry)) table)) ⌝ }
 {
-    measure_table(sheet, arena, table, HEADER, DEPTH)
+    measure_table(numbered, arena, table, HEADER, DEPTH)
 }
 
 // Lays the image of a table at the front of a buffer that has room for it.
-pub fn lay_image(sheet: &[usize], arena: &[u8], table: usize, image: &mut [u8])
-    requires { ⌜ SheetFits (now sheet) (now arena) ⌝ }
-    requires { ⌜ table < sheetTables ⌝ }
-    requires { ⌜ (length (sheetImage (now sheet) (now arena) table) ≤ length (now image)) × (length (now image) ≤ 16777216) ⌝ }
-    ensures { λ _. ⌜ now (image .exit) ≡ putAt (now (image .entry)) 0 (sheetImage (now (sheet .entry)) (now (arena .entry)) table) ⌝ }
+pub fn lay_image(numbered: &[usize], arena: &[u8], table: usize, image: &mut [u8])
+    requires { ⌜ NumberedFits (now numbered) (now arena) ⌝ }
+    requires { ⌜ table < numberedTables ⌝ }
+    requires { ⌜ (length (numberedImage (now numbered) (now arena) table) ≤ length (now image)) × (length (now image) ≤ 16777216) ⌝ }
+    ensures { λ _. ⌜ now (image .exit) ≡ putAt (now (image .entry)) 0 (numberedImage (now (numbered .entry)) (now (arena .entry)) table) ⌝ }
 {
     put_zeros(image, 0, HEADER);
-    lay_table(sheet, arena, image, table, HEADER, DEPTH);
+    lay_table(numbered, arena, image, table, HEADER, DEPTH);
 }

@@ -12,15 +12,15 @@ use Rattle.words.specs.Store.{putAt}
 use Rattle.words.proofs.BelowLaws.{some-below, below-some, some-turn}
 use Rattle.words.proofs.StoreLaws.{put-none}
 use Rattle.build_memory.specs.Memory.{tableTotal, itemTotal, itemTable}
-use Rattle.image.specs.Number.{hashesOf, byNumber}
-use Rattle.image.proofs.NumberLaws.{length-hashes, length-by-number}
+use Rattle.image.specs.Index.{hashesOf, byIndex}
+use Rattle.image.proofs.IndexLaws.{length-hashes, length-by-index}
 use Rattle.write_order.specs.Chain.{starts}
-use Rattle.write_order.specs.Items.{numbersPut}
+use Rattle.write_order.specs.Items.{indicesPut}
 use Rattle.write_order.proofs.ChainLaws.{length-starts}
-use Rattle.write_order.proofs.ItemLaws.{numbers-start}
+use Rattle.write_order.proofs.ItemLaws.{indices-start}
 use Rattle.write_numbers.specs.Roster.{stateOf}
-use Rattle.write_numbers.specs.Fill.{own, owned, inTable, hasItems, Fit, Put}
-use Rattle.write_numbers.proofs.OwnLaws.{own-pass}
+use Rattle.write_numbers.specs.Fill.{ofTable, allOfTable, inTable, hasItems, Fit, Put}
+use Rattle.write_numbers.proofs.OfTableLaws.{of-table-pass}
 use Rattle.write_numbers.proofs.StateLaws.{state-members}
 
 -- ---- the search for an item
@@ -46,19 +46,19 @@ module _ (ws : List ℕ) (t : ℕ) where
   past-none fit past = by-case (someBelow (inTable ws t) (itemTotal ws)) refl
     where
       by-case : (b : Bool) → someBelow (inTable ws t) (itemTotal ws) ≡ b → false ≡ someBelow (inTable ws t) (itemTotal ws)
-      by-case true e = let (k, l, q) = some-below (inTable ws t) (itemTotal ws) e in let own : itemTable ws k ≡ t = eqb-true _ _ q in absurd (omega (arith, fit .known k l))
+      by-case true e = let (k, l, q) = some-below (inTable ws t) (itemTotal ws) e in let ofTable : itemTable ws k ≡ t = eqb-true _ _ q in absurd (omega (arith, fit .known k l))
       by-case false e = sym e
 
 -- ---- a table with none
 
-bare-own : (ws : List ℕ) (t n : ℕ) → ((i : ℕ) → i < n → itemTable ws i ≡ t → ⊥) → own ws t n ≡ []
-unfolding own
-bare-own ws t zero none = refl
-bare-own ws t (suc n) none = own-pass ws t n (none n (omega arith)) ∙ bare-own ws t n (λ i h. none i (omega arith))
+bare-of-table : (ws : List ℕ) (t n : ℕ) → ((i : ℕ) → i < n → itemTable ws i ≡ t → ⊥) → ofTable ws t n ≡ []
+unfolding ofTable
+bare-of-table ws t zero none = refl
+bare-of-table ws t (suc n) none = of-table-pass ws t n (none n (omega arith)) ∙ bare-of-table ws t n (λ i h. none i (omega arith))
 
-bare-owned : (ws : List ℕ) (t : ℕ) → hasItems ws t ≡ false → owned ws t ≡ []
-unfolding owned
-bare-owned ws t none = bare-own ws t (itemTotal ws) (λ i l e. let some : true ≡ hasItems ws t = search-hit ws t i l e in let z : _≡_ {A = ℕ} 0 1 = cc in omega arith)
+bare-all-of-table : (ws : List ℕ) (t : ℕ) → hasItems ws t ≡ false → allOfTable ws t ≡ []
+unfolding allOfTable
+bare-all-of-table ws t none = bare-of-table ws t (itemTotal ws) (λ i l e. let some : true ≡ hasItems ws t = search-hit ws t i l e in let z : _≡_ {A = ℕ} 0 1 = cc in omega arith)
 
 -- a list of no elements
 no-elements : (l : List ℕ) → length l ≡ 0 → l ≡ []
@@ -67,18 +67,18 @@ no-elements (x ∷ l) e = absurd (omega arith)
 
 module _ (ws ar : List ℕ) (t : ℕ) (none : hasItems ws t ≡ false) where
   no-members : length (stateOf ws ar t .members) ≡ 0
-  no-members = ap length (state-members ws ar t ∙ bare-owned ws t none)
+  no-members = ap length (state-members ws ar t ∙ bare-all-of-table ws t none)
 
-  no-numbers : byNumber plain (stateOf ws ar t) ≡ []
-  no-numbers = no-elements _ (length-by-number plain (stateOf ws ar t) ∙ no-members)
+  no-indices : byIndex plain (stateOf ws ar t) ≡ []
+  no-indices = no-elements _ (length-by-index plain (stateOf ws ar t) ∙ no-members)
 
   no-starts : starts (hashesOf plain (stateOf ws ar t)) ≡ []
   no-starts = no-elements _ (length-starts (hashesOf plain (stateOf ws ar t)) ∙ length-hashes plain (stateOf ws ar t) ∙ no-members)
 
-  pub put-bare : (first : ℕ) (slots numbers buckets : List ℕ) → Put ws ar t first 0 slots slots numbers numbers buckets buckets
-  put-bare first slots numbers buckets = record {
+  pub put-bare : (first : ℕ) (slots indices buckets : List ℕ) → Put ws ar t first 0 slots slots indices indices buckets buckets
+  put-bare first slots indices buckets = record {
     count = sym no-members;
-    slots-are = sym (ap (putAt slots first) no-numbers ∙ put-none slots first);
+    slots-are = sym (ap (putAt slots first) no-indices ∙ put-none slots first);
     buckets-are = sym (ap (putAt buckets first) no-starts ∙ put-none buckets first);
-    numbers-are = numbers-start numbers [] ∙ sym (ap (λ (m : List ℕ). numbersPut numbers m (length m)) no-numbers);
+    indices-are = indices-start indices [] ∙ sym (ap (λ (m : List ℕ). indicesPut indices m (length m)) no-indices);
   }

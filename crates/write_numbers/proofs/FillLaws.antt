@@ -14,70 +14,70 @@ use Rattle.words.proofs.StoreLaws.{get-put, get-before}
 use Rattle.model.specs.Table.{Has}
 use Rattle.model.specs.Builder.{mostItems}
 use Rattle.build_memory.specs.Memory.{itemTotal, itemTable}
-use Rattle.image.specs.Number.{hashesOf, bucketStart, byNumber, itemOf, numberOf}
-use Rattle.image.proofs.NumberLaws.{length-hashes, length-by-number, numbering}
+use Rattle.image.specs.Index.{hashesOf, bucketStart, byIndex, itemOf, laidIndex}
+use Rattle.image.proofs.IndexLaws.{length-hashes, length-by-index, numbering}
 use Rattle.write_order.specs.Chain.{starts}
-use Rattle.write_order.specs.Items.{AllBelow, numbersPut}
+use Rattle.write_order.specs.Items.{AllBelow, indicesPut}
 use Rattle.write_order.proofs.ChainLaws.{length-starts, starts-at}
-use Rattle.write_order.proofs.ItemLaws.{numbers-of}
+use Rattle.write_order.proofs.ItemLaws.{indices-of}
 use Rattle.write_numbers.specs.Roster.{stateOf}
-use Rattle.write_numbers.specs.Fill.{owned, slotOf, Fit, Laid, Put, Sized, Filled}
-use Rattle.write_numbers.proofs.OwnLaws.{own-here, own-table, slot-next, slot-apart, slot-few}
-use Rattle.write_numbers.proofs.StateLaws.{state-members, state-below, state-once, owned-few}
+use Rattle.write_numbers.specs.Fill.{allOfTable, firstSlotOf, Fit, IndexedAs, Put, Sized, Filled}
+use Rattle.write_numbers.proofs.OfTableLaws.{of-table-here, of-table-table, slot-next, slot-apart, slot-few}
+use Rattle.write_numbers.proofs.StateLaws.{state-members, state-below, state-once, all-of-table-few}
 
 -- ---- one table
 
 module _ (ws ar : List ℕ) (t : ℕ) where
-  by-number-has : (k : ℕ) → k < length (byNumber plain (stateOf ws ar t)) → Has (stateOf ws ar t .members) (getD (byNumber plain (stateOf ws ar t)) k 0)
-  by-number-has k h = numbering plain (stateOf ws ar t) (state-once ws ar t) .has k (omega (arith, length-by-number plain (stateOf ws ar t)))
+  by-index-has : (k : ℕ) → k < length (byIndex plain (stateOf ws ar t)) → Has (stateOf ws ar t .members) (getD (byIndex plain (stateOf ws ar t)) k 0)
+  by-index-has k h = numbering plain (stateOf ws ar t) (state-once ws ar t) .has k (omega (arith, length-by-index plain (stateOf ws ar t)))
 
-  by-number-below : (n : ℕ) → itemTotal ws ≤ n → AllBelow n (byNumber plain (stateOf ws ar t))
+  by-index-below : (n : ℕ) → itemTotal ws ≤ n → AllBelow n (byIndex plain (stateOf ws ar t))
   unfolding AllBelow
-  by-number-below n few k h = omega (arith, state-below ws ar t _ (by-number-has k h))
+  by-index-below n few k h = omega (arith, state-below ws ar t _ (by-index-has k h))
 
   member-table : (i : ℕ) → Has (stateOf ws ar t .members) i → itemTable ws i ≡ t
-  unfolding owned
-  member-table i h = own-table ws i t (itemTotal ws) (rw (state-members ws ar t) at h)
+  unfolding allOfTable
+  member-table i h = of-table-table ws i t (itemTotal ws) (rw (state-members ws ar t) at h)
 
   table-member : (i : ℕ) → i < itemTotal ws → itemTable ws i ≡ t → Has (stateOf ws ar t .members) i
-  unfolding owned
-  table-member i l e = let one = own-here ws i t (itemTotal ws) l e in rw (state-members ws ar t) (omega arith)
+  unfolding allOfTable
+  table-member i l e = let one = of-table-here ws i t (itemTotal ws) l e in rw (state-members ws ar t) (omega arith)
 
-  members-long : length (stateOf ws ar t .members) ≡ length (owned ws t)
+  members-long : length (stateOf ws ar t .members) ≡ length (allOfTable ws t)
   members-long = ap length (state-members ws ar t)
 
-module _ (ws ar : List ℕ) (t n : ℕ) (items firsts : List ℕ) (fit : Fit ws) (l : Laid ws ar t n items firsts) where
-  pub laid-count : n ≡ length (owned ws t)
-  laid-count = l .count ∙ members-long ws ar t
+module _ (ws ar : List ℕ) (t n : ℕ) (items firsts : List ℕ) (fit : Fit ws) (l : IndexedAs ws ar t n items firsts) where
+  pub indexed-as-count : n ≡ length (allOfTable ws t)
+  indexed-as-count = l .count ∙ members-long ws ar t
 
-  pub laid-few : n ≤ 1024
-  laid-few = omega (arith, laid-count, owned-few ws t fit)
+  pub indexed-as-few : n ≤ 1024
+  indexed-as-few = omega (arith, indexed-as-count, all-of-table-few ws t fit)
 
-  pub laid-long : length (take n items) ≡ n
-  laid-long = ap length (l .items-are) ∙ length-by-number plain (stateOf ws ar t) ∙ sym (l .count)
+  pub indexed-as-long : length (take n items) ≡ n
+  indexed-as-long = ap length (l .items-are) ∙ length-by-index plain (stateOf ws ar t) ∙ sym (l .count)
 
-  pub laid-below : (most : ℕ) → mostItems ≤ most → AllBelow most (take n items)
-  laid-below most h = rw (l .items-are) (by-number-below ws ar t most (omega (arith, fit .few)))
+  pub indexed-as-below : (most : ℕ) → mostItems ≤ most → AllBelow most (take n items)
+  indexed-as-below most h = rw (l .items-are) (by-index-below ws ar t most (omega (arith, fit .few)))
 
-  pub put-all : (first : ℕ) (slots slots′ numbers numbers′ buckets buckets′ : List ℕ) → slots′ ≡ putAt slots first (take n items)
-      → buckets′ ≡ putAt buckets first (take n firsts) → numbers′ ≡ numbersPut numbers (take n items) (length (take n items))
-      → Put ws ar t first n slots slots′ numbers numbers′ buckets buckets′
-  put-all first slots slots′ numbers numbers′ buckets buckets′ es eb en = record {
+  pub put-all : (first : ℕ) (slots slots′ indices indices′ buckets buckets′ : List ℕ) → slots′ ≡ putAt slots first (take n items)
+      → buckets′ ≡ putAt buckets first (take n firsts) → indices′ ≡ indicesPut indices (take n items) (length (take n items))
+      → Put ws ar t first n slots slots′ indices indices′ buckets buckets′
+  put-all first slots slots′ indices indices′ buckets buckets′ es eb en = record {
     count = l .count;
     slots-are = es ∙ ap (putAt slots first) (l .items-are);
     buckets-are = eb ∙ ap (putAt buckets first) (l .firsts-are);
-    numbers-are = en ∙ ap (λ (m : List ℕ). numbersPut numbers m (length m)) (l .items-are);
+    indices-are = en ∙ ap (λ (m : List ℕ). indicesPut indices m (length m)) (l .items-are);
   }
 
 -- ---- one table more
 
 -- an item that is not among those that are numbered keeps its number
-numbers-other : (numbers items : List ℕ) (i n : ℕ) → n ≤ length items → ((k : ℕ) → k < length items → getD items k 0 ≡ i → ⊥)
-    → getD (numbersPut numbers items n) i 0 ≡ getD numbers i 0
-unfolding numbersPut
-numbers-other numbers items i zero h ne = refl
-numbers-other numbers items i (suc n) h ne =
-    getD-set-other (numbersPut numbers items n) (getD items n 0) i n 0 (λ e. ne n (omega arith) (sym e)) ∙ numbers-other numbers items i n (omega arith) ne
+indices-other : (indices items : List ℕ) (i n : ℕ) → n ≤ length items → ((k : ℕ) → k < length items → getD items k 0 ≡ i → ⊥)
+    → getD (indicesPut indices items n) i 0 ≡ getD indices i 0
+unfolding indicesPut
+indices-other indices items i zero h ne = refl
+indices-other indices items i (suc n) h ne =
+    getD-set-other (indicesPut indices items n) (getD items n 0) i n 0 (λ e. ne n (omega arith) (sym e)) ∙ indices-other indices items i n (omega arith) ne
 
 -- what holds below t, and of t, holds below t + 1
 more : (P : ℕ → Type 0) (t : ℕ) → ((u : ℕ) → u < t → P u) → P t → (u : ℕ) → u < t + 1 → P u
@@ -85,76 +85,76 @@ more P t below here u h =
     let less : u < suc t = rw add-one at h in
     ⊎-elim (λ e. rw e here) (below u) (eq-or-lt-of-le (le-of-suc-le-suc less))
 
-pub filled-none : (ws ar heads slots numbers buckets : List ℕ) → Filled ws ar 0 heads slots numbers buckets
-filled-none ws ar heads slots numbers buckets = record {
+pub filled-none : (ws ar heads slots indices buckets : List ℕ) → Filled ws ar 0 heads slots indices buckets
+filled-none ws ar heads slots indices buckets = record {
   starts-are = λ t h. absurd (omega arith);
   counts-are = λ t h. absurd (omega arith);
   items-are = λ t k h l. absurd (omega arith);
   buckets-are = λ t b h l. absurd (omega arith);
-  numbers-are = λ i l h. absurd (omega arith);
+  indices-are = λ i l h. absurd (omega arith);
 }
 
-module _ (ws ar : List ℕ) (t first n : ℕ) (heads slots slots′ numbers numbers′ buckets buckets′ : List ℕ) (fit : Fit ws) (low : t < 64)
-    (long : length heads ≡ 128) (size : Sized slots numbers buckets) (at : first ≡ slotOf ws t)
-    (p : Put ws ar t first n slots slots′ numbers numbers′ buckets buckets′) (f : Filled ws ar t heads slots numbers buckets) where
-  more-count : n ≡ length (owned ws t)
+module _ (ws ar : List ℕ) (t first n : ℕ) (heads slots slots′ indices indices′ buckets buckets′ : List ℕ) (fit : Fit ws) (low : t < 64)
+    (long : length heads ≡ 128) (size : Sized slots indices buckets) (at : first ≡ firstSlotOf ws t)
+    (p : Put ws ar t first n slots slots′ indices indices′ buckets buckets′) (f : Filled ws ar t heads slots indices buckets) where
+  more-count : n ≡ length (allOfTable ws t)
   more-count = p .count ∙ members-long ws ar t
 
   pub put-few : first + n ≤ 1024
   put-few = omega (arith, more-count, slot-few ws t, fit .few)
 
-  pub put-next : first + n ≡ slotOf ws (t + 1)
+  pub put-next : first + n ≡ firstSlotOf ws (t + 1)
   put-next = omega (arith, more-count, slot-next ws t)
 
   more-fits : first + length (stateOf ws ar t .members) ≤ 1024
   more-fits = omega (arith, slot-few ws t, fit .few, members-long ws ar t)
 
-  more-before : (u k : ℕ) → u < t → k < length (stateOf ws ar u .members) → slotOf ws u + k < first
+  more-before : (u k : ℕ) → u < t → k < length (stateOf ws ar u .members) → firstSlotOf ws u + k < first
   more-before u k l h = omega (arith, slot-apart ws u t l, members-long ws ar u)
 
-  more-items : (k : ℕ) → k < length (stateOf ws ar t .members) → getD slots′ (slotOf ws t + k) 0 ≡ itemOf plain (stateOf ws ar t) k
+  more-items : (k : ℕ) → k < length (stateOf ws ar t .members) → getD slots′ (firstSlotOf ws t + k) 0 ≡ itemOf plain (stateOf ws ar t) k
   unfolding itemOf
   more-items k h =
-      let long = length-by-number plain (stateOf ws ar t) in
-      ap (λ (l : List ℕ). getD l (slotOf ws t + k) 0) (p .slots-are) ∙ ap (λ (s : ℕ). getD (putAt slots first (byNumber plain (stateOf ws ar t))) (s + k) 0) (sym at)
-      ∙ get-put slots first (byNumber plain (stateOf ws ar t)) k (omega (arith, more-fits, size .of-slots)) (omega arith)
+      let long = length-by-index plain (stateOf ws ar t) in
+      ap (λ (l : List ℕ). getD l (firstSlotOf ws t + k) 0) (p .slots-are) ∙ ap (λ (s : ℕ). getD (putAt slots first (byIndex plain (stateOf ws ar t))) (s + k) 0) (sym at)
+      ∙ get-put slots first (byIndex plain (stateOf ws ar t)) k (omega (arith, more-fits, size .of-slots)) (omega arith)
 
-  more-buckets : (b : ℕ) → b < length (stateOf ws ar t .members) → getD buckets′ (slotOf ws t + b) 0 ≡ bucketStart (hashesOf plain (stateOf ws ar t)) b
+  more-buckets : (b : ℕ) → b < length (stateOf ws ar t .members) → getD buckets′ (firstSlotOf ws t + b) 0 ≡ bucketStart (hashesOf plain (stateOf ws ar t)) b
   more-buckets b h =
       let hashes = length-hashes plain (stateOf ws ar t) in
       let long = length-starts (hashesOf plain (stateOf ws ar t)) in
-      ap (λ (l : List ℕ). getD l (slotOf ws t + b) 0) (p .buckets-are)
+      ap (λ (l : List ℕ). getD l (firstSlotOf ws t + b) 0) (p .buckets-are)
       ∙ ap (λ (s : ℕ). getD (putAt buckets first (starts (hashesOf plain (stateOf ws ar t)))) (s + b) 0) (sym at)
       ∙ get-put buckets first (starts (hashesOf plain (stateOf ws ar t))) b (omega (arith, more-fits, size .of-buckets)) (omega arith)
       ∙ starts-at (hashesOf plain (stateOf ws ar t)) b (omega arith)
 
-  more-own : (i : ℕ) → i < itemTotal ws → itemTable ws i ≡ t → getD numbers′ i 0 ≡ numberOf plain (stateOf ws ar (itemTable ws i)) i
-  more-own i l e =
-      ap (λ (m : List ℕ). getD m i 0) (p .numbers-are)
-      ∙ numbers-of plain (stateOf ws ar t) numbers (state-once ws ar t) (by-number-below ws ar t (length numbers) (omega (arith, fit .few, size .of-numbers))) i (table-member ws ar t i l e)
-      ∙ ap (λ (u : ℕ). numberOf plain (stateOf ws ar u) i) (sym e)
+  more-of-table : (i : ℕ) → i < itemTotal ws → itemTable ws i ≡ t → getD indices′ i 0 ≡ laidIndex plain (stateOf ws ar (itemTable ws i)) i
+  more-of-table i l e =
+      ap (λ (m : List ℕ). getD m i 0) (p .indices-are)
+      ∙ indices-of plain (stateOf ws ar t) indices (state-once ws ar t) (by-index-below ws ar t (length indices) (omega (arith, fit .few, size .of-indices))) i (table-member ws ar t i l e)
+      ∙ ap (λ (u : ℕ). laidIndex plain (stateOf ws ar u) i) (sym e)
 
-  more-kept : (i : ℕ) → itemTable ws i < t → getD numbers′ i 0 ≡ getD numbers i 0
+  more-kept : (i : ℕ) → itemTable ws i < t → getD indices′ i 0 ≡ getD indices i 0
   more-kept i l =
-      ap (λ (m : List ℕ). getD m i 0) (p .numbers-are)
-      ∙ numbers-other numbers (byNumber plain (stateOf ws ar t)) i (length (byNumber plain (stateOf ws ar t))) (omega arith)
-      (λ k h e. let own : itemTable ws i ≡ t = ap (itemTable ws) (sym e) ∙ member-table ws ar t _ (by-number-has ws ar t k h) in omega arith)
+      ap (λ (m : List ℕ). getD m i 0) (p .indices-are)
+      ∙ indices-other indices (byIndex plain (stateOf ws ar t)) i (length (byIndex plain (stateOf ws ar t))) (omega arith)
+      (λ k h e. let ofTable : itemTable ws i ≡ t = ap (itemTable ws) (sym e) ∙ member-table ws ar t _ (by-index-has ws ar t k h) in omega arith)
 
-  pub filled-more : Filled ws ar (t + 1) (set (set heads (2 * t) first) (2 * t + 1) n) slots′ numbers′ buckets′
+  pub filled-more : Filled ws ar (t + 1) (set (set heads (2 * t) first) (2 * t + 1) n) slots′ indices′ buckets′
   filled-more = record {
-    starts-are = more (λ (u : ℕ). getD (set (set heads (2 * t) first) (2 * t + 1) n) (2 * u) 0 ≡ slotOf ws u) t
+    starts-are = more (λ (u : ℕ). getD (set (set heads (2 * t) first) (2 * t + 1) n) (2 * u) 0 ≡ firstSlotOf ws u) t
         (λ u l. getD-set-other (set heads (2 * t) first) (2 * t + 1) (2 * u) n 0 (λ e. omega arith) ∙ getD-set-other heads (2 * t) (2 * u) first 0 (λ e. omega arith) ∙ f .starts-are u l)
         (getD-set-other (set heads (2 * t) first) (2 * t + 1) (2 * t) n 0 (λ e. omega arith) ∙ getD-set-same heads (2 * t) first 0 (omega arith) ∙ at);
     counts-are = more (λ (u : ℕ). getD (set (set heads (2 * t) first) (2 * t + 1) n) (2 * u + 1) 0 ≡ length (stateOf ws ar u .members)) t
         (λ u l. getD-set-other (set heads (2 * t) first) (2 * t + 1) (2 * u + 1) n 0 (λ e. omega arith) ∙ getD-set-other heads (2 * t) (2 * u + 1) first 0 (λ e. omega arith) ∙ f .counts-are u l)
         (getD-set-same (set heads (2 * t) first) (2 * t + 1) n 0 (omega (arith, length-set heads (2 * t) first)) ∙ p .count);
-    items-are = λ u k h. more (λ (u : ℕ). k < length (stateOf ws ar u .members) → getD slots′ (slotOf ws u + k) 0 ≡ itemOf plain (stateOf ws ar u) k) t
-        (λ u l h. ap (λ (m : List ℕ). getD m (slotOf ws u + k) 0) (p .slots-are) ∙ get-before slots first _ (slotOf ws u + k) (more-before u k l h) ∙ f .items-are u k l h)
+    items-are = λ u k h. more (λ (u : ℕ). k < length (stateOf ws ar u .members) → getD slots′ (firstSlotOf ws u + k) 0 ≡ itemOf plain (stateOf ws ar u) k) t
+        (λ u l h. ap (λ (m : List ℕ). getD m (firstSlotOf ws u + k) 0) (p .slots-are) ∙ get-before slots first _ (firstSlotOf ws u + k) (more-before u k l h) ∙ f .items-are u k l h)
         (more-items k) u h;
-    buckets-are = λ u b h. more (λ (u : ℕ). b < length (stateOf ws ar u .members) → getD buckets′ (slotOf ws u + b) 0 ≡ bucketStart (hashesOf plain (stateOf ws ar u)) b) t
-        (λ u l h. ap (λ (m : List ℕ). getD m (slotOf ws u + b) 0) (p .buckets-are) ∙ get-before buckets first _ (slotOf ws u + b) (more-before u b l h) ∙ f .buckets-are u b l h)
+    buckets-are = λ u b h. more (λ (u : ℕ). b < length (stateOf ws ar u .members) → getD buckets′ (firstSlotOf ws u + b) 0 ≡ bucketStart (hashesOf plain (stateOf ws ar u)) b) t
+        (λ u l h. ap (λ (m : List ℕ). getD m (firstSlotOf ws u + b) 0) (p .buckets-are) ∙ get-before buckets first _ (firstSlotOf ws u + b) (more-before u b l h) ∙ f .buckets-are u b l h)
         (more-buckets b) u h;
-    numbers-are = λ i l h. more (λ (u : ℕ). itemTable ws i ≡ u → getD numbers′ i 0 ≡ numberOf plain (stateOf ws ar (itemTable ws i)) i) t
-        (λ u less e. more-kept i (omega arith) ∙ f .numbers-are i l (omega arith))
-        (more-own i l) (itemTable ws i) h refl;
+    indices-are = λ i l h. more (λ (u : ℕ). itemTable ws i ≡ u → getD indices′ i 0 ≡ laidIndex plain (stateOf ws ar (itemTable ws i)) i) t
+        (λ u less e. more-kept i (omega arith) ∙ f .indices-are i l (omega arith))
+        (more-of-table i l) (itemTable ws i) h refl;
   }

@@ -1,4 +1,4 @@
-pub mod OwnLaws
+pub mod OfTableLaws
 pub mod StateLaws
 pub mod BareLaws
 pub mod TableLaws

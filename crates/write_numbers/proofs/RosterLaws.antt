@@ -11,22 +11,22 @@ use Rattle.words.specs.Store.{putAt}
 use Rattle.words.proofs.StoreLaws.{length-put, get-put, get-before}
 use Rattle.model.specs.Builder.{mostTables, mostItems}
 use Rattle.build_memory.specs.Memory.{itemTotal, itemTable}
-use Rattle.image.specs.Number.{hashesOf, bucketStart, itemOf, numberOf}
-use Rattle.build_rules.specs.Whole.{wholeSound}
-use Rattle.build_rules.proofs.WholeFacts.{whole-facts}
-use Rattle.write_numbers.specs.Roster.{stateOf, firstSlot, slotCount, slotItem, itemNumber, bucketWord, Rostered}
-use Rattle.write_numbers.specs.Fill.{slotOf, Fit, Judged, Sized, Filled}
-use Rattle.write_numbers.proofs.OwnLaws.{slot-few}
+use Rattle.image.specs.Index.{hashesOf, bucketStart, itemOf, laidIndex}
+use Rattle.build_rules.specs.Valid.{fullyValid}
+use Rattle.build_rules.proofs.ValidFacts.{whole-facts}
+use Rattle.write_numbers.specs.Roster.{stateOf, firstSlot, slotCount, slotItem, itemIndex, bucketWord, Rostered}
+use Rattle.write_numbers.specs.Fill.{firstSlotOf, Fit, Judged, Sized, Filled}
+use Rattle.write_numbers.proofs.OfTableLaws.{slot-few}
 use Rattle.write_numbers.proofs.StateLaws.{state-members}
 
-pub whole-fit : (ws ar : List ℕ) → wholeSound ws ar ≡ true → Fit ws
+pub whole-fit : (ws ar : List ℕ) → fullyValid ws ar ≡ true → Fit ws
 whole-fit ws ar e = let w = whole-facts ws ar e in record { long = w .facts .long; few = w .facts .items; known = w .table; empty = w .link }
 
-pub whole-judged : (ws ar : List ℕ) → wholeSound ws ar ≡ true → Judged ws ar
+pub whole-judged : (ws ar : List ℕ) → fullyValid ws ar ≡ true → Judged ws ar
 whole-judged ws ar e = record { fit = whole-fit ws ar e; hash = whole-facts ws ar e .hash }
 
-module _ (heads slots numbers buckets r r1 r2 r3 r4 : List ℕ) (long : length r ≡ 3200) (head : length heads ≡ 128) (size : Sized slots numbers buckets)
-    (e1 : r1 ≡ putAt r 0 (take 128 heads)) (e2 : r2 ≡ putAt r1 128 (take 1024 slots)) (e3 : r3 ≡ putAt r2 1152 (take 1024 numbers))
+module _ (heads slots indices buckets r r1 r2 r3 r4 : List ℕ) (long : length r ≡ 3200) (head : length heads ≡ 128) (size : Sized slots indices buckets)
+    (e1 : r1 ≡ putAt r 0 (take 128 heads)) (e2 : r2 ≡ putAt r1 128 (take 1024 slots)) (e3 : r3 ≡ putAt r2 1152 (take 1024 indices))
     (e4 : r4 ≡ putAt r3 2176 (take 1024 buckets)) where
   all-heads : r1 ≡ putAt r 0 heads
   all-heads = e1 ∙ ap (putAt r 0) (take-all 128 heads (omega arith))
@@ -34,8 +34,8 @@ module _ (heads slots numbers buckets r r1 r2 r3 r4 : List ℕ) (long : length r
   all-slots : r2 ≡ putAt r1 128 slots
   all-slots = e2 ∙ ap (putAt r1 128) (take-all 1024 slots (omega (arith, size .of-slots)))
 
-  all-numbers : r3 ≡ putAt r2 1152 numbers
-  all-numbers = e3 ∙ ap (putAt r2 1152) (take-all 1024 numbers (omega (arith, size .of-numbers)))
+  all-indices : r3 ≡ putAt r2 1152 indices
+  all-indices = e3 ∙ ap (putAt r2 1152) (take-all 1024 indices (omega (arith, size .of-indices)))
 
   all-buckets : r4 ≡ putAt r3 2176 buckets
   all-buckets = e4 ∙ ap (putAt r3 2176) (take-all 1024 buckets (omega (arith, size .of-buckets)))
@@ -47,7 +47,7 @@ module _ (heads slots numbers buckets r r1 r2 r3 r4 : List ℕ) (long : length r
   long-2 = ap length all-slots ∙ length-put r1 128 slots ∙ long-1
 
   long-3 : length r3 ≡ 3200
-  long-3 = ap length all-numbers ∙ length-put r2 1152 numbers ∙ long-2
+  long-3 = ap length all-indices ∙ length-put r2 1152 indices ∙ long-2
 
   long-4 : length r4 ≡ 3200
   long-4 = ap length all-buckets ∙ length-put r3 2176 buckets ∙ long-3
@@ -55,11 +55,11 @@ module _ (heads slots numbers buckets r r1 r2 r3 r4 : List ℕ) (long : length r
   below-buckets : (i : ℕ) → i < 2176 → getD r4 i 0 ≡ getD r3 i 0
   below-buckets i h = ap (λ (l : List ℕ). getD l i 0) all-buckets ∙ get-before r3 2176 buckets i h
 
-  below-numbers : (i : ℕ) → i < 1152 → getD r4 i 0 ≡ getD r2 i 0
-  below-numbers i h = below-buckets i (omega arith) ∙ ap (λ (l : List ℕ). getD l i 0) all-numbers ∙ get-before r2 1152 numbers i h
+  below-indices : (i : ℕ) → i < 1152 → getD r4 i 0 ≡ getD r2 i 0
+  below-indices i h = below-buckets i (omega arith) ∙ ap (λ (l : List ℕ). getD l i 0) all-indices ∙ get-before r2 1152 indices i h
 
   below-slots : (i : ℕ) → i < 128 → getD r4 i 0 ≡ getD r1 i 0
-  below-slots i h = below-numbers i (omega arith) ∙ ap (λ (l : List ℕ). getD l i 0) all-slots ∙ get-before r1 128 slots i h
+  below-slots i h = below-indices i (omega arith) ∙ ap (λ (l : List ℕ). getD l i 0) all-slots ∙ get-before r1 128 slots i h
 
   read-head : (i : ℕ) → i < 128 → getD r4 i 0 ≡ getD heads i 0
   read-head i h =
@@ -68,20 +68,20 @@ module _ (heads slots numbers buckets r r1 r2 r3 r4 : List ℕ) (long : length r
 
   read-slot : (s : ℕ) → s < 1024 → getD r4 (128 + s) 0 ≡ getD slots s 0
   read-slot s h =
-      below-numbers (128 + s) (omega arith) ∙ ap (λ (l : List ℕ). getD l (128 + s) 0) all-slots
+      below-indices (128 + s) (omega arith) ∙ ap (λ (l : List ℕ). getD l (128 + s) 0) all-slots
       ∙ get-put r1 128 slots s (omega (arith, size .of-slots, long-1)) (omega (arith, size .of-slots))
 
-  read-number : (i : ℕ) → i < 1024 → getD r4 (1152 + i) 0 ≡ getD numbers i 0
-  read-number i h =
-      below-buckets (1152 + i) (omega arith) ∙ ap (λ (l : List ℕ). getD l (1152 + i) 0) all-numbers
-      ∙ get-put r2 1152 numbers i (omega (arith, size .of-numbers, long-2)) (omega (arith, size .of-numbers))
+  read-index : (i : ℕ) → i < 1024 → getD r4 (1152 + i) 0 ≡ getD indices i 0
+  read-index i h =
+      below-buckets (1152 + i) (omega arith) ∙ ap (λ (l : List ℕ). getD l (1152 + i) 0) all-indices
+      ∙ get-put r2 1152 indices i (omega (arith, size .of-indices, long-2)) (omega (arith, size .of-indices))
 
   read-bucket : (s : ℕ) → s < 1024 → getD r4 (2176 + s) 0 ≡ getD buckets s 0
   read-bucket s h =
       ap (λ (l : List ℕ). getD l (2176 + s) 0) all-buckets ∙ get-put r3 2176 buckets s (omega (arith, size .of-buckets, long-3)) (omega (arith, size .of-buckets))
 
-  module _ (ws ar : List ℕ) (ok : wholeSound ws ar ≡ true) (f : Filled ws ar mostTables heads slots numbers buckets) where
-    first-is : (t : ℕ) → t < mostTables → firstSlot r4 t ≡ slotOf ws t
+  module _ (ws ar : List ℕ) (ok : fullyValid ws ar ≡ true) (f : Filled ws ar mostTables heads slots indices buckets) where
+    first-is : (t : ℕ) → t < mostTables → firstSlot r4 t ≡ firstSlotOf ws t
     unfolding firstSlot
     first-is t h = read-head (2 * t) (omega arith) ∙ f .starts-are t h
 
@@ -89,26 +89,26 @@ module _ (heads slots numbers buckets r r1 r2 r3 r4 : List ℕ) (long : length r
     unfolding slotCount
     count-is t h = read-head (2 * t + 1) (omega arith) ∙ f .counts-are t h
 
-    slots-in : (t : ℕ) → slotOf ws t + length (stateOf ws ar t .members) ≤ mostItems
+    slots-in : (t : ℕ) → firstSlotOf ws t + length (stateOf ws ar t .members) ≤ mostItems
     slots-in t = omega (arith, slot-few ws t, ap length (state-members ws ar t), whole-fit ws ar ok .few)
 
     item-is : (t k : ℕ) → t < mostTables → k < slotCount r4 t → slotItem r4 (firstSlot r4 t + k) ≡ itemOf plain (stateOf ws ar t) k
     unfolding slotItem
     item-is t k h l =
         let few : k < length (stateOf ws ar t .members) = omega (arith, count-is t h) in
-        ap (λ (s : ℕ). getD r4 (128 + (s + k)) 0) (first-is t h) ∙ read-slot (slotOf ws t + k) (omega (arith, slots-in t)) ∙ f .items-are t k h few
+        ap (λ (s : ℕ). getD r4 (128 + (s + k)) 0) (first-is t h) ∙ read-slot (firstSlotOf ws t + k) (omega (arith, slots-in t)) ∙ f .items-are t k h few
 
     bucket-is : (t b : ℕ) → t < mostTables → b < slotCount r4 t → bucketWord r4 (firstSlot r4 t + b) ≡ bucketStart (hashesOf plain (stateOf ws ar t)) b
     unfolding bucketWord
     bucket-is t b h l =
         let few : b < length (stateOf ws ar t .members) = omega (arith, count-is t h) in
-        ap (λ (s : ℕ). getD r4 (2176 + (s + b)) 0) (first-is t h) ∙ read-bucket (slotOf ws t + b) (omega (arith, slots-in t)) ∙ f .buckets-are t b h few
+        ap (λ (s : ℕ). getD r4 (2176 + (s + b)) 0) (first-is t h) ∙ read-bucket (firstSlotOf ws t + b) (omega (arith, slots-in t)) ∙ f .buckets-are t b h few
 
-    number-is : (i : ℕ) → i < itemTotal ws → itemNumber r4 i ≡ numberOf plain (stateOf ws ar (itemTable ws i)) i
-    unfolding itemNumber
-    number-is i l =
+    index-is : (i : ℕ) → i < itemTotal ws → itemIndex r4 i ≡ laidIndex plain (stateOf ws ar (itemTable ws i)) i
+    unfolding itemIndex
+    index-is i l =
         let facts = whole-facts ws ar ok in
-        read-number i (omega (arith, facts .facts .items)) ∙ f .numbers-are i l (omega (arith, facts .table i l, facts .facts .tables))
+        read-index i (omega (arith, facts .facts .items)) ∙ f .indices-are i l (omega (arith, facts .table i l, facts .facts .tables))
 
     pub rostered : Rostered ws ar r4
     rostered = record {
@@ -116,6 +116,6 @@ module _ (heads slots numbers buckets r r1 r2 r3 r4 : List ℕ) (long : length r
       counts = count-is;
       inside = λ t h. omega (arith, first-is t h, count-is t h, slots-in t);
       items = item-is;
-      numbers = number-is;
+      indices = index-is;
       buckets = bucket-is;
     }

@@ -16,8 +16,8 @@ use Rattle.build_memory.specs.Memory.{itemTotal, itemTable, keyOf}
 use Rattle.build_memory.specs.Meaning.{entryOf, listed, meaning}
 use Rattle.write_order.specs.Key.{keyAt, hashAt, Known}
 use Rattle.write_numbers.specs.Roster.{stateOf}
-use Rattle.write_numbers.specs.Fill.{own, owned, Fit, Judged}
-use Rattle.write_numbers.proofs.OwnLaws.{length-own, own-below, own-once}
+use Rattle.write_numbers.specs.Fill.{ofTable, allOfTable, Fit, Judged}
+use Rattle.write_numbers.proofs.OfTableLaws.{length-of-table, of-table-below, of-table-once}
 
 length-listed : (f : ℕ → Entry) (n : ℕ) → length (listed f n) ≡ n
 unfolding listed
@@ -46,27 +46,27 @@ module _ (ws ar : List ℕ) where
   unfolding entryOf keyOf keyAt
   entry-key m i h = ap (λ (e : Entry). e .key) (entry-at m i h)
 
-  members-own : (m t n : ℕ) → n ≤ m → membersBelow (listed (entryOf ws ar) m) t n ≡ own ws t n
-  unfolding membersBelow own
-  members-own m t zero h = refl
-  members-own m t (suc n) h =
+  members-of-table : (m t n : ℕ) → n ≤ m → membersBelow (listed (entryOf ws ar) m) t n ≡ ofTable ws t n
+  unfolding membersBelow ofTable
+  members-of-table m t zero h = refl
+  members-of-table m t (suc n) h =
       let test : eqb (entryAt (listed (entryOf ws ar) m) n .table) t ≡ eqb (itemTable ws n) t = ap (λ (x : ℕ). eqb x t) (entry-table m n (omega arith)) in
       ap (λ (q : Bool). pick q (membersBelow (listed (entryOf ws ar) m) t n ++ (n ∷ [])) (membersBelow (listed (entryOf ws ar) m) t n)) test
-      ∙ ap (λ (l : List ℕ). pick (eqb (itemTable ws n) t) (l ++ (n ∷ [])) l) (members-own m t n (omega arith))
+      ∙ ap (λ (l : List ℕ). pick (eqb (itemTable ws n) t) (l ++ (n ∷ [])) l) (members-of-table m t n (omega arith))
 
-  pub state-members : (t : ℕ) → stateOf ws ar t .members ≡ owned ws t
-  unfolding stateOf rowsOf meaning owned
+  pub state-members : (t : ℕ) → stateOf ws ar t .members ≡ allOfTable ws t
+  unfolding stateOf rowsOf meaning allOfTable
   state-members t =
       ap (membersBelow (listed (entryOf ws ar) (itemTotal ws)) t) (length-listed (entryOf ws ar) (itemTotal ws))
-      ∙ members-own (itemTotal ws) t (itemTotal ws) (omega arith)
+      ∙ members-of-table (itemTotal ws) t (itemTotal ws) (omega arith)
 
   state-key : (t i : ℕ) → i < itemTotal ws → stateOf ws ar t .key i ≡ keyAt ws ar i
   unfolding stateOf rowsOf meaning
   state-key t i h = entry-key (itemTotal ws) i h
 
   pub state-below : (t i : ℕ) → Has (stateOf ws ar t .members) i → i < itemTotal ws
-  unfolding owned
-  state-below t i h = own-below ws i t (itemTotal ws) (rw (state-members t) at h)
+  unfolding allOfTable
+  state-below t i h = of-table-below ws i t (itemTotal ws) (rw (state-members t) at h)
 
   pub state-same : (t i : ℕ) → Has (stateOf ws ar t .members) i → stateOf ws ar t .key i ≡ keyAt ws ar i
   state-same t i h = state-key t i (state-below t i h)
@@ -76,14 +76,14 @@ module _ (ws ar : List ℕ) where
   state-hash t i judged h = judged .hash i (state-below t i h) ∙ ap hashOf (sym (state-same t i h))
 
   pub state-once : (t x : ℕ) → times x (stateOf ws ar t .members) ≤ 1
-  unfolding owned
-  state-once t x = rw (state-members t) (own-once ws x t (itemTotal ws))
+  unfolding allOfTable
+  state-once t x = rw (state-members t) (of-table-once ws x t (itemTotal ws))
 
 -- their records lie in the words
-pub owned-known : (ws : List ℕ) (t : ℕ) → Fit ws → Known ws (owned ws t)
-unfolding Known owned
-owned-known ws t fit i h = omega (arith, own-below ws i t (itemTotal ws) h, fit .long, fit .few)
+pub all-of-table-known : (ws : List ℕ) (t : ℕ) → Fit ws → Known ws (allOfTable ws t)
+unfolding Known allOfTable
+all-of-table-known ws t fit i h = omega (arith, of-table-below ws i t (itemTotal ws) h, fit .long, fit .few)
 
-pub owned-few : (ws : List ℕ) (t : ℕ) → Fit ws → length (owned ws t) ≤ 1024
-unfolding owned
-owned-few ws t fit = omega (arith, length-own ws t (itemTotal ws), fit .few)
+pub all-of-table-few : (ws : List ℕ) (t : ℕ) → Fit ws → length (allOfTable ws t) ≤ 1024
+unfolding allOfTable
+all-of-table-few ws t fit = omega (arith, length-of-table ws t (itemTotal ws), fit .few)

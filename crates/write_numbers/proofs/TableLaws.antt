@@ -8,18 +8,18 @@ use lib.Seq.{length-take-le, getD-take, getD-drop}
 use Rattle.words.specs.Hash.{plain}
 use Rattle.words.specs.Store.{putAt}
 use Rattle.words.proofs.StoreLaws.{part-put, length-put}
-use Rattle.image.specs.Number.{keyOrder, hashesOf, numbered, byNumber}
+use Rattle.image.specs.Index.{keyOrder, hashesOf, byBucket, byIndex}
 use Rattle.image.proofs.OrderLaws.{length-order, times-order}
-use Rattle.image.proofs.NumberLaws.{length-hashes, places-each, length-by-number}
+use Rattle.image.proofs.IndexLaws.{length-hashes, ranks-each, length-by-index}
 use Rattle.write_order.specs.Key.{keyed, hashAt, Known}
 use Rattle.write_order.specs.Chain.{Empty, starts}
 use Rattle.write_order.specs.Items.{AllBelow, hashesIn, itemsAt}
 use Rattle.write_order.proofs.KeyLaws.{order-keyed}
 use Rattle.write_order.proofs.ChainLaws.{length-starts}
-use Rattle.write_order.proofs.ItemLaws.{hashes-order, items-number, numbered-below}
+use Rattle.write_order.proofs.ItemLaws.{hashes-order, items-index, indexed-below}
 use Rattle.write_numbers.specs.Roster.{stateOf}
-use Rattle.write_numbers.specs.Fill.{owned, Fit, Judged, Collected, Ordered, Laid}
-use Rattle.write_numbers.proofs.StateLaws.{state-members, state-same, state-hash, state-below, owned-known, owned-few}
+use Rattle.write_numbers.specs.Fill.{allOfTable, Fit, Judged, Collected, Ordered, IndexedAs}
+use Rattle.write_numbers.proofs.StateLaws.{state-members, state-same, state-hash, state-below, all-of-table-known, all-of-table-few}
 
 -- what was stored at the front is there
 pub take-front : (l xs : List ℕ) (n : ℕ) → length xs ≡ n → n ≤ length l → take n (putAt l 0 xs) ≡ xs
@@ -46,16 +46,16 @@ module _ (ws : List ℕ) (fit : Fit ws) where
 
 module _ (ws : List ℕ) (t n : ℕ) (out out′ : List ℕ) (fit : Fit ws) (room : 1024 ≤ length out) (k : Collected ws t n out out′) where
   pub collected-few : n ≤ 1024
-  collected-few = omega (arith, owned-few ws t fit, k .count)
+  collected-few = omega (arith, all-of-table-few ws t fit, k .count)
 
   pub collected-long : length out′ ≡ length out
-  collected-long = ap length (k .put) ∙ length-put out 0 (owned ws t)
+  collected-long = ap length (k .put) ∙ length-put out 0 (allOfTable ws t)
 
-  collected-is : take n out′ ≡ owned ws t
-  collected-is = ap (take n) (k .put) ∙ take-front out (owned ws t) n (sym (k .count)) (omega (arith, collected-few))
+  collected-is : take n out′ ≡ allOfTable ws t
+  collected-is = ap (take n) (k .put) ∙ take-front out (allOfTable ws t) n (sym (k .count)) (omega (arith, collected-few))
 
   pub collected-known : Known ws (take n out′)
-  collected-known = rw collected-is (owned-known ws t fit)
+  collected-known = rw collected-is (all-of-table-known ws t fit)
 
   pub collected-order : (ar run : List ℕ) → take n run ≡ keyOrder (keyed ws ar (take n out′)) → Ordered ws ar t n run
   collected-order ar run sorted = record {
@@ -67,7 +67,7 @@ module _ (ws : List ℕ) (t n : ℕ) (out out′ : List ℕ) (fit : Fit ws) (roo
 
 module _ (ws ar : List ℕ) (t n : ℕ) (run : List ℕ) (judged : Judged ws ar) (o : Ordered ws ar t n run) where
   pub ordered-few : n ≤ 1024
-  ordered-few = omega (arith, owned-few ws t (judged .fit), o .count, ap length (state-members ws ar t))
+  ordered-few = omega (arith, all-of-table-few ws t (judged .fit), o .count, ap length (state-members ws ar t))
 
   pub ordered-long : length (take n run) ≡ n
   ordered-long = ap length (o .order) ∙ length-order (stateOf ws ar t) ∙ sym (o .count)
@@ -82,29 +82,29 @@ module _ (ws ar : List ℕ) (t n : ℕ) (run : List ℕ) (judged : Judged ws ar)
   ordered-hashes : hashesIn ws (take n run) ≡ hashesOf plain (stateOf ws ar t)
   ordered-hashes = ap (hashesIn ws) (o .order) ∙ hashes-order ws (stateOf ws ar t) (λ i h. state-hash ws ar t i judged h)
 
-  module _ (order order′ : List ℕ) (room : 1024 ≤ length order) (e : order′ ≡ putAt order 0 (numbered (hashesIn ws (take n run)))) where
-    pub places-are : take n order′ ≡ numbered (hashesOf plain (stateOf ws ar t))
+  module _ (order order′ : List ℕ) (room : 1024 ≤ length order) (e : order′ ≡ putAt order 0 (byBucket (hashesIn ws (take n run)))) where
+    pub places-are : take n order′ ≡ byBucket (hashesOf plain (stateOf ws ar t))
     places-are =
-        ap (take n) (e ∙ ap (λ (l : List ℕ). putAt order 0 (numbered l)) ordered-hashes)
-        ∙ take-front order (numbered (hashesOf plain (stateOf ws ar t))) n (places-each plain (stateOf ws ar t) .size ∙ sym (o .count)) (omega (arith, ordered-few))
+        ap (take n) (e ∙ ap (λ (l : List ℕ). putAt order 0 (byBucket l)) ordered-hashes)
+        ∙ take-front order (byBucket (hashesOf plain (stateOf ws ar t))) n (ranks-each plain (stateOf ws ar t) .size ∙ sym (o .count)) (omega (arith, ordered-few))
 
     pub places-long : length (take n order′) ≡ n
-    places-long = ap length places-are ∙ places-each plain (stateOf ws ar t) .size ∙ sym (o .count)
+    places-long = ap length places-are ∙ ranks-each plain (stateOf ws ar t) .size ∙ sym (o .count)
 
     pub places-below : AllBelow (length (take n run)) (take n order′)
-    places-below = rw (places-are, o .order) (numbered-below plain (stateOf ws ar t))
+    places-below = rw (places-are, o .order) (indexed-below plain (stateOf ws ar t))
 
-    items-place : itemsAt (take n run) (take n order′) ≡ byNumber plain (stateOf ws ar t)
+    items-place : itemsAt (take n run) (take n order′) ≡ byIndex plain (stateOf ws ar t)
     items-place =
-        ap (λ (l : List ℕ). itemsAt l (take n order′)) (o .order) ∙ ap (itemsAt (keyOrder (stateOf ws ar t))) places-are ∙ items-number plain (stateOf ws ar t)
+        ap (λ (l : List ℕ). itemsAt l (take n order′)) (o .order) ∙ ap (itemsAt (keyOrder (stateOf ws ar t))) places-are ∙ items-index plain (stateOf ws ar t)
 
     pub laid : (items items′ firsts firsts′ : List ℕ) → 1024 ≤ length items → 1024 ≤ length firsts
         → items′ ≡ putAt items 0 (itemsAt (take n run) (take n order′)) → firsts′ ≡ putAt firsts 0 (starts (hashesIn ws (take n run)))
-        → Laid ws ar t n items′ firsts′
+        → IndexedAs ws ar t n items′ firsts′
     laid items items′ firsts firsts′ in-items in-firsts ei ef = record {
       count = o .count;
       items-are = ap (take n) (ei ∙ ap (putAt items 0) items-place)
-          ∙ take-front items (byNumber plain (stateOf ws ar t)) n (length-by-number plain (stateOf ws ar t) ∙ sym (o .count)) (omega (arith, ordered-few));
+          ∙ take-front items (byIndex plain (stateOf ws ar t)) n (length-by-index plain (stateOf ws ar t) ∙ sym (o .count)) (omega (arith, ordered-few));
       firsts-are = ap (take n) (ef ∙ ap (λ (l : List ℕ). putAt firsts 0 (starts l)) ordered-hashes)
           ∙ take-front firsts (starts (hashesOf plain (stateOf ws ar t))) n
           (length-starts (hashesOf plain (stateOf ws ar t)) ∙ length-hashes plain (stateOf ws ar t) ∙ sym (o .count)) (omega (arith, ordered-few));

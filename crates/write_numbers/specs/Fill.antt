@@ -12,19 +12,19 @@ use Rattle.words.specs.Hash.{hashOf, plain}
 use Rattle.words.specs.Store.{putAt}
 use Rattle.model.specs.Builder.{mostItems}
 use Rattle.build_memory.specs.Memory.{word, leastWords, links, linkAt, emptyMark, tableTotal, itemTotal, itemTable, itemHash, keyOf}
-use Rattle.image.specs.Number.{keyOrder, hashesOf, bucketStart, byNumber, itemOf, numberOf}
+use Rattle.image.specs.Index.{keyOrder, hashesOf, bucketStart, byIndex, itemOf, laidIndex}
 use Rattle.write_order.specs.Chain.{starts}
-use Rattle.write_order.specs.Items.{numbersPut}
+use Rattle.write_order.specs.Items.{indicesPut}
 use Rattle.write_numbers.specs.Roster.{stateOf}
 
 -- the items of table t among the first n
-unfoldable pub own : List ℕ → ℕ → ℕ → List ℕ
-own ws t zero = []
-own ws t (suc n) = pick (eqb (itemTable ws n) t) (own ws t n ++ (n ∷ [])) (own ws t n)
+unfoldable pub ofTable : List ℕ → ℕ → ℕ → List ℕ
+ofTable ws t zero = []
+ofTable ws t (suc n) = pick (eqb (itemTable ws n) t) (ofTable ws t n ++ (n ∷ [])) (ofTable ws t n)
 
 -- the items of table t
-unfoldable pub owned : List ℕ → ℕ → List ℕ
-owned ws t = own ws t (itemTotal ws)
+unfoldable pub allOfTable : List ℕ → ℕ → List ℕ
+allOfTable ws t = ofTable ws t (itemTotal ws)
 
 -- whether table t has one
 abbrev pub inTable : List ℕ → ℕ → ℕ → Bool
@@ -36,11 +36,11 @@ hasItems ws t = someBelow (inTable ws t) (itemTotal ws)
 -- how many of the first n items are in the tables before t
 unfoldable pub earlier : List ℕ → ℕ → ℕ → ℕ
 earlier ws n zero = 0
-earlier ws n (suc t) = earlier ws n t + length (own ws t n)
+earlier ws n (suc t) = earlier ws n t + length (ofTable ws t n)
 
 -- the first slot of table t
-unfoldable pub slotOf : List ℕ → ℕ → ℕ
-slotOf ws t = earlier ws (itemTotal ws) t
+unfoldable pub firstSlotOf : List ℕ → ℕ → ℕ
+firstSlotOf ws t = earlier ws (itemTotal ws) t
 
 -- the words have room for all items that they count, each is in a table that there is, and the links hold the empty mark
 pub record Fit (ws : List ℕ) : Type 0 where
@@ -56,8 +56,8 @@ pub record Judged (ws ar : List ℕ) : Type 0 where
 
 -- the items of table t are collected
 pub record Collected (ws : List ℕ) (t n : ℕ) (out out′ : List ℕ) : Type 0 where
-  pub count : n ≡ length (owned ws t)
-  pub put : out′ ≡ putAt out 0 (owned ws t)
+  pub count : n ≡ length (allOfTable ws t)
+  pub put : out′ ≡ putAt out 0 (allOfTable ws t)
 
 -- they are in the order of their keys
 pub record Ordered (ws ar : List ℕ) (t n : ℕ) (run : List ℕ) : Type 0 where
@@ -65,32 +65,32 @@ pub record Ordered (ws ar : List ℕ) (t n : ℕ) (run : List ℕ) : Type 0 wher
   pub order : take n run ≡ keyOrder (stateOf ws ar t)
 
 -- they are numbered: the item of each number, the word of each bucket
-pub record Laid (ws ar : List ℕ) (t n : ℕ) (items firsts : List ℕ) : Type 0 where
+pub record IndexedAs (ws ar : List ℕ) (t n : ℕ) (items firsts : List ℕ) : Type 0 where
   pub count : n ≡ length (stateOf ws ar t .members)
-  pub items-are : take n items ≡ byNumber plain (stateOf ws ar t)
+  pub items-are : take n items ≡ byIndex plain (stateOf ws ar t)
   pub firsts-are : take n firsts ≡ starts (hashesOf plain (stateOf ws ar t))
 
 -- they are put into the slots from `first` on, their numbers and the words of their buckets too
-pub record Put (ws ar : List ℕ) (t first n : ℕ) (slots slots′ numbers numbers′ buckets buckets′ : List ℕ) : Type 0 where
+pub record Put (ws ar : List ℕ) (t first n : ℕ) (slots slots′ indices indices′ buckets buckets′ : List ℕ) : Type 0 where
   pub count : n ≡ length (stateOf ws ar t .members)
-  pub slots-are : slots′ ≡ putAt slots first (byNumber plain (stateOf ws ar t))
+  pub slots-are : slots′ ≡ putAt slots first (byIndex plain (stateOf ws ar t))
   pub buckets-are : buckets′ ≡ putAt buckets first (starts (hashesOf plain (stateOf ws ar t)))
-  pub numbers-are : numbers′ ≡ numbersPut numbers (byNumber plain (stateOf ws ar t)) (length (byNumber plain (stateOf ws ar t)))
+  pub indices-are : indices′ ≡ indicesPut indices (byIndex plain (stateOf ws ar t)) (length (byIndex plain (stateOf ws ar t)))
 
 -- there is room for the slots of table t
 abbrev pub Fits : List ℕ → ℕ → ℕ → Type 0
-Fits ws t first = first + length (owned ws t) ≤ mostItems
+Fits ws t first = first + length (allOfTable ws t) ≤ mostItems
 
 -- the lists have their lengths
-pub record Sized (slots numbers buckets : List ℕ) : Type 0 where
+pub record Sized (slots indices buckets : List ℕ) : Type 0 where
   pub of-slots : length slots ≡ mostItems
-  pub of-numbers : length numbers ≡ mostItems
+  pub of-indices : length indices ≡ mostItems
   pub of-buckets : length buckets ≡ mostItems
 
 -- the tables before `most` are filled
-pub record Filled (ws ar : List ℕ) (most : ℕ) (heads slots numbers buckets : List ℕ) : Type 0 where
-  pub starts-are : (t : ℕ) → t < most → getD heads (2 * t) 0 ≡ slotOf ws t
+pub record Filled (ws ar : List ℕ) (most : ℕ) (heads slots indices buckets : List ℕ) : Type 0 where
+  pub starts-are : (t : ℕ) → t < most → getD heads (2 * t) 0 ≡ firstSlotOf ws t
   pub counts-are : (t : ℕ) → t < most → getD heads (2 * t + 1) 0 ≡ length (stateOf ws ar t .members)
-  pub items-are : (t k : ℕ) → t < most → k < length (stateOf ws ar t .members) → getD slots (slotOf ws t + k) 0 ≡ itemOf plain (stateOf ws ar t) k
-  pub buckets-are : (t b : ℕ) → t < most → b < length (stateOf ws ar t .members) → getD buckets (slotOf ws t + b) 0 ≡ bucketStart (hashesOf plain (stateOf ws ar t)) b
-  pub numbers-are : (i : ℕ) → i < itemTotal ws → itemTable ws i < most → getD numbers i 0 ≡ numberOf plain (stateOf ws ar (itemTable ws i)) i
+  pub items-are : (t k : ℕ) → t < most → k < length (stateOf ws ar t .members) → getD slots (firstSlotOf ws t + k) 0 ≡ itemOf plain (stateOf ws ar t) k
+  pub buckets-are : (t b : ℕ) → t < most → b < length (stateOf ws ar t .members) → getD buckets (firstSlotOf ws t + b) 0 ≡ bucketStart (hashesOf plain (stateOf ws ar t)) b
+  pub indices-are : (i : ℕ) → i < itemTotal ws → itemTable ws i < most → getD indices i 0 ≡ laidIndex plain (stateOf ws ar (itemTable ws i)) i

@@ -13,13 +13,13 @@ use Rattle.model.specs.Table.{State, rowsOf}
 use Rattle.model.specs.Builder.{mostTables, mostItems}
 use Rattle.build_memory.specs.Memory.{itemTotal, itemTable}
 use Rattle.build_memory.specs.Meaning.{meaning}
-use Rattle.image.specs.Number.{hashesOf, bucketStart, itemOf, numberOf}
+use Rattle.image.specs.Index.{hashesOf, bucketStart, itemOf, laidIndex}
 
 abbrev pub slotsFrom : ℕ
 slotsFrom = 128
 
-abbrev pub numbersFrom : ℕ
-numbersFrom = 1152
+abbrev pub indicesFrom : ℕ
+indicesFrom = 1152
 
 abbrev pub bucketsFrom : ℕ
 bucketsFrom = 2176
@@ -41,8 +41,8 @@ module _ (roster : List ℕ) where
   unfoldable pub slotItem : ℕ → ℕ
   slotItem s = getD roster (slotsFrom + s) 0
 
-  unfoldable pub itemNumber : ℕ → ℕ
-  itemNumber i = getD roster (numbersFrom + i) 0
+  unfoldable pub itemIndex : ℕ → ℕ
+  itemIndex i = getD roster (indicesFrom + i) 0
 
   unfoldable pub bucketWord : ℕ → ℕ
   bucketWord s = getD roster (bucketsFrom + s) 0
@@ -53,5 +53,5 @@ pub record Rostered (ws ar roster : List ℕ) : Type 0 where
   pub counts : (t : ℕ) → t < mostTables → slotCount roster t ≡ length (stateOf ws ar t .members)
   pub inside : (t : ℕ) → t < mostTables → firstSlot roster t + slotCount roster t ≤ mostItems
   pub items : (t k : ℕ) → t < mostTables → k < slotCount roster t → slotItem roster (firstSlot roster t + k) ≡ itemOf plain (stateOf ws ar t) k
-  pub numbers : (i : ℕ) → i < itemTotal ws → itemNumber roster i ≡ numberOf plain (stateOf ws ar (itemTable ws i)) i
+  pub indices : (i : ℕ) → i < itemTotal ws → itemIndex roster i ≡ laidIndex plain (stateOf ws ar (itemTable ws i)) i
   pub buckets : (t b : ℕ) → t < mostTables → b < slotCount roster t → bucketWord roster (firstSlot roster t + b) ≡ bucketStart (hashesOf plain (stateOf ws ar t)) b

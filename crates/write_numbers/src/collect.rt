@@ -1,14 +1,14 @@
 // The items of one table, in the order of their keys.
-use build_memory::place::ITEMS;
-use build_memory::place::TABLE;
-use build_memory::place::TABLES;
-use build_memory::place::item_word;
+use build_memory::fields::ITEMS;
+use build_memory::fields::TABLE;
+use build_memory::fields::TABLES;
+use build_memory::fields::item_word;
 use write_order::sort::sort;
 ghost use mathlib.Core.Path.{_≡_};
 ghost use Prim.Native.Nat.{_≤_};
 ghost use lib.ListN.{length, take};
 ghost use Rattle.model.specs.Builder.{mostItems};
-ghost use Rattle.image.specs.Number.{keyOrder};
+ghost use Rattle.image.specs.Index.{keyOrder};
 ghost use Rattle.write_order.specs.Key.{keyed, Known};
 ghost use Rattle.write_numbers.specs.Fill.{Fit, hasItems, Collected, Ordered};
 

@@ -1,14 +1,14 @@
 // All tables, one behind the other.
 use crate::collect::has_items;
-use crate::table::number_table;
-use write_order::items::number_items;
+use crate::table::index_table;
+use write_order::items::index_items;
 ghost use mathlib.Core.Path.{_≡_};
 ghost use Prim.Native.Nat.{_+_, _≤_};
 ghost use mathlib.Core.Bool.{true};
 ghost use lib.ListN.{length, take};
 ghost use Rattle.words.specs.Store.{putAt};
 ghost use Rattle.model.specs.Builder.{mostTables};
-ghost use Rattle.build_rules.specs.Whole.{wholeSound};
+ghost use Rattle.build_rules.specs.Valid.{fullyValid};
 ghost use Rattle.write_numbers.specs.Roster.{rosterSize, Rostered};
 ghost use Rattle.write_numbers.specs.Fill.{Judged, Fits, Sized, Put, Filled};
 
@@ -31,20 +31,20 @@ fn put_items(
     t: usize,
     first: usize,
     slots: &mut [usize],
-    numbers: &mut [usize],
+    indices: &mut [usize],
     buckets: &mut [usize],
 ) -> usize
     requires { ⌜ Judged (now words) (now arena) × Fits (now words) t first ⌝ }
-    requires { ⌜ Sized (now slots) (now numbers) (now buckets) ⌝ }
+    requires { ⌜ Sized (now slots) (now indices) (now buckets) ⌝ }
     ensures { λ _. ⌜ now (words .exit) ≡ now (words .entry) ⌝ }
-    ensures { λ r. ⌜ Put (now (words .entry)) (now (arena .entry)) t first r (now (slots .entry)) (now (slots .exit)) (now (numbers .entry)) (now (numbers .exit)) (now (buckets .entry)) (now (buckets .exit)) ⌝ }
+    ensures { λ r. ⌜ Put (now (words .entry)) (now (arena .entry)) t first r (now (slots .entry)) (now (slots .exit)) (now (indices .entry)) (now (indices .exit)) (now (buckets .entry)) (now (buckets .exit)) ⌝ }
 {
     let mut items = [0usize; 1024];
     let mut firsts = [0usize; 1024];
-    let n = number_table(words, arena, t, &mut items, &mut firsts);
+    let n = index_table(words, arena, t, &mut items, &mut firsts);
     copy_first(&items, n, slots, first);
     copy_first(&firsts, n, buckets, first);
-    number_items(&items[..n], numbers);
+    index_items(&items[..n], indices);
     n
 }
 
@@ -55,18 +55,18 @@ fn put_table(
     t: usize,
     first: usize,
     slots: &mut [usize],
-    numbers: &mut [usize],
+    indices: &mut [usize],
     buckets: &mut [usize],
 ) -> usize
     requires { ⌜ Judged (now words) (now arena) × Fits (now words) t first ⌝ }
-    requires { ⌜ Sized (now slots) (now numbers) (now buckets) ⌝ }
+    requires { ⌜ Sized (now slots) (now indices) (now buckets) ⌝ }
     ensures { λ _. ⌜ now (words .exit) ≡ now (words .entry) ⌝ }
-    ensures { λ r. ⌜ Put (now (words .entry)) (now (arena .entry)) t first r (now (slots .entry)) (now (slots .exit)) (now (numbers .entry)) (now (numbers .exit)) (now (buckets .entry)) (now (buckets .exit)) ⌝ }
+    ensures { λ r. ⌜ Put (now (words .entry)) (now (arena .entry)) t first r (now (slots .entry)) (now (slots .exit)) (now (indices .entry)) (now (indices .exit)) (now (buckets .entry)) (now (buckets .exit)) ⌝ }
 {
     if !has_items(words, t) {
         return 0;
     }
-    put_items(words, arena, t, first, slots, numbers, buckets)
+    put_items(words, arena, t, first, slots, indices, buckets)
 }
 
 // Fills the slots of all tables, one behind the other; `heads` gets the first slot and the count of each.
@@ -75,18 +75,18 @@ fn fill(
     arena: &[u8],
     heads: &mut [usize],
     slots: &mut [usize],
-    numbers: &mut [usize],
+    indices: &mut [usize],
     buckets: &mut [usize],
 )
     requires { ⌜ Judged (now words) (now arena) × (length (now heads) ≡ mostTables + mostTables) ⌝ }
-    requires { ⌜ Sized (now slots) (now numbers) (now buckets) ⌝ }
+    requires { ⌜ Sized (now slots) (now indices) (now buckets) ⌝ }
     ensures { λ _. ⌜ now (words .exit) ≡ now (words .entry) ⌝ }
-    ensures { λ _. ⌜ Filled (now (words .entry)) (now (arena .entry)) mostTables (now (heads .exit)) (now (slots .exit)) (now (numbers .exit)) (now (buckets .exit)) ⌝ }
+    ensures { λ _. ⌜ Filled (now (words .entry)) (now (arena .entry)) mostTables (now (heads .exit)) (now (slots .exit)) (now (indices .exit)) (now (buckets .exit)) ⌝ }
 {
     let mut t = 0;
     let mut first = 0;
     while t < 64 {
-        let n = put_table(words, arena, t, first, slots, numbers, buckets);
+        let n = put_table(words, arena, t, first, slots, indices, buckets);
         heads[2 * t] = first;
         heads[2 * t + 1] = n;
         first += n;
@@ -96,25 +96,25 @@ fn fill(
 
 // The roster of all tables. The words are used for links, and are as they were.
 pub fn roster_all(words: &mut [usize], arena: &[u8], roster: &mut [usize])
-    requires { ⌜ wholeSound (now words) (now arena) ≡ true ⌝ }
+    requires { ⌜ fullyValid (now words) (now arena) ≡ true ⌝ }
     requires { ⌜ length (now roster) ≡ rosterSize ⌝ }
     ensures { λ _. ⌜ now (words .exit) ≡ now (words .entry) ⌝ }
     ensures { λ _. ⌜ Rostered (now (words .entry)) (now (arena .entry)) (now (roster .exit)) ⌝ }
 {
     let mut heads = [0usize; 128];
     let mut slots = [0usize; 1024];
-    let mut numbers = [0usize; 1024];
+    let mut indices = [0usize; 1024];
     let mut buckets = [0usize; 1024];
     fill(
         words,
         arena,
         &mut heads,
         &mut slots,
-        &mut numbers,
+        &mut indices,
         &mut buckets,
     );
     copy_first(&heads, 128, roster, 0);
     copy_first(&slots, 1024, roster, 128);
-    copy_first(&numbers, 1024, roster, 1152);
+    copy_first(&indices, 1024, roster, 1152);
     copy_first(&buckets, 1024, roster, 2176);
 }

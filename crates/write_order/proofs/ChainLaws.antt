@@ -9,7 +9,7 @@ use native.Mathlib.Omega.{arith}
 use lib.ListN.{length, getD, set, length-set, length-append, replicate, getD-replicate, length-replicate, List·getD-append}
 use lib.Seq.{ext-getD, getD-set-same, getD-set-other, getD-at}
 use Rattle.model.specs.Table.{times}
-use Rattle.image.specs.Number.{bucketOf, run, bucketStart}
+use Rattle.image.specs.Index.{bucketOf, run, bucketStart}
 use Rattle.image.proofs.TimesLaws.{eq-or-ne, times-here, times-cons}
 use Rattle.image.proofs.RunLaws.{run-hit, run-cases, run-above, run-other}
 use Rattle.write_order.specs.Chain.{mark, startsBelow, starts, Empty, EmptyFrom, Chain, Chained, cleared}

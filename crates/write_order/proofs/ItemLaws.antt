@@ -13,12 +13,12 @@ use Rattle.words.specs.Store.{putAt}
 use Rattle.words.specs.Hash.{hashOf, hashBy, plain}
 use Rattle.words.proofs.StoreLaws.{put-none, put-snoc}
 use Rattle.model.specs.Table.{Rows, times, Has}
-use Rattle.image.specs.Number.{keyOrder, hashesOf, numbered, byNumber, indexIn, numberOf}
+use Rattle.image.specs.Index.{keyOrder, hashesOf, byBucket, byIndex, indexIn, laidIndex}
 use Rattle.image.proofs.TimesLaws.{times-here, times-cons, index-stands}
 use Rattle.image.proofs.OrderLaws.{length-order, times-order}
-use Rattle.image.proofs.NumberLaws.{places-each, numbering}
+use Rattle.image.proofs.IndexLaws.{ranks-each, numbering}
 use Rattle.write_order.specs.Key.{hashAt}
-use Rattle.write_order.specs.Items.{AllBelow, hashesIn, itemsAt, numbersPut}
+use Rattle.write_order.specs.Items.{AllBelow, hashesIn, itemsAt, indicesPut}
 
 -- ---- lists made one by one
 
@@ -56,52 +56,52 @@ unfolding hashesIn hashesOf
 hashes-order words table same =
     map-same (hashAt words) (λ (i : ℕ). hashBy plain (table .key i)) (keyOrder table) (λ x h. same x (rw (times-order table x) at h))
 
-pub items-number : (rule : ℕ → ℕ) (table : Rows) → itemsAt (keyOrder table) (numbered (hashesOf rule table)) ≡ byNumber rule table
-unfolding itemsAt byNumber
-items-number rule table = refl
+pub items-index : (rule : ℕ → ℕ) (table : Rows) → itemsAt (keyOrder table) (byBucket (hashesOf rule table)) ≡ byIndex rule table
+unfolding itemsAt byIndex
+items-index rule table = refl
 
 -- the places of the numbers are places of the key order
-pub numbered-below : (rule : ℕ → ℕ) (table : Rows) → AllBelow (length (keyOrder table)) (numbered (hashesOf rule table))
+pub indexed-below : (rule : ℕ → ℕ) (table : Rows) → AllBelow (length (keyOrder table)) (byBucket (hashesOf rule table))
 unfolding AllBelow
-numbered-below rule table k h =
-    let each = places-each rule table in
+indexed-below rule table k h =
+    let each = ranks-each rule table in
     omega (arith, each .within k (omega (arith, each .size)), length-order table)
 
 -- ---- numbers of items
 
-module _ (numbers items : List ℕ) where
-  pub length-numbers : (k : ℕ) → length (numbersPut numbers items k) ≡ length numbers
-  unfolding numbersPut
-  length-numbers zero = refl
-  length-numbers (suc k) = length-set (numbersPut numbers items k) (getD items k 0) k ∙ length-numbers k
+module _ (indices items : List ℕ) where
+  pub length-indices : (k : ℕ) → length (indicesPut indices items k) ≡ length indices
+  unfolding indicesPut
+  length-indices zero = refl
+  length-indices (suc k) = length-set (indicesPut indices items k) (getD items k 0) k ∙ length-indices k
 
-  pub numbers-start : numbers ≡ numbersPut numbers items 0
-  unfolding numbersPut
-  numbers-start = refl
+  pub indices-start : indices ≡ indicesPut indices items 0
+  unfolding indicesPut
+  indices-start = refl
 
-  pub numbers-turn : (k : ℕ) → set (numbersPut numbers items k) (getD items k 0) k ≡ numbersPut numbers items (k + 1)
-  unfolding numbersPut
-  numbers-turn k = rw add-one
+  pub indices-turn : (k : ℕ) → set (indicesPut indices items k) (getD items k 0) k ≡ indicesPut indices items (k + 1)
+  unfolding indicesPut
+  indices-turn k = rw add-one
 
   -- an item that stands once gets its number
-  numbers-at : ((j k : ℕ) → j < length items → k < length items → getD items j 0 ≡ getD items k 0 → j ≡ k) → AllBelow (length numbers) items
-      → (n k : ℕ) → n ≤ length items → k < n → getD (numbersPut numbers items n) (getD items k 0) 0 ≡ k
-  unfolding numbersPut AllBelow
-  numbers-at once below zero k h l = absurd (omega arith)
-  numbers-at once below (suc n) k h l =
+  indices-at : ((j k : ℕ) → j < length items → k < length items → getD items j 0 ≡ getD items k 0 → j ≡ k) → AllBelow (length indices) items
+      → (n k : ℕ) → n ≤ length items → k < n → getD (indicesPut indices items n) (getD items k 0) 0 ≡ k
+  unfolding indicesPut AllBelow
+  indices-at once below zero k h l = absurd (omega arith)
+  indices-at once below (suc n) k h l =
       ⊎-elim
-      (λ e. rw e (getD-set-same (numbersPut numbers items n) (getD items n 0) n 0 (omega (arith, below n (omega arith), length-numbers n))))
-      (λ less. getD-set-other (numbersPut numbers items n) (getD items n 0) (getD items k 0) n 0
+      (λ e. rw e (getD-set-same (indicesPut indices items n) (getD items n 0) n 0 (omega (arith, below n (omega arith), length-indices n))))
+      (λ less. getD-set-other (indicesPut indices items n) (getD items n 0) (getD items k 0) n 0
       (λ q. let e : k ≡ n = once k n (omega arith) (omega arith) q in omega arith)
-      ∙ numbers-at once below n k (omega arith) less)
+      ∙ indices-at once below n k (omega arith) less)
       (eq-or-lt-of-le (le-of-suc-le-suc l))
 
 -- every member's number is that of the definition
-pub numbers-of : (rule : ℕ → ℕ) (table : Rows) (numbers : List ℕ) → ((x : ℕ) → times x (table .members) ≤ 1) → AllBelow (length numbers) (byNumber rule table)
-    → (i : ℕ) → Has (table .members) i → getD (numbersPut numbers (byNumber rule table) (length (byNumber rule table))) i 0 ≡ numberOf rule table i
-unfolding numberOf
-numbers-of rule table numbers one below i h =
+pub indices-of : (rule : ℕ → ℕ) (table : Rows) (indices : List ℕ) → ((x : ℕ) → times x (table .members) ≤ 1) → AllBelow (length indices) (byIndex rule table)
+    → (i : ℕ) → Has (table .members) i → getD (indicesPut indices (byIndex rule table) (length (byIndex rule table))) i 0 ≡ laidIndex rule table i
+unfolding laidIndex
+indices-of rule table indices one below i h =
     let n = numbering rule table one in
-    let s = index-stands (byNumber rule table) i (n .all i h) in
-    let at = numbers-at numbers (byNumber rule table) (λ j k a b e. n .once j k (omega (arith, n .size)) (omega (arith, n .size)) e) below (length (byNumber rule table)) (indexIn (byNumber rule table) i) (omega arith) (s .within) in
-    ap (λ (x : ℕ). getD (numbersPut numbers (byNumber rule table) (length (byNumber rule table))) x 0) (sym (s .is)) ∙ at
+    let s = index-stands (byIndex rule table) i (n .all i h) in
+    let at = indices-at indices (byIndex rule table) (λ j k a b e. n .once j k (omega (arith, n .size)) (omega (arith, n .size)) e) below (length (byIndex rule table)) (indexIn (byIndex rule table) i) (omega arith) (s .within) in
+    ap (λ (x : ℕ). getD (indicesPut indices (byIndex rule table) (length (byIndex rule table))) x 0) (sym (s .is)) ∙ at

@@ -5,7 +5,7 @@ use Prim.Native.Nat.{ℕ, _+_, _-_, _≤_, _<_}
 use native.Mathlib.Omega.{arith}
 use lib.ListN.{length, take, drop, getD, take-append-drop}
 use Rattle.model.specs.Table.{Rows, times, Has}
-use Rattle.image.specs.Number.{sortKeys, keyOrder}
+use Rattle.image.specs.Index.{sortKeys, keyOrder}
 use Rattle.image.proofs.TimesLaws.{times-append, times-some}
 use Rattle.image.proofs.OrderLaws.{sort-same, order-same, length-order, times-order}
 use Rattle.write_order.specs.Key.{recordAt, keyAt, keyed, Known}

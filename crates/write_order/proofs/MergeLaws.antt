@@ -14,7 +14,7 @@ use Rattle.words.proofs.StoreLaws.{part-put}
 use Rattle.text.specs.Order.{precedes}
 use Rattle.text.proofs.OrderLaws.{transitive}
 use Rattle.model.specs.Table.{Rows}
-use Rattle.image.specs.Number.{insertKey, sortKeys, keyOrder}
+use Rattle.image.specs.Index.{insertKey, sortKeys, keyOrder}
 use Rattle.image.proofs.OrderLaws.{not-before}
 use Rattle.write_order.specs.Key.{keyAt, keyed}
 use Rattle.write_order.specs.Merge.{rightFirst, mergedFrom, merged}

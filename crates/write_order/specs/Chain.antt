@@ -5,7 +5,7 @@ use mathlib.Core.List.{List, [], _∷_, _++_}
 use lib.ListN.{length, getD, set}
 use Rattle.words.specs.Store.{putAt}
 use Rattle.model.specs.Table.{times}
-use Rattle.image.specs.Number.{run, bucketStart}
+use Rattle.image.specs.Index.{run, bucketStart}
 
 -- the mark of a chain's end
 abbrev pub mark : ℕ

@@ -17,6 +17,6 @@ unfoldable pub itemsAt : List ℕ → List ℕ → List ℕ
 itemsAt run places = map (λ (place : ℕ). getD run place 0) places
 
 -- the numbers 0, 1, .. of the first k items, each stored at its item
-unfoldable pub numbersPut : List ℕ → List ℕ → ℕ → List ℕ
-numbersPut numbers items zero = numbers
-numbersPut numbers items (suc k) = set (numbersPut numbers items k) (getD items k 0) k
+unfoldable pub indicesPut : List ℕ → List ℕ → ℕ → List ℕ
+indicesPut indices items zero = indices
+indicesPut indices items (suc k) = set (indicesPut indices items k) (getD items k 0) k

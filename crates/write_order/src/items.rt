@@ -5,7 +5,7 @@ ghost use Prim.Native.Nat.{_≤_};
 ghost use lib.ListN.{length};
 ghost use Rattle.words.specs.Store.{putAt};
 ghost use Rattle.write_order.specs.Key.{Known};
-ghost use Rattle.write_order.specs.Items.{AllBelow, hashesIn, itemsAt, numbersPut};
+ghost use Rattle.write_order.specs.Items.{AllBelow, hashesIn, itemsAt, indicesPut};
 
 // The hashes of the items of `run`, in its order.
 pub fn hash_all(words: &[usize], run: &[usize], hashes: &mut [usize])
@@ -33,14 +33,14 @@ pub fn items_at(run: &[usize], order: &[usize], items: &mut [usize])
 }
 
 // Stores the number of each item of `items` at the item's place in `numbers`.
-pub fn number_items(items: &[usize], numbers: &mut [usize])
-    requires { ⌜ AllBelow (length (now numbers)) (now items) ⌝ }
-    ensures { λ _. ⌜ now (numbers .exit) ≡ numbersPut (now (numbers .entry)) (now (items .entry)) (length (now (items .entry))) ⌝ }
+pub fn index_items(items: &[usize], indices: &mut [usize])
+    requires { ⌜ AllBelow (length (now indices)) (now items) ⌝ }
+    ensures { λ _. ⌜ now (indices .exit) ≡ indicesPut (now (indices .entry)) (now (items .entry)) (length (now (items .entry))) ⌝ }
 {
     let mut k = 0;
     while k < items.len() {
         let item = items[k];
-        numbers[item] = k;
+        indices[item] = k;
         k += 1;
     }
 }

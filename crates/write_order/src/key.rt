@@ -1,10 +1,10 @@
 // The key of an item: a part of the arena, where the item's record in the words says.
-use build_memory::place::HASH;
-use build_memory::place::ITEM_SIZE;
-use build_memory::place::ITEMS_FROM;
-use build_memory::place::KEY;
-use build_memory::place::KEY_SIZE;
-use build_memory::place::part_of;
+use build_memory::fields::HASH;
+use build_memory::fields::ITEM_SIZE;
+use build_memory::fields::ITEMS_FROM;
+use build_memory::fields::KEY;
+use build_memory::fields::KEY_SIZE;
+use build_memory::fields::part_of;
 use text::keyorder::less;
 ghost use mathlib.Core.Path.{_≡_};
 ghost use Prim.Native.Nat.{_+_, _≤_};

@@ -4,7 +4,7 @@ ghost use mathlib.Core.Path.{_≡_};
 ghost use Prim.Native.Nat.{_≤_};
 ghost use lib.ListN.{length, take, drop};
 ghost use Rattle.words.specs.Store.{putAt};
-ghost use Rattle.image.specs.Number.{keyOrder};
+ghost use Rattle.image.specs.Index.{keyOrder};
 ghost use Rattle.write_order.specs.Key.{keyAt, keyed, Known};
 ghost use Rattle.write_order.specs.Merge.{rightFirst, merged};
 

@@ -1,7 +1,7 @@
 -- `build_nested::insert::insert_table` meets its contract: 29, or what sound memory gives. Assumes nothing.
-use Rattle.build_nested.proofs.NestLaws.{table-unsound, table-sound}
-use Rattle.build_nested.specs.Nest.{tableSound}
-use Rattle.build_memory.proofs.MemoryLaws.{sound-facts}
+use Rattle.build_nested.proofs.NestLaws.{table-invalid, nest-at-key}
+use Rattle.build_nested.specs.Nest.{nestAtKey}
+use Rattle.build_memory.proofs.MemoryLaws.{valid-facts}
 use borrow.Author.Tests.{not-true, not-false}
 use Prim.Native.Nat.{ℕ}
 use mathlib.Core.Path.{sym, ap, _∙_}
@@ -19,7 +19,7 @@ same-length-2 : tie.Need-same-length-2
 same-length-2 c = search needs
 
 returns : tie.Need-returns
-returns c = table-unsound _ _ _ _ _ (sym (c .before .judge .ensures) ∙ not-true _ (c .if1 .taken))
+returns c = table-invalid _ _ _ _ _ (sym (c .before .judge .ensures) ∙ not-true _ (c .if1 .taken))
 
 word-size-requires : tie.Need-word-size-requires
 word-size-requires c κs = search needs
@@ -27,8 +27,8 @@ word-size-requires c κs = search needs
 word-size-requires-2 : tie.Need-word-size-requires-2
 word-size-requires-2 c κs = search needs
 
-table-sound-requires : tie.Need-table-sound-requires
-table-sound-requires c κs = sound-facts _ _ (sym (c .before .before .before .before .before .judge .ensures) ∙ not-false _ (c .before .before .before .before .if1 .left))
+nest-at-key-requires : tie.Need-nest-at-key-requires
+nest-at-key-requires c κs = valid-facts _ _ (sym (c .before .before .before .before .before .judge .ensures) ∙ not-false _ (c .before .before .before .before .if1 .left))
 
 same-length-3 : tie.Need-same-length-3
 same-length-3 c = search needs
@@ -38,10 +38,10 @@ same-length-4 c = search needs
 
 returns-2 : tie.Need-returns-2
 returns-2 c = let a = c .before .before .before .before .before .before .before .before .before .before .before .before .before .before .before .before .args in
-    c .before .before .before .before .table-sound .ensures
-    ∙ ap (λ (t : ℕ). tableSound (a .words .now) (a .arena .now) t (a .key .now) (c .before .before .before .before .before .before .before .word-size2 .result)) (c .before .before .before .before .before .before .before .before .word-size .ensures .0)
-    ∙ ap (λ (g : ℕ). tableSound (a .words .now) (a .arena .now) (a .table) (a .key .now) g) (c .before .before .before .before .before .before .before .word-size2 .ensures .0)
-    ∙ table-sound _ _ _ _ _ (sym (c .before .before .before .before .before .before .before .before .before .before .judge .ensures) ∙ not-false _ (c .before .before .before .before .before .before .before .before .before .if1 .left))
+    c .before .before .before .before .nest-at-key .ensures
+    ∙ ap (λ (t : ℕ). nestAtKey (a .words .now) (a .arena .now) t (a .key .now) (c .before .before .before .before .before .before .before .word-size2 .result)) (c .before .before .before .before .before .before .before .before .word-size .ensures .0)
+    ∙ ap (λ (g : ℕ). nestAtKey (a .words .now) (a .arena .now) (a .table) (a .key .now) g) (c .before .before .before .before .before .before .before .word-size2 .ensures .0)
+    ∙ nest-at-key _ _ _ _ _ (sym (c .before .before .before .before .before .before .before .before .before .before .judge .ensures) ∙ not-false _ (c .before .before .before .before .before .before .before .before .before .if1 .left))
 
 pub insert-table-spec : {M : Type 1} → statement M
 insert-table-spec =
@@ -53,7 +53,7 @@ insert-table-spec =
     returns
     word-size-requires
     word-size-requires-2
-    table-sound-requires
+    nest-at-key-requires
     same-length-3
     same-length-4
     returns-2)

@@ -1,5 +1,5 @@
 -- `build_rules::guest::guest_placed` meets its contract. Assumes nothing.
-use Rattle.build_rules.proofs.WholeLaws.{guest-unknown, guest-known}
+use Rattle.build_rules.proofs.ValidLaws.{guest-unknown, guest-known}
 use borrow.Author.Needs.{needs}
 use Rattle.build_rules.proofs.guest.guest_placed.Statement.{statement}
 use Rattle.build_rules.proofs.guest.guest_placed.Tie as tie

@@ -1,5 +1,5 @@
 -- `build_rules::guest::height_limit` meets its contract. Assumes nothing.
-use Rattle.build_rules.proofs.WholeLaws.{limit-loose, limit-placed}
+use Rattle.build_rules.proofs.ValidLaws.{limit-loose, limit-placed}
 use mathlib.Core.Path.{sym, _∙_}
 use borrow.Author.Needs.{needs}
 use Rattle.build_rules.proofs.guest.height_limit.Statement.{statement}

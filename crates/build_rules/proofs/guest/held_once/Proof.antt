@@ -1,6 +1,6 @@
 -- `build_rules::guest::held_once` meets its contract. The invariant: the marks are the tables that the items passed hold, and no item passed holds one twice. Assumes nothing.
-use Rattle.build_rules.proofs.WholeLaws.{guest-low, Met, met-none, met-pass, met-mark, once-pass, once-twice, once-first}
-use Rattle.build_rules.specs.Whole.{heldOnce}
+use Rattle.build_rules.proofs.ValidLaws.{guest-low, Met, met-none, met-pass, met-mark, once-pass, once-twice, once-first}
+use Rattle.build_rules.specs.Valid.{heldOnce}
 use Rattle.build_memory.specs.Memory.{itemTotal}
 use Rattle.model.specs.Builder.{mostTables}
 use Rattle.words.proofs.BelowLaws.{all-fails, all-turn}

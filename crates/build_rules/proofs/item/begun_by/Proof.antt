@@ -1,5 +1,5 @@
 -- `build_rules::item::begun_by` meets its contract. Assumes nothing.
-use Rattle.build_rules.proofs.WholeLaws.{begun-long, begun-short}
+use Rattle.build_rules.proofs.ValidLaws.{begun-long, begun-short}
 use lib.ListN.{length}
 use lib.Seq.{length-take-le}
 use native.Mathlib.Omega.{arith}

@@ -1,5 +1,5 @@
 -- `build_rules::item::ends_within` meets its contract. Assumes nothing.
-use Rattle.build_rules.proofs.WholeLaws.{ends-before, ends-after}
+use Rattle.build_rules.proofs.ValidLaws.{ends-before, ends-after}
 use Rattle.build_rules.proofs.item.ends_within.Statement.{statement}
 use Rattle.build_rules.proofs.item.ends_within.Tie as tie
 

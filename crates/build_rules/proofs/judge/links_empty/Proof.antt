@@ -1,5 +1,5 @@
 -- `build_rules::judge::links_empty` meets its contract. The invariant: the links that were passed are empty. Assumes nothing.
-use Rattle.build_rules.specs.Whole.{linkEmpty}
+use Rattle.build_rules.specs.Valid.{linkEmpty}
 use Rattle.build_memory.specs.Memory.{links}
 use Rattle.words.proofs.BelowLaws.{all-fails, all-turn}
 use Rattle.words.specs.Below.{allBelow}

@@ -1,6 +1,6 @@
 -- `build_tables::add::new_table` meets its contract: 29, 28, or what adding the table gives. Assumes nothing.
-use Rattle.build_tables.proofs.TableLaws.{table-unsound, table-outside, table-inside}
-use Rattle.build_memory.proofs.MemoryLaws.{sound-facts}
+use Rattle.build_tables.proofs.TableLaws.{table-invalid, table-outside, table-inside}
+use Rattle.build_memory.proofs.MemoryLaws.{valid-facts}
 use borrow.Author.Tests.{not-true, not-false}
 use mathlib.Core.Path.{sym, _∙_}
 use borrow.Author.Needs.{needs}
@@ -14,7 +14,7 @@ same-length : tie.Need-same-length
 same-length c = search needs
 
 returns : tie.Need-returns
-returns c = table-unsound _ _ _ (sym (c .before .judge .ensures) ∙ not-true _ (c .if1 .taken))
+returns c = table-invalid _ _ _ (sym (c .before .judge .ensures) ∙ not-true _ (c .if1 .taken))
 
 separator-word-requires : tie.Need-separator-word-requires
 separator-word-requires c κs = search needs
@@ -26,7 +26,7 @@ returns-2 : tie.Need-returns-2
 returns-2 c = table-outside _ _ _ (sym (c .before .before .before .judge .ensures) ∙ not-false _ (c .before .before .if1 .left)) _ (c .before .separator-word .ensures) (c .if2 .taken)
 
 add-table-requires : tie.Need-add-table-requires
-add-table-requires c κs = sound-facts _ _ (sym (c .before .before .before .before .judge .ensures) ∙ not-false _ (c .before .before .before .if1 .left))
+add-table-requires c κs = valid-facts _ _ (sym (c .before .before .before .before .judge .ensures) ∙ not-false _ (c .before .before .before .if1 .left))
 
 same-length-3 : tie.Need-same-length-3
 same-length-3 c = search needs

@@ -1,7 +1,7 @@
 -- `build_tables::count::item_count` meets its contract: 29, 24, or the count. Assumes nothing.
-use Rattle.build_tables.proofs.TableLaws.{count-unsound, count-unknown, count-known}
+use Rattle.build_tables.proofs.TableLaws.{count-invalid, count-unknown, count-known}
 use Rattle.build_tables.specs.Table.{countOf}
-use Rattle.build_memory.proofs.MemoryLaws.{sound-facts}
+use Rattle.build_memory.proofs.MemoryLaws.{valid-facts}
 use Rattle.build_memory.specs.Memory.{itemTotal}
 use borrow.Author.Tests.{not-true, not-false}
 use native.Mathlib.Omega.{arith}
@@ -15,19 +15,19 @@ judge-requires : tie.Need-judge-requires
 judge-requires c κs = search needs
 
 returns : tie.Need-returns
-returns c = count-unsound _ _ _ (sym (c .before .judge .ensures) ∙ not-true _ (c .if1 .taken))
+returns c = count-invalid _ _ _ (sym (c .before .judge .ensures) ∙ not-true _ (c .if1 .taken))
 
 word-size-requires : tie.Need-word-size-requires
 word-size-requires c κs = search needs
 
 shared-slice-read-if2 : tie.Need-shared-slice-read-if2
-shared-slice-read-if2 c = let s = sound-facts _ _ (sym (c .before .before .before .judge .ensures) ∙ not-false _ (c .before .before .if1 .left)) in omega arith
+shared-slice-read-if2 c = let s = valid-facts _ _ (sym (c .before .before .before .judge .ensures) ∙ not-false _ (c .before .before .if1 .left)) in omega arith
 
 returns-2 : tie.Need-returns-2
 returns-2 c = count-unknown _ _ _ (sym (c .before .before .before .before .judge .ensures) ∙ not-false _ (c .before .before .before .if1 .left)) (omega arith)
 
 count-of-requires : tie.Need-count-of-requires
-count-of-requires c κs = let s = sound-facts _ _ (sym (c .before .before .before .before .judge .ensures) ∙ not-false _ (c .before .before .before .if1 .left)) in omega arith
+count-of-requires c κs = let s = valid-facts _ _ (sym (c .before .before .before .before .judge .ensures) ∙ not-false _ (c .before .before .before .if1 .left)) in omega arith
 
 narrow-requires : tie.Need-narrow-requires
 narrow-requires c κs = search needs

@@ -11,7 +11,7 @@ table-word-requires c κs = search needs
 make-containers-requires : tie.Need-make-containers-requires
 make-containers-requires c κs = let p = c .before .before .before .before .before .before .before .before .pre in
     let t = c .before .before .table-word .ensures in (
-      (p .0 .sound-memory .long, p .1 .0 .0),
+      (p .0 .valid-memory .long, p .1 .0 .0),
       (p .1 .0 .1, (rw t (omega arith), rw t (omega arith))),
     )
 

@@ -1,7 +1,7 @@
 -- `build_values::insert::insert_value` meets its contract: 29, or what sound memory gives. Assumes nothing.
-use Rattle.build_values.proofs.InsertLaws.{value-unsound, value-sound}
-use Rattle.build_values.specs.Insert.{insertSound}
-use Rattle.build_memory.proofs.MemoryLaws.{sound-facts}
+use Rattle.build_values.proofs.InsertLaws.{value-invalid, value-valid}
+use Rattle.build_values.specs.Insert.{insertAtKey}
+use Rattle.build_memory.proofs.MemoryLaws.{valid-facts}
 use borrow.Author.Tests.{not-true, not-false}
 use Prim.Native.Nat.{ℕ}
 use mathlib.Core.Path.{sym, ap, _∙_}
@@ -19,13 +19,13 @@ same-length-2 : tie.Need-same-length-2
 same-length-2 c = search needs
 
 returns : tie.Need-returns
-returns c = value-unsound _ _ _ _ _ (sym (c .before .judge .ensures) ∙ not-true _ (c .if1 .taken))
+returns c = value-invalid _ _ _ _ _ (sym (c .before .judge .ensures) ∙ not-true _ (c .if1 .taken))
 
 word-size-requires : tie.Need-word-size-requires
 word-size-requires c κs = search needs
 
-insert-sound-requires : tie.Need-insert-sound-requires
-insert-sound-requires c κs = sound-facts _ _ (sym (c .before .before .before .before .judge .ensures) ∙ not-false _ (c .before .before .before .if1 .left))
+insert-at-key-requires : tie.Need-insert-at-key-requires
+insert-at-key-requires c κs = valid-facts _ _ (sym (c .before .before .before .before .judge .ensures) ∙ not-false _ (c .before .before .before .if1 .left))
 
 same-length-3 : tie.Need-same-length-3
 same-length-3 c = search needs
@@ -35,9 +35,9 @@ same-length-4 c = search needs
 
 returns-2 : tie.Need-returns-2
 returns-2 c = let a = c .before .before .before .before .before .before .before .before .before .before .before .before .before .before .before .before .args in
-    c .before .before .before .before .insert-sound .ensures
-    ∙ ap (λ (t : ℕ). insertSound (a .words .now) (a .arena .now) t (a .key .now) (a .value .now)) (c .before .before .before .before .before .before .before .word-size .ensures .0)
-    ∙ value-sound _ _ _ _ _ (sym (c .before .before .before .before .before .before .before .before .before .judge .ensures) ∙ not-false _ (c .before .before .before .before .before .before .before .before .if1 .left))
+    c .before .before .before .before .insert-at-key .ensures
+    ∙ ap (λ (t : ℕ). insertAtKey (a .words .now) (a .arena .now) t (a .key .now) (a .value .now)) (c .before .before .before .before .before .before .before .word-size .ensures .0)
+    ∙ value-valid _ _ _ _ _ (sym (c .before .before .before .before .before .before .before .before .before .judge .ensures) ∙ not-false _ (c .before .before .before .before .before .before .before .before .if1 .left))
 
 pub insert-value-spec : {M : Type 1} → statement M
 insert-value-spec =
@@ -48,7 +48,7 @@ insert-value-spec =
     same-length-2
     returns
     word-size-requires
-    insert-sound-requires
+    insert-at-key-requires
     same-length-3
     same-length-4
     returns-2)

@@ -1,6 +1,6 @@
 -- `check_keys::search::compare_item` meets its contract: each return is one law of an item. Assumes nothing.
 use mathlib.Core.Path.{sym, _∙_, subst}
-use Rattle.check_keys.specs.Place.{BackPassed}
+use Rattle.check_keys.specs.Front.{BackPassed}
 use Rattle.check_keys.proofs.SameLaws.{same-refused, same-outside, root-over, up-over, ended-differs}
 use borrow.Author.Needs.{needs}
 use Rattle.check_keys.proofs.search.compare_item.Statement.{statement}

@@ -25,13 +25,13 @@ returns : tie.Need-returns Inv-loop μ-loop
 unfolding firstOf pick
 returns c = sym (first-turn _ _ _ _ (c .before .loop-test .taken) ∙ simp (le-leb _ _ (c .if1 .taken))) ∙ c .before .before .loop .inv
 
-own-matches-requires : tie.Need-own-matches-requires Inv-loop μ-loop
-own-matches-requires c κs = search needs
+joined-matches-requires : tie.Need-joined-matches-requires Inv-loop μ-loop
+joined-matches-requires c κs = search needs
 
 returns-2 : tie.Need-returns-2 Inv-loop μ-loop
 unfolding firstOf pick
 returns-2 c =
-    sym (first-turn _ _ _ _ (c .before .before .before .loop-test .taken) ∙ simp (lt-leb _ _ (c .before .before .if1 .left), sym (c .before .own-matches .ensures) ∙ c .if2 .taken))
+    sym (first-turn _ _ _ _ (c .before .before .before .loop-test .taken) ∙ simp (lt-leb _ _ (c .before .before .if1 .left), sym (c .before .joined-matches .ensures) ∙ c .if2 .taken))
     ∙ c .before .before .before .before .loop .inv
 
 add-at : tie.Need-add-at Inv-loop μ-loop
@@ -43,7 +43,7 @@ loop-less c = search needs
 loop-again : tie.Need-loop-again Inv-loop μ-loop
 unfolding pick
 loop-again c =
-    sym (first-turn _ _ _ _ (c .before .before .before .loop-test .taken) ∙ simp (lt-leb _ _ (c .before .before .if1 .left), sym (c .before .own-matches .ensures) ∙ c .if2 .left))
+    sym (first-turn _ _ _ _ (c .before .before .before .loop-test .taken) ∙ simp (lt-leb _ _ (c .before .before .if1 .left), sym (c .before .joined-matches .ensures) ∙ c .if2 .left))
     ∙ c .before .before .before .before .loop .inv
 
 returns-3 : tie.Need-returns-3 Inv-loop μ-loop
@@ -58,7 +58,7 @@ first-same-spec =
     μ-loop
     loop-holds
     returns
-    own-matches-requires
+    joined-matches-requires
     returns-2
     add-at
     loop-less

@@ -2,7 +2,7 @@
 use mathlib.Core.Path.{subst}
 use Rattle.read.specs.Chain.{keyOf}
 use Rattle.check_keys.specs.Key.{bytesOf}
-use Rattle.check_keys.specs.Place.{ItemCompared}
+use Rattle.check_keys.specs.Front.{ItemCompared}
 use Rattle.check_keys.proofs.SameLaws.{Comparing, same-start, same-over, same-ended, same-up}
 use borrow.Author.Needs.{needs}
 use Rattle.check_keys.proofs.search.same_key.Statement.{statement}
@@ -14,14 +14,14 @@ Inv-loop file table at index size count here₀ now-at₀ left₀ here now-at le
 abbrev μ-loop : tie.MeasureT-loop
 μ-loop file table at index size count here₀ now-at₀ left₀ here now-at left = left
 
-place-at-requires : tie.Need-place-at-requires Inv-loop μ-loop
-place-at-requires c κs = (c .before .pre .0 .inside, c .before .pre .0 .below)
+front-at-requires : tie.Need-front-at-requires Inv-loop μ-loop
+front-at-requires c κs = (c .before .pre .0 .inside, c .before .pre .0 .below)
 
 loop-holds : tie.Need-loop-holds Inv-loop μ-loop
-loop-holds c = same-start _ _ (c .before .before .pre .1) (c .before .before .pre .0) (c .place-at .ensures)
+loop-holds c = same-start _ _ (c .before .before .pre .1) (c .before .before .pre .0) (c .front-at .ensures)
 
 compare-item-requires : tie.Need-compare-item-requires Inv-loop μ-loop
-compare-item-requires c κs = (c .before .before .before .before .pre .0 .inside, c .before .loop .inv .placed, c .before .loop .inv .below)
+compare-item-requires c κs = (c .before .before .before .before .pre .0 .inside, c .before .loop .inv .fitting, c .before .loop .inv .below)
 
 enum-known-answer : tie.Need-enum-known-answer Inv-loop μ-loop
 enum-known-answer c = search needs
@@ -50,7 +50,7 @@ same-key-spec =
     (tie.spec
     Inv-loop
     μ-loop
-    place-at-requires
+    front-at-requires
     loop-holds
     compare-item-requires
     enum-known-answer

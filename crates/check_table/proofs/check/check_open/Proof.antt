@@ -4,17 +4,17 @@ use borrow.Author.Needs.{needs}
 use Rattle.check_table.proofs.check.check_open.Statement.{statement}
 use Rattle.check_table.proofs.check.check_open.Tie as tie
 
-slice-aggregate-mark-all : tie.Need-slice-aggregate-mark-all
-slice-aggregate-mark-all c = search needs
+slice-aggregate-survey-all : tie.Need-slice-aggregate-survey-all
+slice-aggregate-survey-all c = search needs
 
-mark-all-requires : tie.Need-mark-all-requires
-mark-all-requires c κs = (c .before .before .pre, blank _ _ 10923 (c .before .before .pre) enough)
+survey-all-requires : tie.Need-survey-all-requires
+survey-all-requires c κs = (c .before .before .pre, blank _ _ 10923 (c .before .before .pre) enough)
 
-slice-aggregate-check-marked : tie.Need-slice-aggregate-check-marked
-slice-aggregate-check-marked c = search needs
+slice-aggregate-check-surveyed : tie.Need-slice-aggregate-check-surveyed
+slice-aggregate-check-surveyed c = search needs
 
-check-marked-requires : tie.Need-check-marked-requires
-check-marked-requires c κs = search needs
+check-surveyed-requires : tie.Need-check-surveyed-requires
+check-surveyed-requires c κs = search needs
 
 returns : tie.Need-returns
 returns c = search needs
@@ -23,8 +23,8 @@ pub check-open-spec : {M : Type 1} → statement M
 check-open-spec =
     tie.close
     (tie.spec
-    slice-aggregate-mark-all
-    mark-all-requires
-    slice-aggregate-check-marked
-    check-marked-requires
+    slice-aggregate-survey-all
+    survey-all-requires
+    slice-aggregate-check-surveyed
+    check-surveyed-requires
     returns)

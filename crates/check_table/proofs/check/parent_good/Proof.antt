@@ -2,8 +2,8 @@
 use mathlib.Core.Path.{sym, ap, _∙_}
 use Rattle.check_table.specs.Rules.{parentKeeps, listsIt}
 use Rattle.check_table.proofs.RuleLaws.{parent-keeps}
-use Rattle.check_keys.proofs.PlaceLaws.{parent-below}
-use Rattle.check_table.proofs.SurveyLaws.{six-marked}
+use Rattle.check_keys.proofs.FrontLaws.{parent-below}
+use Rattle.check_table.proofs.SurveyLaws.{six-bit-set}
 use borrow.Author.Needs.{needs}
 use Rattle.check_table.proofs.check.parent_good.Statement.{statement}
 use Rattle.check_table.proofs.check.parent_good.Tie as tie
@@ -20,8 +20,8 @@ enum-told-2 c = search needs
 enum-known-parent : tie.Need-enum-known-parent
 enum-known-parent c = search needs
 
-is-marked-requires : tie.Need-is-marked-requires
-is-marked-requires c κs = search needs
+has-bit-requires : tie.Need-has-bit-requires
+has-bit-requires c κs = search needs
 
 item-at-requires : tie.Need-item-at-requires
 item-at-requires c κs = (c .before .before .before .before .before .before .before .pre .0 .0, parent-below _ _ (sym (c .before .before .before .before .parent-of .ensures) ∙ c .before .before .parent .given .1))
@@ -39,8 +39,8 @@ returns-2 c = parent-keeps _ _ _ _ (sym (c .before .before .parent-of .ensures) 
 
 returns-3 : tie.Need-returns-3
 returns-3 c =
-    c .is-marked .ensures
-    ∙ six-marked _ _ (c .before .before .before .before .before .before .before .before .pre .1) (c .before .before .before .before .before .before .before .before .pre .0 .1) (c .before .before .before .before .before .before .before .before .pre .0 .2) (sym (c .before .before .before .before .before .parent-of .ensures) ∙ c .before .before .before .parent .given .1) (c .before .if1 .taken)
+    c .has-bit .ensures
+    ∙ six-bit-set _ _ (c .before .before .before .before .before .before .before .before .pre .1) (c .before .before .before .before .before .before .before .before .pre .0 .1) (c .before .before .before .before .before .before .before .before .pre .0 .2) (sym (c .before .before .before .before .before .parent-of .ensures) ∙ c .before .before .before .parent .given .1) (c .before .if1 .taken)
 
 returns-4 : tie.Need-returns-4
 unfolding parentKeeps
@@ -56,7 +56,7 @@ parent-good-spec =
     enum-told
     enum-told-2
     enum-known-parent
-    is-marked-requires
+    has-bit-requires
     item-at-requires
     lists-it-requires
     returns

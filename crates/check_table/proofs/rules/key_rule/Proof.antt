@@ -1,14 +1,14 @@
 -- `check_table::rules::key_rule` meets its contract: each return is a case of the definition. Assumes nothing.
 use mathlib.Core.Path.{sym, _∙_}
 use Rattle.words.specs.Hash.{plain}
-use Rattle.check_keys.proofs.KeyLaws.{own-sized, own-hashed}
+use Rattle.check_keys.proofs.KeyLaws.{joined-sized, joined-hashed}
 use Rattle.check_table.proofs.RuleLaws.{key-broken, key-nothing, key-here, key-elsewhere}
 use borrow.Author.Needs.{needs}
 use Rattle.check_table.proofs.rules.key_rule.Statement.{statement}
 use Rattle.check_table.proofs.rules.key_rule.Tie as tie
 
-own-key-requires : tie.Need-own-key-requires
-own-key-requires c κs = search needs
+joined-key-requires : tie.Need-joined-key-requires
+joined-key-requires c κs = search needs
 
 enum-told : tie.Need-enum-told
 enum-told c = search needs
@@ -16,10 +16,10 @@ enum-told c = search needs
 enum-known-hash : tie.Need-enum-known-hash
 enum-known-hash c = search needs
 
-find-own-requires : tie.Need-find-own-requires
-find-own-requires c κs =
-    let own = sym (c .before .before .before .own-key .ensures) ∙ c .before .hash .given .1 in
-    (record { inside = c .before .before .before .before .before .pre .0; below = c .before .before .before .before .before .pre .1; sized = own-sized plain _ own }, own-hashed plain _ own)
+find-joined-requires : tie.Need-find-joined-requires
+find-joined-requires c κs =
+    let own = sym (c .before .before .before .joined-key .ensures) ∙ c .before .hash .given .1 in
+    (record { inside = c .before .before .before .before .before .pre .0; below = c .before .before .before .before .before .pre .1; sized = joined-sized plain _ own }, joined-hashed plain _ own)
 
 enum-told-2 : tie.Need-enum-told-2
 enum-told-2 c = search needs
@@ -28,25 +28,25 @@ enum-known-found : tie.Need-enum-known-found
 enum-known-found c = search needs
 
 returns : tie.Need-returns
-returns c = key-broken plain _ _ _ (sym (c .before .before .own-key .ensures) ∙ c .enum-told .given .1)
+returns c = key-broken plain _ _ _ (sym (c .before .before .joined-key .ensures) ∙ c .enum-told .given .1)
 
 returns-2 : tie.Need-returns-2
-returns-2 c = key-nothing plain _ _ _ (sym (c .before .before .before .before .before .before .own-key .ensures) ∙ c .before .before .before .before .hash .given .1) (sym (c .before .before .find-own .ensures) ∙ c .enum-told2 .given .1)
+returns-2 c = key-nothing plain _ _ _ (sym (c .before .before .before .before .before .before .joined-key .ensures) ∙ c .before .before .before .before .hash .given .1) (sym (c .before .before .find-joined .ensures) ∙ c .enum-told2 .given .1)
 
 returns-3 : tie.Need-returns-3
-returns-3 c = key-here plain _ _ _ (sym (c .before .before .before .before .before .before .before .before .own-key .ensures) ∙ c .before .before .before .before .before .before .hash .given .1) (sym (c .before .before .before .before .find-own .ensures) ∙ c .before .before .found .given .1) (c .if1 .taken)
+returns-3 c = key-here plain _ _ _ (sym (c .before .before .before .before .before .before .before .before .joined-key .ensures) ∙ c .before .before .before .before .before .before .hash .given .1) (sym (c .before .before .before .before .find-joined .ensures) ∙ c .before .before .found .given .1) (c .if1 .taken)
 
 returns-4 : tie.Need-returns-4
-returns-4 c = key-elsewhere plain _ _ _ (sym (c .before .before .before .before .before .before .before .before .own-key .ensures) ∙ c .before .before .before .before .before .before .hash .given .1) (sym (c .before .before .before .before .find-own .ensures) ∙ c .before .before .found .given .1) (c .if1 .left)
+returns-4 c = key-elsewhere plain _ _ _ (sym (c .before .before .before .before .before .before .before .before .joined-key .ensures) ∙ c .before .before .before .before .before .before .hash .given .1) (sym (c .before .before .before .before .find-joined .ensures) ∙ c .before .before .found .given .1) (c .if1 .left)
 
 pub key-rule-spec : {M : Type 1} → statement M
 key-rule-spec =
     tie.close
     (tie.spec
-    own-key-requires
+    joined-key-requires
     enum-told
     enum-known-hash
-    find-own-requires
+    find-joined-requires
     enum-told-2
     enum-known-found
     returns

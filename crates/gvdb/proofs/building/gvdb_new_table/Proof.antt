@@ -1,7 +1,7 @@
 -- `gvdb::building::gvdb_new_table` meets its contract: the answer as numbers. Assumes nothing.
 use mathlib.Core.Path.{ap}
-use Rattle.build_tables.specs.Answer.{numberedNumber, numberedTable}
-use Rattle.gvdb.specs.Building.{told, numberedAnswer}
+use Rattle.build_tables.specs.Answer.{addedNumber, addedTable}
+use Rattle.gvdb.specs.Building.{told, addedAnswer}
 use borrow.Author.Needs.{needs}
 use Rattle.gvdb.proofs.building.gvdb_new_table.Statement.{statement}
 use Rattle.gvdb.proofs.building.gvdb_new_table.Tie as tie
@@ -22,15 +22,15 @@ same-length : tie.Need-same-length
 same-length c = search needs
 
 returns : tie.Need-returns
-unfolding told numberedAnswer numberedNumber numberedTable
-returns c = rw (c .before .table .given .1) at (ap (told numberedAnswer) (c .before .before .before .before .before .new-table .ensures))
+unfolding told addedAnswer addedNumber addedTable
+returns c = rw (c .before .table .given .1) at (ap (told addedAnswer) (c .before .before .before .before .before .new-table .ensures))
 
 same-length-2 : tie.Need-same-length-2
 same-length-2 c = search needs
 
 returns-2 : tie.Need-returns-2
-unfolding told numberedAnswer numberedNumber numberedTable
-returns-2 c = rw (c .number-of .ensures) (rw (c .before .before .why .given .1) at (ap (told numberedAnswer) (c .before .before .before .before .before .before .new-table .ensures)))
+unfolding told addedAnswer addedNumber addedTable
+returns-2 c = rw (c .number-of .ensures) (rw (c .before .before .why .given .1) at (ap (told addedAnswer) (c .before .before .before .before .before .before .new-table .ensures)))
 
 pub gvdb-new-table-spec : {M : Type 1} → statement M
 gvdb-new-table-spec =

@@ -5,7 +5,7 @@ use Prim.Native.Nat.{ℕ, _-_, _≤_, _<_}
 use native.Mathlib.Omega.{arith}
 use borrow.Author.Needs.{needs}
 use lib.ListN.{length, take, getD}
-use Rattle.text.proofs.CompareLaws.{same-numbers, same-turn, same-last}
+use Rattle.text.proofs.CompareLaws.{same-little-endian, same-turn, same-last}
 use Rattle.text.proofs.compare.same_long.Statement.{statement}
 use Rattle.text.proofs.compare.same_long.Tie as tie
 
@@ -31,7 +31,7 @@ returns : tie.Need-returns Inv-loop μ-loop
 returns c =
     let loop = c .before .before .before .before in
     let args = loop .before .before .before .args in
-    sym (same-numbers 8 (args .a .now) (args .b .now) (loop .loop .i)
+    sym (same-little-endian 8 (args .a .now) (args .b .now) (loop .loop .i)
     (λ e. c .if1 .taken (c .before .before .long-at .ensures ∙ e ∙ sym (c .before .long-at2 .ensures))))
 
 add-i : tie.Need-add-i Inv-loop μ-loop

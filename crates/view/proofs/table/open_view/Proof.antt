@@ -40,7 +40,7 @@ use denote.Triple.Walked.{says, Stays, stay-none, stay-none-slice, walkOf, goes-
 use denote.Exit.{yes}
 use denote.Triple.Clauses.{ensured, lasts}
 use Rattle.layout.specs.Table.{openTable}
-use Rattle.view.specs.Part.{OpenedIn, openedPlace}
+use Rattle.view.specs.Part.{OpenedIn, openedPointer}
 use Rattle.view.specs.Views.{OpenedOf}
 use Rattle.layout.specs.declared.table.Opened.{Opened}
 use Rattle.layout.proofs.table.Opened as DOpened
@@ -59,10 +59,10 @@ use Rattle.view.proofs.part.opened_part as of-opened-part
 use Rattle.view.proofs.part.opened_part.Symbol as of-opened-part-def
 use Rattle.view.proofs.part.opened_part.Symbol.{name as #opened-part}
 use Rattle.view.proofs.part.opened_part.Met as of-opened-part-thm
-use Rattle.view.proofs.part.opened_place as of-opened-place
-use Rattle.view.proofs.part.opened_place.Symbol as of-opened-place-def
-use Rattle.view.proofs.part.opened_place.Symbol.{name as #opened-place}
-use Rattle.view.proofs.part.opened_place.Met as of-opened-place-thm
+use Rattle.view.proofs.part.opened_pointer as of-opened-pointer
+use Rattle.view.proofs.part.opened_pointer.Symbol as of-opened-pointer-def
+use Rattle.view.proofs.part.opened_pointer.Symbol.{name as #opened-pointer}
+use Rattle.view.proofs.part.opened_pointer.Met as of-opened-pointer-thm
 use Rattle.view.proofs.table.open_view.Key.{name as #it}
 use Rattle.view.proofs.table.open_view as it
 use Rattle.view.proofs.table.open_view.Statement as stated
@@ -80,9 +80,9 @@ module _ {M : Type 1} (𝓤 : URA M) (H : Heap 𝓤) (A : Atoms 𝓤) (mem : Mem
   abbrev Contract-opened-part : Contract 𝓤
   Contract-opened-part = tripleOf 𝓤 H A of-opened-part.signature (of-opened-part.spec 𝓤 H A mem run)
 
-  -- the contract of `view::part::opened_place`
-  abbrev Contract-opened-place : Contract 𝓤
-  Contract-opened-place = tripleOf 𝓤 H A of-opened-place.signature (of-opened-place.spec 𝓤 H A mem run)
+  -- the contract of `view::part::opened_pointer`
+  abbrev Contract-opened-pointer : Contract 𝓤
+  Contract-opened-pointer = tripleOf 𝓤 H A of-opened-pointer.signature (of-opened-pointer.spec 𝓤 H A mem run)
 
 module _ {M : Type 1} (𝓤 : URA M) (H : Heap 𝓤) (A : Atoms 𝓤) (W : Given 𝓤 H A) (mem : Memory → SProp 𝓤) (run : Routine → Fun 𝓤) (κ₀ : Lft) (q₀ : Share) (file : RefT (List ℕ)) (start : ℕ) (end : ℕ) where
   abbrev at : Vals it.signature (κ₀, tt)
@@ -111,25 +111,25 @@ module _ {M : Type 1} (𝓤 : URA M) (H : Heap 𝓤) (A : Atoms 𝓤) (W : Given
   said-2 : (r1 : Opened) (u1 : Val) (r2 : RefT (List ℕ)) → ent 𝓤 (ensured 𝓤 H A of-opened-part.ended (of-opened-part.clauses 𝓤 H A mem run) (κ₀, tt) (file, (r1, tt)) tt r2) (fact 𝓤 (OpenedIn file r1 r2))
   said-2 r1 u1 r2 = exE 𝓤 _ (λ ws. snd∗ 𝓤 (sem 𝓤 H A (lasts of-opened-part.ended (κ₀, tt) (file, (r1, tt)) ws)) (fact 𝓤 (OpenedIn file r1 r2)))
 
-  -- call 3, of `view::part::opened_place`: what it is passed, what it asks, and what it says of its result
-  abbrev to-3 : (r1 : Opened) (r2 : RefT (List ℕ)) (u1 : Val) (u2 : Val) → Contract-opened-place 𝓤 H A mem run .Ghost
+  -- call 3, of `view::part::opened_pointer`: what it is passed, what it asks, and what it says of its result
+  abbrev to-3 : (r1 : Opened) (r2 : RefT (List ℕ)) (u1 : Val) (u2 : Val) → Contract-opened-pointer 𝓤 H A mem run .Ghost
   to-3 r1 r2 u1 u2 = ((tt, tt, tt, (r1, (start, tt)), (u1 ∷ [], ((vint w32 start) ∷ [], tt))), tt)
 
-  asked-3 : (r1 : Opened) (r2 : RefT (List ℕ)) (u1 : Val) (u2 : Val) → ent 𝓤 (onEntry 𝓤 H A of-opened-place.signature tt tt (r1, (start, tt)) (u1 ∷ [], ((vint w32 start) ∷ [], tt))) (Contract-opened-place 𝓤 H A mem run .pre (to-3 r1 r2 u1 u2))
+  asked-3 : (r1 : Opened) (r2 : RefT (List ℕ)) (u1 : Val) (u2 : Val) → ent 𝓤 (onEntry 𝓤 H A of-opened-pointer.signature tt tt (r1, (start, tt)) (u1 ∷ [], ((vint w32 start) ∷ [], tt))) (Contract-opened-pointer 𝓤 H A mem run .pre (to-3 r1 r2 u1 u2))
   asked-3 r1 r2 u1 u2 = qed W ((‵ ftrue) ∷ ‵ (owns (DOpened.the-row ∷ u32 ∷ []) (r1, (start, tt)) (u1 ∷ [], ((vint w32 start) ∷ [], tt))) ∷ []) ∵ join ! $ frame ! $ done !
 
-  said-3 : (r1 : Opened) (r2 : RefT (List ℕ)) (u1 : Val) (u2 : Val) (r3 : ℕ) → ent 𝓤 (ensured 𝓤 H A of-opened-place.ended (of-opened-place.clauses 𝓤 H A mem run) tt (r1, (start, tt)) tt r3) (fact 𝓤 (r3 ≡ openedPlace r1 start))
-  said-3 r1 r2 u1 u2 r3 = exE 𝓤 _ (λ ws. snd∗ 𝓤 (sem 𝓤 H A (lasts of-opened-place.ended tt (r1, (start, tt)) ws)) (fact 𝓤 (r3 ≡ openedPlace r1 start)))
+  said-3 : (r1 : Opened) (r2 : RefT (List ℕ)) (u1 : Val) (u2 : Val) (r3 : ℕ) → ent 𝓤 (ensured 𝓤 H A of-opened-pointer.ended (of-opened-pointer.clauses 𝓤 H A mem run) tt (r1, (start, tt)) tt r3) (fact 𝓤 (r3 ≡ openedPointer r1 start))
+  said-3 r1 r2 u1 u2 r3 = exE 𝓤 _ (λ ws. snd∗ 𝓤 (sem 𝓤 H A (lasts of-opened-pointer.ended tt (r1, (start, tt)) ws)) (fact 𝓤 (r3 ≡ openedPointer r1 start)))
 
-  -- call 4, of `view::part::opened_place`: what it is passed, what it asks, and what it says of its result
-  abbrev to-4 : (r1 : Opened) (r2 : RefT (List ℕ)) (r3 : ℕ) (u1 : Val) (u2 : Val) (u3 : Val) → Contract-opened-place 𝓤 H A mem run .Ghost
+  -- call 4, of `view::part::opened_pointer`: what it is passed, what it asks, and what it says of its result
+  abbrev to-4 : (r1 : Opened) (r2 : RefT (List ℕ)) (r3 : ℕ) (u1 : Val) (u2 : Val) (u3 : Val) → Contract-opened-pointer 𝓤 H A mem run .Ghost
   to-4 r1 r2 r3 u1 u2 u3 = ((tt, tt, tt, (r1, (end, tt)), (u1 ∷ [], ((vint w32 end) ∷ [], tt))), tt)
 
-  asked-4 : (r1 : Opened) (r2 : RefT (List ℕ)) (r3 : ℕ) (u1 : Val) (u2 : Val) (u3 : Val) → ent 𝓤 (onEntry 𝓤 H A of-opened-place.signature tt tt (r1, (end, tt)) (u1 ∷ [], ((vint w32 end) ∷ [], tt))) (Contract-opened-place 𝓤 H A mem run .pre (to-4 r1 r2 r3 u1 u2 u3))
+  asked-4 : (r1 : Opened) (r2 : RefT (List ℕ)) (r3 : ℕ) (u1 : Val) (u2 : Val) (u3 : Val) → ent 𝓤 (onEntry 𝓤 H A of-opened-pointer.signature tt tt (r1, (end, tt)) (u1 ∷ [], ((vint w32 end) ∷ [], tt))) (Contract-opened-pointer 𝓤 H A mem run .pre (to-4 r1 r2 r3 u1 u2 u3))
   asked-4 r1 r2 r3 u1 u2 u3 = qed W ((‵ ftrue) ∷ ‵ (owns (DOpened.the-row ∷ u32 ∷ []) (r1, (end, tt)) (u1 ∷ [], ((vint w32 end) ∷ [], tt))) ∷ []) ∵ join ! $ frame ! $ done !
 
-  said-4 : (r1 : Opened) (r2 : RefT (List ℕ)) (r3 : ℕ) (u1 : Val) (u2 : Val) (u3 : Val) (r4 : ℕ) → ent 𝓤 (ensured 𝓤 H A of-opened-place.ended (of-opened-place.clauses 𝓤 H A mem run) tt (r1, (end, tt)) tt r4) (fact 𝓤 (r4 ≡ openedPlace r1 end))
-  said-4 r1 r2 r3 u1 u2 u3 r4 = exE 𝓤 _ (λ ws. snd∗ 𝓤 (sem 𝓤 H A (lasts of-opened-place.ended tt (r1, (end, tt)) ws)) (fact 𝓤 (r4 ≡ openedPlace r1 end)))
+  said-4 : (r1 : Opened) (r2 : RefT (List ℕ)) (r3 : ℕ) (u1 : Val) (u2 : Val) (u3 : Val) (r4 : ℕ) → ent 𝓤 (ensured 𝓤 H A of-opened-pointer.ended (of-opened-pointer.clauses 𝓤 H A mem run) tt (r1, (end, tt)) tt r4) (fact 𝓤 (r4 ≡ openedPointer r1 end))
+  said-4 r1 r2 r3 u1 u2 u3 r4 = exE 𝓤 _ (λ ws. snd∗ 𝓤 (sem 𝓤 H A (lasts of-opened-pointer.ended tt (r1, (end, tt)) ws)) (fact 𝓤 (r4 ≡ openedPointer r1 end)))
 
   module _ (is0 : Is (ShrSlice (named 0) κ₀ u8) file ((sliceVal (file .ptr) (length (file .now))) ∷ [])) (fit1 : start < 2 ^ 32) (fit2 : end < 2 ^ 32) where
     exits : (x : OpenedView) (w : Val) → OpenedOf file start end x → ent 𝓤 (⋆ 𝓤 H A (‵ ((DOpenedView.the-row (namedLft 1 0 tt (κ₀, tt))) .own x (w ∷ [])) ∷ ‵ (flft κ₀ q₀) ∷ ‵ ((ShrSlice (named 0) κ₀ u8) .own file ((sliceVal (file .ptr) (length (file .now))) ∷ [])) ∷ [])) (Post w)
@@ -138,7 +138,7 @@ module _ {M : Type 1} (𝓤 : URA M) (H : Heap 𝓤) (A : Atoms 𝓤) (W : Given
         suffices ! _ (ends-at 𝓤 H A it.ended stayed (it.clauses 𝓤 H A mem run) W (((κ₀, tt), (q₀, tt), tt, (file, (start, (end, tt))), at), tt) w x (tt, (tt, (tt, tt))) (tt, (tt, (tt, tt)))) $ says ! e $
         nothing ! $ move ! (2 ∷ 0 ∷ []) $ join ! $ frame ! $ nothing ! $ owned ! u32 (Is u32) (uint-makes 𝓤 H A W w32) end ((vint w32 end) ∷ []) (refl, fit2) $ fjoin ! $ owned ! u32 (Is u32) (uint-makes 𝓤 H A W w32) start ((vint w32 start) ∷ []) (refl, fit1) $ fjoin ! $ move ! (2 ∷ 0 ∷ []) $ fjoin ! $ frame ! $ done !
 
-    module _ (C : Calls 𝓤 H) (Λ : Loops 𝓤 H) (fm : FmC 𝓤 H (W .laws) C) (known-open-table : Triple 𝓤 (C #open-table) (Contract-open-table 𝓤 H A mem run)) (known-opened-part : Triple 𝓤 (C #opened-part) (Contract-opened-part 𝓤 H A mem run)) (known-opened-place : Triple 𝓤 (C #opened-place) (Contract-opened-place 𝓤 H A mem run)) where
+    module _ (C : Calls 𝓤 H) (Λ : Loops 𝓤 H) (fm : FmC 𝓤 H (W .laws) C) (known-open-table : Triple 𝓤 (C #open-table) (Contract-open-table 𝓤 H A mem run)) (known-opened-part : Triple 𝓤 (C #opened-part) (Contract-opened-part 𝓤 H A mem run)) (known-opened-pointer : Triple 𝓤 (C #opened-pointer) (Contract-opened-pointer 𝓤 H A mem run)) where
       walk : ent 𝓤 (onEntry 𝓤 H A it.signature (κ₀, tt) (q₀, tt) (file, (start, (end, tt))) at) (WpFn 𝓤 H C Λ code.function ((sliceVal (file .ptr) (length (file .now))) ∷ (vint w32 start) ∷ (vint w32 end) ∷ []) Post)
       walk =
           qed W (raw (onEntry 𝓤 H A it.signature (κ₀, tt) (q₀, tt) (file, (start, (end, tt))) at) ∷ []) ∵ enter ! C Λ code.function ((sliceVal (file .ptr) (length (file .now))) ∷ (vint w32 start) ∷ (vint w32 end) ∷ []) _ $
@@ -157,17 +157,17 @@ module _ {M : Type 1} (𝓤 : URA M) (H : Heap 𝓤) (A : Atoms 𝓤) (W : Given
           use1 W (later (some (λ (r2 : RefT (List ℕ)). ((‵ (flft κ₀ q₀) ⊛ ‵ ftrue) ⊛ ‵ ((ShrSlice (named 0) κ₀ u8) .own r2 (u2 ∷ []))) ⊛ raw (ensured 𝓤 H A of-opened-part.ended (of-opened-part.clauses 𝓤 H A mem run) (κ₀, tt) (file, (r1, tt)) tt r2)))) (id⊢ 𝓤 _) $ await ! tt $ pick ! (λ r2.
           split ! $ move ! (1 ∷ []) $ use1 W (raw (fact 𝓤 (OpenedIn file r1 r2))) (said-2 r1 u1 r2) $ heard ! (OpenedIn file r1 r2) (λ e2. split ! $ split ! $ move ! (1 ∷ []) $ drop ! $ move ! (1 ∷ []) $ peeks ! (ShrSlice (named 0) κ₀ u8) (Is (ShrSlice (named 0) κ₀ u8)) (shows 𝓤 H A (ShrSlice (named 0) κ₀ u8)) r2 (u2 ∷ []) (λ i2.
           land ! (from ! (stop !)) (init ! 9 refl (shr-slice-lawful 𝓤 H A W erased κ₀ u8 .typed r2 (u2 ∷ []) i2 .0)) $
-          -- call 3, of `view::part::opened_place`
-          nothing ! $ owned ! u32 (Is u32) (uint-makes 𝓤 H A W w32) start ((vint w32 start) ∷ []) (refl, fit1) $ fjoin ! $ owned ! DOpened.the-row (Is DOpened.the-row) (EL.makes DOpened.the-type DOpened′.the-plain 𝓤 H A) r1 (u1 ∷ []) i1 $ fjoin ! $ nothing ! $ use2 W (raw (Contract-opened-place 𝓤 H A mem run .pre (to-3 r1 r2 u1 u2))) (asked-3 r1 r2 u1 u2) $
-          calls-at ! fm (Contract-opened-place 𝓤 H A mem run) known-opened-place (to-3 r1 r2 u1 u2) (and-then ! (load ! (from ! (stop !)) (look ! 12 refl)) (and-then ! (load ! (from ! (stop !)) (look ! 16 refl)) (no-more !))) (λ u3.
-          use1 W (later (some (λ (r3 : ℕ). ((‵ ftrue) ⊛ ‵ (u32 .own r3 (u3 ∷ []))) ⊛ raw (ensured 𝓤 H A of-opened-place.ended (of-opened-place.clauses 𝓤 H A mem run) tt (r1, (start, tt)) tt r3)))) (id⊢ 𝓤 _) $ await ! tt $ pick ! (λ r3.
-          split ! $ move ! (1 ∷ []) $ use1 W (raw (fact 𝓤 (r3 ≡ openedPlace r1 start))) (said-3 r1 r2 u1 u2 r3) $ heard ! (r3 ≡ openedPlace r1 start) (λ e3. split ! $ drop ! $ facts ! u32 (Is u32) (shows 𝓤 H A u32) r3 (u3 ∷ []) (λ i3.
+          -- call 3, of `view::part::opened_pointer`
+          nothing ! $ owned ! u32 (Is u32) (uint-makes 𝓤 H A W w32) start ((vint w32 start) ∷ []) (refl, fit1) $ fjoin ! $ owned ! DOpened.the-row (Is DOpened.the-row) (EL.makes DOpened.the-type DOpened′.the-plain 𝓤 H A) r1 (u1 ∷ []) i1 $ fjoin ! $ nothing ! $ use2 W (raw (Contract-opened-pointer 𝓤 H A mem run .pre (to-3 r1 r2 u1 u2))) (asked-3 r1 r2 u1 u2) $
+          calls-at ! fm (Contract-opened-pointer 𝓤 H A mem run) known-opened-pointer (to-3 r1 r2 u1 u2) (and-then ! (load ! (from ! (stop !)) (look ! 12 refl)) (and-then ! (load ! (from ! (stop !)) (look ! 16 refl)) (no-more !))) (λ u3.
+          use1 W (later (some (λ (r3 : ℕ). ((‵ ftrue) ⊛ ‵ (u32 .own r3 (u3 ∷ []))) ⊛ raw (ensured 𝓤 H A of-opened-pointer.ended (of-opened-pointer.clauses 𝓤 H A mem run) tt (r1, (start, tt)) tt r3)))) (id⊢ 𝓤 _) $ await ! tt $ pick ! (λ r3.
+          split ! $ move ! (1 ∷ []) $ use1 W (raw (fact 𝓤 (r3 ≡ openedPointer r1 start))) (said-3 r1 r2 u1 u2 r3) $ heard ! (r3 ≡ openedPointer r1 start) (λ e3. split ! $ drop ! $ facts ! u32 (Is u32) (shows 𝓤 H A u32) r3 (u3 ∷ []) (λ i3.
           land ! (from ! (stop !)) (init ! 7 refl (uint-lawful 𝓤 H A W w32 .typed r3 _ i3 .0)) $
-          -- call 4, of `view::part::opened_place`
-          nothing ! $ owned ! u32 (Is u32) (uint-makes 𝓤 H A W w32) end ((vint w32 end) ∷ []) (refl, fit2) $ fjoin ! $ owned ! DOpened.the-row (Is DOpened.the-row) (EL.makes DOpened.the-type DOpened′.the-plain 𝓤 H A) r1 (u1 ∷ []) i1 $ fjoin ! $ nothing ! $ use2 W (raw (Contract-opened-place 𝓤 H A mem run .pre (to-4 r1 r2 r3 u1 u2 u3))) (asked-4 r1 r2 r3 u1 u2 u3) $
-          calls-at ! fm (Contract-opened-place 𝓤 H A mem run) known-opened-place (to-4 r1 r2 r3 u1 u2 u3) (and-then ! (load ! (from ! (stop !)) (look ! 12 refl)) (and-then ! (load ! (from ! (stop !)) (look ! 14 refl)) (no-more !))) (λ u4.
-          use1 W (later (some (λ (r4 : ℕ). ((‵ ftrue) ⊛ ‵ (u32 .own r4 (u4 ∷ []))) ⊛ raw (ensured 𝓤 H A of-opened-place.ended (of-opened-place.clauses 𝓤 H A mem run) tt (r1, (end, tt)) tt r4)))) (id⊢ 𝓤 _) $ await ! tt $ pick ! (λ r4.
-          split ! $ move ! (1 ∷ []) $ use1 W (raw (fact 𝓤 (r4 ≡ openedPlace r1 end))) (said-4 r1 r2 r3 u1 u2 u3 r4) $ heard ! (r4 ≡ openedPlace r1 end) (λ e4. split ! $ drop ! $ facts ! u32 (Is u32) (shows 𝓤 H A u32) r4 (u4 ∷ []) (λ i4.
+          -- call 4, of `view::part::opened_pointer`
+          nothing ! $ owned ! u32 (Is u32) (uint-makes 𝓤 H A W w32) end ((vint w32 end) ∷ []) (refl, fit2) $ fjoin ! $ owned ! DOpened.the-row (Is DOpened.the-row) (EL.makes DOpened.the-type DOpened′.the-plain 𝓤 H A) r1 (u1 ∷ []) i1 $ fjoin ! $ nothing ! $ use2 W (raw (Contract-opened-pointer 𝓤 H A mem run .pre (to-4 r1 r2 r3 u1 u2 u3))) (asked-4 r1 r2 r3 u1 u2 u3) $
+          calls-at ! fm (Contract-opened-pointer 𝓤 H A mem run) known-opened-pointer (to-4 r1 r2 r3 u1 u2 u3) (and-then ! (load ! (from ! (stop !)) (look ! 12 refl)) (and-then ! (load ! (from ! (stop !)) (look ! 14 refl)) (no-more !))) (λ u4.
+          use1 W (later (some (λ (r4 : ℕ). ((‵ ftrue) ⊛ ‵ (u32 .own r4 (u4 ∷ []))) ⊛ raw (ensured 𝓤 H A of-opened-pointer.ended (of-opened-pointer.clauses 𝓤 H A mem run) tt (r1, (end, tt)) tt r4)))) (id⊢ 𝓤 _) $ await ! tt $ pick ! (λ r4.
+          split ! $ move ! (1 ∷ []) $ use1 W (raw (fact 𝓤 (r4 ≡ openedPointer r1 end))) (said-4 r1 r2 r3 u1 u2 u3 r4) $ heard ! (r4 ≡ openedPointer r1 end) (λ e4. split ! $ drop ! $ facts ! u32 (Is u32) (shows 𝓤 H A u32) r4 (u4 ∷ []) (λ i4.
           land ! (from ! (stop !)) (init ! 5 refl (uint-lawful 𝓤 H A W w32 .typed r4 _ i4 .0)) $
           -- `view::table::TableView` is made
           nothing ! $ owned ! u32 (Is u32) (uint-makes 𝓤 H A W w32) r4 (u4 ∷ []) i4 $ fjoin ! $ owned ! u32 (Is u32) (uint-makes 𝓤 H A W w32) r3 (u3 ∷ []) i3 $ fjoin ! $ move ! (1 ∷ []) $ use1 W (‵ ((ShrSlice (named 0) κ₀ u8) .own r2 (u2 ∷ [])) ⊛ ‵ ((ShrSlice (named 0) κ₀ u8) .own r2 (u2 ∷ []))) (shr-slice-copy 𝓤 H A W (named 0) κ₀ u8 .twice r2 (u2 ∷ [])) $ split ! $ move ! (0 ∷ 2 ∷ []) $ fjoin ! $ use1 W (‵ ((DTableView.the-row (namedLft 1 0 tt (κ₀, tt))) .own (record { file = r2; start = r3; end = r4 }) ((vstruct (vcons u2 (vcons u3 (vcons u4 vnil)))) ∷ []))) (makes 𝓤 H A W ((ShrSlice (named 0) κ₀ u8) ∷ u32 ∷ u32 ∷ []) (owns ((ShrSlice (named 0) κ₀ u8) ∷ u32 ∷ u32 ∷ []) (r2, (r3, (r4, tt)))) (u2 ∷ [], (u3 ∷ [], (u4 ∷ [], tt)))) $ peeks ! (DTableView.the-row (namedLft 1 0 tt (κ₀, tt))) (Is (DTableView.the-row (namedLft 1 0 tt (κ₀, tt)))) (shows 𝓤 H A (DTableView.the-row (namedLft 1 0 tt (κ₀, tt)))) (record { file = r2; start = r3; end = r4 }) ((vstruct (vcons u2 (vcons u3 (vcons u4 vnil)))) ∷ []) (λ j1.
@@ -180,15 +180,15 @@ module _ {M : Type 1} (𝓤 : URA M) (H : Heap 𝓤) (A : Atoms 𝓤) (W : Given
           keep ! (0 ∷ 3 ∷ 4 ∷ []) $ by ! (exits (record { answer = r1; table = (record { file = r2; start = r3; end = r4 }) }) (vstruct (vcons u1 (vcons (vstruct (vcons u2 (vcons u3 (vcons u4 vnil)))) vnil))) (record { answered = e1; viewed = e2; starts = e3; ends = e4 })))))))))))))))))))))))))))))
 
 module _ {M : Type 1} (𝓤 : URA M) (H : Heap 𝓤) (A : Atoms 𝓤) (W : Given 𝓤 H A) (mem : Memory → SProp 𝓤) (run : Routine → Fun 𝓤) where
-  it-walks : (C : Calls 𝓤 H) (Λ : Loops 𝓤 H) → FmC 𝓤 H (W .laws) C → Triple 𝓤 (C #open-table) (Contract-open-table 𝓤 H A mem run) → Triple 𝓤 (C #opened-part) (Contract-opened-part 𝓤 H A mem run) → Triple 𝓤 (C #opened-place) (Contract-opened-place 𝓤 H A mem run)
+  it-walks : (C : Calls 𝓤 H) (Λ : Loops 𝓤 H) → FmC 𝓤 H (W .laws) C → Triple 𝓤 (C #open-table) (Contract-open-table 𝓤 H A mem run) → Triple 𝓤 (C #opened-part) (Contract-opened-part 𝓤 H A mem run) → Triple 𝓤 (C #opened-pointer) (Contract-opened-pointer 𝓤 H A mem run)
       → Walks 𝓤 H A it.ended stayed (WpFn 𝓤 H C Λ code.function) (it.clauses 𝓤 H A mem run)
-  it-walks C Λ fm known-open-table known-opened-part known-opened-place = walked 𝓤 H A it.ended stayed (it.clauses 𝓤 H A mem run) (WpFn 𝓤 H C Λ code.function) (λ κs. (slice-vals, (uint-vals w32, (uint-vals w32, tt)))) (λ κs. (shr-slice-tells (named 0) (κs .0) u8, (uint-tells w32, (uint-tells w32, tt))))
-      (λ κs qs bounds a g are. via 𝓤 _ (fst∗ 𝓤 _ (emp 𝓤)) (walk 𝓤 H A W mem run (κs .0) (qs .0) (a .0) (a .1 .0) (a .1 .1 .0) (are .0) (are .1 .0 .1) (are .1 .1 .0 .1) C Λ fm known-open-table known-opened-part known-opened-place))
+  it-walks C Λ fm known-open-table known-opened-part known-opened-pointer = walked 𝓤 H A it.ended stayed (it.clauses 𝓤 H A mem run) (WpFn 𝓤 H C Λ code.function) (λ κs. (slice-vals, (uint-vals w32, (uint-vals w32, tt)))) (λ κs. (shr-slice-tells (named 0) (κs .0) u8, (uint-tells w32, (uint-tells w32, tt))))
+      (λ κs qs bounds a g are. via 𝓤 _ (fst∗ 𝓤 _ (emp 𝓤)) (walk 𝓤 H A W mem run (κs .0) (qs .0) (a .0) (a .1 .0) (a .1 .1 .0) (are .0) (are .1 .0 .1) (are .1 .1 .0 .1) C Λ fm known-open-table known-opened-part known-opened-pointer))
 
-it-meets : {M : Type 1} (𝓤 : URA M) (H : Heap 𝓤) (A : Atoms 𝓤) (W : Given 𝓤 H A) (mem : Memory → SProp 𝓤) (run : Routine → Fun 𝓤) (𝓣 : Tables 𝓤 H) → Triple 𝓤 (𝓣 .C #open-table) (Contract-open-table 𝓤 H A mem run) → Triple 𝓤 (𝓣 .C #opened-part) (Contract-opened-part 𝓤 H A mem run) → Triple 𝓤 (𝓣 .C #opened-place) (Contract-opened-place 𝓤 H A mem run)
+it-meets : {M : Type 1} (𝓤 : URA M) (H : Heap 𝓤) (A : Atoms 𝓤) (W : Given 𝓤 H A) (mem : Memory → SProp 𝓤) (run : Routine → Fun 𝓤) (𝓣 : Tables 𝓤 H) → Triple 𝓤 (𝓣 .C #open-table) (Contract-open-table 𝓤 H A mem run) → Triple 𝓤 (𝓣 .C #opened-part) (Contract-opened-part 𝓤 H A mem run) → Triple 𝓤 (𝓣 .C #opened-pointer) (Contract-opened-pointer 𝓤 H A mem run)
     → Meets 𝓤 H A it.signature (WpFn 𝓤 H (𝓣 .C) (𝓣 .Λ) code.function) (it.spec 𝓤 H A mem run)
-it-meets 𝓤 H A W mem run 𝓣 known-open-table known-opened-part known-opened-place = walk-meets 𝓤 H A it.ended stayed W (goes-none-slice 𝓤 H A W 1 (0 ∷ []) tt (plain (λ _. u8)) yes, (goes-none 𝓤 H A W 1 (λ _. u32) yes (λ κs x f. refl), (goes-none 𝓤 H A W 1 (λ _. u32) yes (λ κs x f. refl), tt))) (it.clauses 𝓤 H A mem run) (WpFn 𝓤 H (𝓣 .C) (𝓣 .Λ) code.function) (WpFn-mono 𝓤 H (W .laws) 𝓣 code.function)
-    (it-walks 𝓤 H A W mem run (𝓣 .C) (𝓣 .Λ) (fmOf 𝓤 H (W .laws) 𝓣) known-open-table known-opened-part known-opened-place)
+it-meets 𝓤 H A W mem run 𝓣 known-open-table known-opened-part known-opened-pointer = walk-meets 𝓤 H A it.ended stayed W (goes-none-slice 𝓤 H A W 1 (0 ∷ []) tt (plain (λ _. u8)) yes, (goes-none 𝓤 H A W 1 (λ _. u32) yes (λ κs x f. refl), (goes-none 𝓤 H A W 1 (λ _. u32) yes (λ κs x f. refl), tt))) (it.clauses 𝓤 H A mem run) (WpFn 𝓤 H (𝓣 .C) (𝓣 .Λ) code.function) (WpFn-mono 𝓤 H (W .laws) 𝓣 code.function)
+    (it-walks 𝓤 H A W mem run (𝓣 .C) (𝓣 .Λ) (fmOf 𝓤 H (W .laws) 𝓣) known-open-table known-opened-part known-opened-pointer)
 
 pub open-view-spec : {M : Type 1} → stated.statement M
 unfolding code.routine tablesOf
@@ -198,4 +198,4 @@ open-view-spec 𝓤 H 𝓜 𝓖 𝓡 =
     (it-meets 𝓤 H (𝓖 .A) (givenOf 𝓤 H 𝓜 𝓖) (𝓜 .mem) (𝓡 .run) (tablesOf 𝓤 H 𝓜 (tables 𝓤 H 𝓜 𝓡 code.env))
     (cited 𝓤 H (Contract-open-table 𝓤 H (𝓖 .A) (𝓜 .mem) (𝓡 .run)) 𝓜 𝓡 code.env #open-table of-open-table-def.routine code.calls-layout·table·open-table (of-open-table-thm.met 𝓤 H 𝓜 𝓖 𝓡))
     (cited 𝓤 H (Contract-opened-part 𝓤 H (𝓖 .A) (𝓜 .mem) (𝓡 .run)) 𝓜 𝓡 code.env #opened-part of-opened-part-def.routine code.calls-view·part·opened-part (of-opened-part-thm.met 𝓤 H 𝓜 𝓖 𝓡))
-    (cited 𝓤 H (Contract-opened-place 𝓤 H (𝓖 .A) (𝓜 .mem) (𝓡 .run)) 𝓜 𝓡 code.env #opened-place of-opened-place-def.routine code.calls-view·part·opened-place (of-opened-place-thm.met 𝓤 H 𝓜 𝓖 𝓡)))
+    (cited 𝓤 H (Contract-opened-pointer 𝓤 H (𝓖 .A) (𝓜 .mem) (𝓡 .run)) 𝓜 𝓡 code.env #opened-pointer of-opened-pointer-def.routine code.calls-view·part·opened-pointer (of-opened-pointer-thm.met 𝓤 H 𝓜 𝓖 𝓡)))

@@ -5,7 +5,7 @@ use mathlib.Core.Path.{_≡_, refl}
 use native.Mathlib.Omega.{arith}
 use lib.ListN.{length, getD, length-set}
 use Rattle.build_memory.specs.Memory.{itemTotal, itemParent}
-use Rattle.write.specs.Sheeted.{fromLast}
+use Rattle.write.specs.NumberedAs.{fromLast}
 use Rattle.write.proofs.SlotLaws.{set-next}
 use Rattle.write.proofs.children.list_parents.Statement.{statement}
 use Rattle.write.proofs.children.list_parents.Tie as tie

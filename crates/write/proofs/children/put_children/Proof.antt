@@ -4,22 +4,22 @@ use mathlib.Core.Path.{_≡_, refl}
 use native.Mathlib.Omega.{arith}
 use lib.ListN.{length, getD, length-set}
 use Rattle.build_memory.specs.Memory.{itemTotal}
-use Rattle.write_bytes.specs.Sheet.{childWord}
-use Rattle.write_numbers.specs.Roster.{itemNumber}
-use Rattle.write.specs.Sheeted.{fromLast}
-use Rattle.write.proofs.SlotLaws.{number-read, set-behind, set-apart, set-past}
+use Rattle.write_bytes.specs.Numbered.{childWord}
+use Rattle.write_numbers.specs.Roster.{itemIndex}
+use Rattle.write.specs.NumberedAs.{fromLast}
+use Rattle.write.proofs.SlotLaws.{index-read, set-behind, set-apart, set-past}
 use Rattle.write.proofs.children.put_children.Statement.{statement}
 use Rattle.write.proofs.children.put_children.Tie as tie
 
 abbrev Inv-loop : tie.InvT-loop
-Inv-loop words roster order sheet₀ n j₀ sheet j =
-    (j ≤ itemTotal words) × (n ≡ itemTotal words) × (length sheet ≡ length sheet₀)
-    × ((q : ℕ) → q < j → getD sheet (8320 + q) 0 ≡ itemNumber roster (fromLast words (getD order q 0)))
-    × ((k : ℕ) → k < 8320 → getD sheet k 0 ≡ getD sheet₀ k 0)
-    × ((k : ℕ) → 8320 + j ≤ k → getD sheet k 0 ≡ getD sheet₀ k 0)
+Inv-loop words roster order numbered₀ n j₀ numbered j =
+    (j ≤ itemTotal words) × (n ≡ itemTotal words) × (length numbered ≡ length numbered₀)
+    × ((q : ℕ) → q < j → getD numbered (8320 + q) 0 ≡ itemIndex roster (fromLast words (getD order q 0)))
+    × ((k : ℕ) → k < 8320 → getD numbered k 0 ≡ getD numbered₀ k 0)
+    × ((k : ℕ) → 8320 + j ≤ k → getD numbered k 0 ≡ getD numbered₀ k 0)
 
 abbrev μ-loop : tie.MeasureT-loop
-μ-loop words roster order sheet₀ n j₀ sheet j = itemTotal words - j
+μ-loop words roster order numbered₀ n j₀ numbered j = itemTotal words - j
 
 shared-slice-read-n : tie.Need-shared-slice-read-n Inv-loop μ-loop
 shared-slice-read-n c = omega (arith, c .before .pre .0)
@@ -39,23 +39,23 @@ sub-child c = omega arith
 sub-child-2 : tie.Need-sub-child-2 Inv-loop μ-loop
 sub-child-2 c = omega (arith, c .before .before .before .before .pre .1 .1 .1 (c .before .before .loop .j) (omega arith))
 
-add-sheet : tie.Need-add-sheet Inv-loop μ-loop
-add-sheet c = omega (arith, c .before .before .before .before .pre .0)
+add-numbered : tie.Need-add-numbered Inv-loop μ-loop
+add-numbered c = omega (arith, c .before .before .before .before .pre .0)
 
-mul-sheet : tie.Need-mul-sheet Inv-loop μ-loop
-mul-sheet c = omega (arith, c .before .before .before .before .pre .0)
+mul-numbered : tie.Need-mul-numbered Inv-loop μ-loop
+mul-numbered c = omega (arith, c .before .before .before .before .pre .0)
 
-shared-slice-read-sheet : tie.Need-shared-slice-read-sheet Inv-loop μ-loop
-shared-slice-read-sheet c = omega (arith, c .before .before .before .before .before .pre .0, c .before .before .before .before .before .pre .1 .0)
+shared-slice-read-numbered : tie.Need-shared-slice-read-numbered Inv-loop μ-loop
+shared-slice-read-numbered c = omega (arith, c .before .before .before .before .before .pre .0, c .before .before .before .before .before .pre .1 .0)
 
-add-sheet-2 : tie.Need-add-sheet-2 Inv-loop μ-loop
-add-sheet-2 c = omega (arith, c .before .before .before .before .before .pre .0)
+add-numbered-2 : tie.Need-add-numbered-2 Inv-loop μ-loop
+add-numbered-2 c = omega (arith, c .before .before .before .before .before .pre .0)
 
-mul-sheet-2 : tie.Need-mul-sheet-2 Inv-loop μ-loop
-mul-sheet-2 c = omega (arith, c .before .before .before .before .before .pre .0)
+mul-numbered-2 : tie.Need-mul-numbered-2 Inv-loop μ-loop
+mul-numbered-2 c = omega (arith, c .before .before .before .before .before .pre .0)
 
-slice-write-sheet : tie.Need-slice-write-sheet Inv-loop μ-loop
-slice-write-sheet c = omega (arith, c .before .before .before .before .before .pre .0, c .before .before .before .before .before .pre .1 .0, c .before .before .before .loop .inv .2)
+slice-write-numbered : tie.Need-slice-write-numbered Inv-loop μ-loop
+slice-write-numbered c = omega (arith, c .before .before .before .before .before .pre .0, c .before .before .before .before .before .pre .1 .0, c .before .before .before .loop .inv .2)
 
 add-j : tie.Need-add-j Inv-loop μ-loop
 add-j c = omega (arith, c .before .before .before .before .before .pre .0)
@@ -71,9 +71,9 @@ loop-again c =
       omega arith,
       l .inv .1,
       simp length-set (l .inv .2),
-      set-behind (λ q. itemNumber (a .roster .now) (fromLast (a .words .now) (getD (a .order .now) q 0))) (l .sheet) (l .j) _ (number-read (a .roster .now) _) 8320 (omega (arith, p .0, p .1 .0, l .inv .2)) (l .inv .3),
-      set-apart (l .sheet) (a .sheet .now) 8320 (l .j) _ (l .inv .4),
-      set-past (l .sheet) (a .sheet .now) 8320 (l .j) _ (l .inv .5),
+      set-behind (λ q. itemIndex (a .roster .now) (fromLast (a .words .now) (getD (a .order .now) q 0))) (l .numbered) (l .j) _ (index-read (a .roster .now) _) 8320 (omega (arith, p .0, p .1 .0, l .inv .2)) (l .inv .3),
+      set-apart (l .numbered) (a .numbered .now) 8320 (l .j) _ (l .inv .4),
+      set-past (l .numbered) (a .numbered .now) 8320 (l .j) _ (l .inv .5),
     )
 
 same-length : tie.Need-same-length Inv-loop μ-loop
@@ -97,12 +97,12 @@ put-children-spec =
     shared-slice-read-place
     sub-child
     sub-child-2
-    add-sheet
-    mul-sheet
-    shared-slice-read-sheet
-    add-sheet-2
-    mul-sheet-2
-    slice-write-sheet
+    add-numbered
+    mul-numbered
+    shared-slice-read-numbered
+    add-numbered-2
+    mul-numbered-2
+    slice-write-numbered
     add-j
     loop-less
     loop-again

@@ -4,7 +4,7 @@ use mathlib.Core.Path.{_≡_, sym, _∙_}
 use mathlib.Core.Bool.{false}
 use native.Mathlib.Omega.{arith}
 use borrow.Author.Needs.{needs}
-use Rattle.write.proofs.StateLaws.{whole-right}
+use Rattle.write.proofs.StateLaws.{fully-valid}
 use Rattle.write.proofs.EmptyLaws.{foundBelow, empty-own, empty-plain, empty-held, slot-at, slot-in, slots-few, found-none, found-turn, empty-end, empty-hit, empty-nowhere}
 use Prim.Native.Nat.{ℕ, _+_, _-_, _≤_, _<_}
 use borrow.Fn.Kinds.{In}
@@ -15,7 +15,7 @@ use Rattle.write.proofs.empty.+has_empty+item_empty.Lts-has_empty as ha
 use Rattle.write.proofs.empty.item_empty.Reads as item-empty
 use Rattle.write.proofs.empty.item_empty.Kinds as item-empty-kinds
 use Rattle.write.proofs.empty.+has_empty+item_empty.Lts-item_empty as item-empty-lts
-use Rattle.build_memory.proofs.place.item_word.Reads as item-word-reads
+use Rattle.build_memory.proofs.fields.item_word.Reads as item-word-reads
 use Rattle.write.proofs.empty.+has_empty+item_empty.{statement}
 use Rattle.write.proofs.empty.+has_empty+item_empty.Tie.{close}
 
@@ -117,7 +117,7 @@ has-empty-loop-holds : (t : ℕ) → has-empty-lts.Need-loop-holds (
 has-empty-loop-holds t c =
     let a = c .before .before .before .before .before .before .args in
     let p = c .before .before .before .before .before .before .pre in
-    (omega arith, found-none (a .words .now) (a .arena .now) (a .roster .now) (whole-right _ _ (p .1 .0)) (p .1 .1 .0) (a .table) (p .1 .1 .1) (a .depth - 1))
+    (omega arith, found-none (a .words .now) (a .arena .now) (a .roster .now) (fully-valid _ _ (p .1 .0)) (p .1 .1 .0) (a .table) (p .1 .1 .1) (a .depth - 1))
 
 has-empty-add-item :
     (t : ℕ) →
@@ -130,7 +130,7 @@ has-empty-add-item :
 has-empty-add-item t c =
     let a = c .before .before .before .before .before .before .before .before .args in
     let p = c .before .before .before .before .before .before .before .before .pre in
-    omega (arith, slots-few (a .words .now) (a .arena .now) (a .roster .now) (whole-right _ _ (p .1 .0)) (p .1 .1 .0) (a .table) (p .1 .1 .1), p .1 .1 .0 .long)
+    omega (arith, slots-few (a .words .now) (a .arena .now) (a .roster .now) (fully-valid _ _ (p .1 .0)) (p .1 .1 .0) (a .table) (p .1 .1 .1), p .1 .1 .0 .long)
 
 has-empty-add-item-2 : (t : ℕ) → has-empty-lts.Need-add-item-2 (
   item-empty-below t,
@@ -139,7 +139,7 @@ has-empty-add-item-2 : (t : ℕ) → has-empty-lts.Need-add-item-2 (
 has-empty-add-item-2 t c =
     let a = c .before .before .before .before .before .before .before .before .args in
     let p = c .before .before .before .before .before .before .before .before .pre in
-    omega (arith, slots-few (a .words .now) (a .arena .now) (a .roster .now) (whole-right _ _ (p .1 .0)) (p .1 .1 .0) (a .table) (p .1 .1 .1), p .1 .1 .0 .long)
+    omega (arith, slots-few (a .words .now) (a .arena .now) (a .roster .now) (fully-valid _ _ (p .1 .0)) (p .1 .1 .0) (a .table) (p .1 .1 .1), p .1 .1 .0 .long)
 
 has-empty-mul-item :
     (t : ℕ) →
@@ -152,7 +152,7 @@ has-empty-mul-item :
 has-empty-mul-item t c =
     let a = c .before .before .before .before .before .before .before .before .args in
     let p = c .before .before .before .before .before .before .before .before .pre in
-    omega (arith, slots-few (a .words .now) (a .arena .now) (a .roster .now) (whole-right _ _ (p .1 .0)) (p .1 .1 .0) (a .table) (p .1 .1 .1), p .1 .1 .0 .long)
+    omega (arith, slots-few (a .words .now) (a .arena .now) (a .roster .now) (fully-valid _ _ (p .1 .0)) (p .1 .1 .0) (a .table) (p .1 .1 .1), p .1 .1 .0 .long)
 
 has-empty-shared-slice-read-item : (t : ℕ) → has-empty-lts.Need-shared-slice-read-item (
   item-empty-below t,
@@ -161,7 +161,7 @@ has-empty-shared-slice-read-item : (t : ℕ) → has-empty-lts.Need-shared-slice
 has-empty-shared-slice-read-item t c =
     let a = c .before .before .before .before .before .before .before .before .before .args in
     let p = c .before .before .before .before .before .before .before .before .before .pre in
-    omega (arith, slots-few (a .words .now) (a .arena .now) (a .roster .now) (whole-right _ _ (p .1 .0)) (p .1 .1 .0) (a .table) (p .1 .1 .1), p .1 .1 .0 .long)
+    omega (arith, slots-few (a .words .now) (a .arena .now) (a .roster .now) (fully-valid _ _ (p .1 .0)) (p .1 .1 .0) (a .table) (p .1 .1 .1), p .1 .1 .0 .long)
 
 has-empty-sub-item-empty : (t : ℕ) → has-empty-lts.Need-sub-item-empty (
   item-empty-below t,
@@ -178,7 +178,7 @@ has-empty-item-empty-requires t c κs =
     let p = c .before .before .before .before .before .before .before .before .before .pre in
     let k = c .before .before .loop .k in
     let low = c .before .loop-test .taken in
-    (omega (arith, p .0, c .before .before .before .before .before .if1 .left), (p .1 .0, (p .1 .1 .0, rw (slot-at (a .words .now) (a .arena .now) (a .roster .now) (whole-right _ _ (p .1 .0)) (p .1 .1 .0) (a .table) (p .1 .1 .1) k low) (slot-in (a .words .now) (a .arena .now) (a .roster .now) (whole-right _ _ (p .1 .0)) (p .1 .1 .0) (a .table) (p .1 .1 .1) k low))))
+    (omega (arith, p .0, c .before .before .before .before .before .if1 .left), (p .1 .0, (p .1 .1 .0, rw (slot-at (a .words .now) (a .arena .now) (a .roster .now) (fully-valid _ _ (p .1 .0)) (p .1 .1 .0) (a .table) (p .1 .1 .1) k low) (slot-in (a .words .now) (a .arena .now) (a .roster .now) (fully-valid _ _ (p .1 .0)) (p .1 .1 .0) (a .table) (p .1 .1 .1) k low))))
 
 has-empty-returns-2 :
     (t : ℕ) →
@@ -191,7 +191,7 @@ has-empty-returns-2 :
 has-empty-returns-2 t c =
     let a = c .before .before .before .before .before .before .before .before .before .before .before .args in
     let p = c .before .before .before .before .before .before .before .before .before .before .before .pre in
-    empty-hit (a .words .now) (a .arena .now) (a .roster .now) (whole-right _ _ (p .1 .0)) (p .1 .1 .0) (a .table) (p .1 .1 .1) (a .depth) (c .before .before .before .before .loop .k) _ _ (c .before .before .before .before .before .before .before .if1 .left) (c .before .before .before .loop-test .taken) (slot-at (a .words .now) (a .arena .now) (a .roster .now) (whole-right _ _ (p .1 .0)) (p .1 .1 .0) (a .table) (p .1 .1 .1) (c .before .before .before .before .loop .k) (c .before .before .before .loop-test .taken)) (c .before .item-empty .ensures) (c .if2 .taken)
+    empty-hit (a .words .now) (a .arena .now) (a .roster .now) (fully-valid _ _ (p .1 .0)) (p .1 .1 .0) (a .table) (p .1 .1 .1) (a .depth) (c .before .before .before .before .loop .k) _ _ (c .before .before .before .before .before .before .before .if1 .left) (c .before .before .before .loop-test .taken) (slot-at (a .words .now) (a .arena .now) (a .roster .now) (fully-valid _ _ (p .1 .0)) (p .1 .1 .0) (a .table) (p .1 .1 .1) (c .before .before .before .before .loop .k) (c .before .before .before .loop-test .taken)) (c .before .item-empty .ensures) (c .if2 .taken)
 
 has-empty-add-k :
     (t : ℕ) →
@@ -204,7 +204,7 @@ has-empty-add-k :
 has-empty-add-k t c =
     let a = c .before .before .before .before .before .before .before .before .before .before .before .args in
     let p = c .before .before .before .before .before .before .before .before .before .before .before .pre in
-    omega (arith, slots-few (a .words .now) (a .arena .now) (a .roster .now) (whole-right _ _ (p .1 .0)) (p .1 .1 .0) (a .table) (p .1 .1 .1), c .before .before .before .loop-test .taken)
+    omega (arith, slots-few (a .words .now) (a .arena .now) (a .roster .now) (fully-valid _ _ (p .1 .0)) (p .1 .1 .0) (a .table) (p .1 .1 .1), c .before .before .before .loop-test .taken)
 
 has-empty-loop-less :
     (t : ℕ) →
@@ -223,7 +223,7 @@ has-empty-loop-again : (t : ℕ) → has-empty-lts.Need-loop-again (
 has-empty-loop-again t c =
     let a = c .before .before .before .before .before .before .before .before .before .before .before .args in
     let p = c .before .before .before .before .before .before .before .before .before .before .before .pre in
-    (omega (arith, c .before .before .before .loop-test .taken), found-turn (a .words .now) (a .arena .now) (a .roster .now) (whole-right _ _ (p .1 .0)) (p .1 .1 .0) (a .table) (p .1 .1 .1) (a .depth - 1) (c .before .before .before .before .loop .k) _ _ (slot-at (a .words .now) (a .arena .now) (a .roster .now) (whole-right _ _ (p .1 .0)) (p .1 .1 .0) (a .table) (p .1 .1 .1) (c .before .before .before .before .loop .k) (c .before .before .before .loop-test .taken)) (c .before .item-empty .ensures) (c .if2 .left) (c .before .before .before .before .loop .inv .1))
+    (omega (arith, c .before .before .before .loop-test .taken), found-turn (a .words .now) (a .arena .now) (a .roster .now) (fully-valid _ _ (p .1 .0)) (p .1 .1 .0) (a .table) (p .1 .1 .1) (a .depth - 1) (c .before .before .before .before .loop .k) _ _ (slot-at (a .words .now) (a .arena .now) (a .roster .now) (fully-valid _ _ (p .1 .0)) (p .1 .1 .0) (a .table) (p .1 .1 .1) (c .before .before .before .before .loop .k) (c .before .before .before .loop-test .taken)) (c .before .item-empty .ensures) (c .if2 .left) (c .before .before .before .before .loop .inv .1))
 
 has-empty-returns-3 :
     (t : ℕ) →
@@ -236,7 +236,7 @@ has-empty-returns-3 :
 has-empty-returns-3 t c =
     let a = c .before .before .before .before .before .before .before .before .args in
     let p = c .before .before .before .before .before .before .before .before .pre in
-    empty-end (a .words .now) (a .arena .now) (a .roster .now) (whole-right _ _ (p .1 .0)) (p .1 .1 .0) (a .table) (p .1 .1 .1) (a .depth) (c .before .loop .k) (c .before .before .before .before .if1 .left) (omega arith) (c .before .loop .inv .1)
+    empty-end (a .words .now) (a .arena .now) (a .roster .now) (fully-valid _ _ (p .1 .0)) (p .1 .1 .0) (a .table) (p .1 .1 .1) (a .depth) (c .before .loop .k) (c .before .before .before .before .if1 .left) (omega arith) (c .before .loop .inv .1)
 
 item-empty-item-word-requires : (t : ℕ) → item-empty-lts.Need-item-word-requires (
   item-word-reads.Asked,
@@ -247,8 +247,8 @@ item-empty-item-word-requires : (t : ℕ) → item-empty-lts.Need-item-word-requ
 item-empty-item-word-requires t c κs =
     let a = c .before .before .before .args in
     let p = c .before .before .before .pre in
-    let r = whole-right _ _ (p .1 .0) in
-    (r .sound .long, omega (arith, r .sound .items, p .1 .1 .1), omega arith)
+    let r = fully-valid _ _ (p .1 .0) in
+    (r .valid .long, omega (arith, r .valid .items, p .1 .1 .1), omega arith)
 
 item-empty-returns : (t : ℕ) → item-empty-lts.Need-returns (
   item-word-reads.Asked,
@@ -270,8 +270,8 @@ item-empty-item-word-requires-2 : (t : ℕ) → item-empty-lts.Need-item-word-re
 item-empty-item-word-requires-2 t c κs =
     let a = c .before .before .before .before .before .args in
     let p = c .before .before .before .before .before .pre in
-    let r = whole-right _ _ (p .1 .0) in
-    (r .sound .long, omega (arith, r .sound .items, p .1 .1 .1), omega arith)
+    let r = fully-valid _ _ (p .1 .0) in
+    (r .valid .long, omega (arith, r .valid .items, p .1 .1 .1), omega arith)
 
 item-empty-returns-2 : (t : ℕ) → item-empty-lts.Need-returns-2 (
   item-word-reads.Asked,
@@ -293,8 +293,8 @@ item-empty-item-word-requires-3 : (t : ℕ) → item-empty-lts.Need-item-word-re
 item-empty-item-word-requires-3 t c κs =
     let a = c .before .before .before .before .before .before .before .args in
     let p = c .before .before .before .before .before .before .before .pre in
-    let r = whole-right _ _ (p .1 .0) in
-    (r .sound .long, omega (arith, r .sound .items, p .1 .1 .1), omega arith)
+    let r = fully-valid _ _ (p .1 .0) in
+    (r .valid .long, omega (arith, r .valid .items, p .1 .1 .1), omega arith)
 
 item-empty-has-empty-requires : (t : ℕ) → item-empty-lts.Need-has-empty-requires (
   item-word-reads.Asked,
@@ -305,7 +305,7 @@ item-empty-has-empty-requires : (t : ℕ) → item-empty-lts.Need-has-empty-requ
 item-empty-has-empty-requires t c κs =
     let a = c .before .before .before .before .before .before .before .before .args in
     let p = c .before .before .before .before .before .before .before .before .pre in
-    let r = whole-right _ _ (p .1 .0) in
+    let r = fully-valid _ _ (p .1 .0) in
     let g = r .guest (a .item) (p .1 .1 .1) (sym (c .before .before .item-word2 .ensures) ∙ c .before .if2 .left) in
     (omega (arith, p .0), (p .1 .0, (p .1 .1 .0, omega (arith, g, c .item-word3 .ensures))))
 

@@ -35,7 +35,7 @@ same-length c = search needs
 returns : tie.Need-returns
 returns c =
     let a = c .before .before .before .before .before .before .before .before .before .before .before .before .before .args in
-    c .before .before .put-four .ensures ∙ back-made (a .words .now) (a .roster .now) (a .sheet .now) (a .i) (a .at) (a .firsts .now) _ _ _ _ (c .before .before .before .before .before .before .before .before .item-word .ensures) (c .before .before .before .before .before .before .before .start-of .ensures) (c .before .before .before .before .before .before .size-of .ensures) (c .before .before .before .before .before .slot-of .ensures .0)
+    c .before .before .put-four .ensures ∙ back-made (a .words .now) (a .roster .now) (a .numbered .now) (a .i) (a .at) (a .firsts .now) _ _ _ _ (c .before .before .before .before .before .before .before .before .item-word .ensures) (c .before .before .before .before .before .before .before .start-of .ensures) (c .before .before .before .before .before .before .size-of .ensures) (c .before .before .before .before .before .slot-of .ensures .0)
 
 pub put-back-spec : {M : Type 1} → statement M
 put-back-spec =

@@ -6,38 +6,38 @@ use borrow.Author.Needs.{needs}
 use Rattle.write.proofs.slot.put_four.Statement.{statement}
 use Rattle.write.proofs.slot.put_four.Tie as tie
 
-mul-sheet : tie.Need-mul-sheet
-mul-sheet c = search needs
+mul-numbered : tie.Need-mul-numbered
+mul-numbered c = search needs
 
-slice-write-sheet : tie.Need-slice-write-sheet
-slice-write-sheet c = search needs
+slice-write-numbered : tie.Need-slice-write-numbered
+slice-write-numbered c = search needs
 
-add-sheet : tie.Need-add-sheet
-add-sheet c = search needs
+add-numbered : tie.Need-add-numbered
+add-numbered c = search needs
 
-mul-sheet-2 : tie.Need-mul-sheet-2
-mul-sheet-2 c = search needs
+mul-numbered-2 : tie.Need-mul-numbered-2
+mul-numbered-2 c = search needs
 
-slice-write-sheet-2 : tie.Need-slice-write-sheet-2
-slice-write-sheet-2 c = simp length-set (omega arith)
+slice-write-numbered-2 : tie.Need-slice-write-numbered-2
+slice-write-numbered-2 c = simp length-set (omega arith)
 
-add-sheet-2 : tie.Need-add-sheet-2
-add-sheet-2 c = search needs
+add-numbered-2 : tie.Need-add-numbered-2
+add-numbered-2 c = search needs
 
-mul-sheet-3 : tie.Need-mul-sheet-3
-mul-sheet-3 c = search needs
+mul-numbered-3 : tie.Need-mul-numbered-3
+mul-numbered-3 c = search needs
 
-slice-write-sheet-3 : tie.Need-slice-write-sheet-3
-slice-write-sheet-3 c = simp length-set (omega arith)
+slice-write-numbered-3 : tie.Need-slice-write-numbered-3
+slice-write-numbered-3 c = simp length-set (omega arith)
 
-add-sheet-3 : tie.Need-add-sheet-3
-add-sheet-3 c = search needs
+add-numbered-3 : tie.Need-add-numbered-3
+add-numbered-3 c = search needs
 
-mul-sheet-4 : tie.Need-mul-sheet-4
-mul-sheet-4 c = search needs
+mul-numbered-4 : tie.Need-mul-numbered-4
+mul-numbered-4 c = search needs
 
-slice-write-sheet-4 : tie.Need-slice-write-sheet-4
-slice-write-sheet-4 c = simp length-set (omega arith)
+slice-write-numbered-4 : tie.Need-slice-write-numbered-4
+slice-write-numbered-4 c = simp length-set (omega arith)
 
 same-length : tie.Need-same-length
 same-length c = search needs
@@ -49,16 +49,16 @@ pub put-four-spec : {M : Type 1} → statement M
 put-four-spec =
     tie.close
     (tie.spec
-    mul-sheet
-    slice-write-sheet
-    add-sheet
-    mul-sheet-2
-    slice-write-sheet-2
-    add-sheet-2
-    mul-sheet-3
-    slice-write-sheet-3
-    add-sheet-3
-    mul-sheet-4
-    slice-write-sheet-4
+    mul-numbered
+    slice-write-numbered
+    add-numbered
+    mul-numbered-2
+    slice-write-numbered-2
+    add-numbered-2
+    mul-numbered-3
+    slice-write-numbered-3
+    add-numbered-3
+    mul-numbered-4
+    slice-write-numbered-4
     same-length
     returns)

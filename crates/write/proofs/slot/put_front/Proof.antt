@@ -35,7 +35,7 @@ same-length c = search needs
 returns : tie.Need-returns
 returns c =
     let a = c .before .before .before .before .before .before .before .before .before .before .before .before .args in
-    c .before .before .put-four .ensures ∙ front-made (a .words .now) (a .roster .now) (a .sheet .now) (a .i) (a .at) _ _ _ _ _ (c .before .before .before .before .before .before .before .before .item-word .ensures) (c .before .before .before .before .before .before .before .parent-word .ensures) (c .before .before .before .before .before .before .skip-of .ensures) (c .before .before .before .before .before .item-word2 .ensures) (c .before .before .before .before .item-word3 .ensures)
+    c .before .before .put-four .ensures ∙ front-made (a .words .now) (a .roster .now) (a .numbered .now) (a .i) (a .at) _ _ _ _ _ (c .before .before .before .before .before .before .before .before .item-word .ensures) (c .before .before .before .before .before .before .before .parent-word .ensures) (c .before .before .before .before .before .before .skip-of .ensures) (c .before .before .before .before .before .item-word2 .ensures) (c .before .before .before .before .item-word3 .ensures)
 
 pub put-front-spec : {M : Type 1} → statement M
 put-front-spec =

@@ -3,7 +3,7 @@ use mathlib.Core.Path.{_≡_}
 use Prim.Native.Nat.{_+_, _*_}
 use native.Mathlib.Omega.{arith}
 use lib.ListN.{getD}
-use Rattle.write.specs.Sheeted.{slotOf}
+use Rattle.write.specs.NumberedAs.{slotOf}
 use Rattle.write.proofs.SlotLaws.{slot-own}
 use borrow.Author.Needs.{needs}
 use Rattle.write.proofs.slot.slot_of.Statement.{statement}

@@ -9,11 +9,11 @@ use borrow.Fn.PlainCycle.{Measures, is, falls, and}
 use lib.ListN.{length}
 use Rattle.layout.specs.Table.{longestFile}
 use Rattle.image.specs.Plan.{place}
-use Rattle.write_bytes.specs.Sheet.{kindTable, slotWord, sheetBytes}
+use Rattle.write_bytes.specs.Numbered.{kindTable, slotWord, numberedBytes}
 use Rattle.write_bytes.specs.Slot.{slotItem}
 use Rattle.write_bytes.specs.Measure.{measured}
 use Rattle.write_bytes.proofs.ItemLaws.{AtSlot, slot-in, slot-fits, cover-fits, item-end, table-item, plain-item}
-use Rattle.write_bytes.proofs.TurnLaws.{AtTable, planAt, baseAt, nothing-long, first-place, table-ends, table-least, few, next-is, next-within}
+use Rattle.write_bytes.proofs.TurnLaws.{AtTable, planAt, baseAt, nothing-long, first-offset, table-ends, table-least, few, next-is, next-within}
 use Rattle.write_bytes.proofs.MeasureLaws.{within, beyond, end-is, long-is}
 use Rattle.write_bytes.proofs.measure.measure_item.Reads as measure-item
 use Rattle.write_bytes.proofs.measure.measure_item.Kinds as measure-item-kinds
@@ -21,9 +21,9 @@ use Rattle.write_bytes.proofs.measure.+measure_item+measure_table.Lts-m
 use Rattle.write_bytes.proofs.measure.measure_table.Reads as measure-table
 use Rattle.write_bytes.proofs.measure.measure_table.Kinds as measure-table-kinds
 use Rattle.write_bytes.proofs.measure.+measure_item+measure_table.Lts-measure_table as measure-table-lts
-use Rattle.write_bytes.proofs.sheet.first_slot.Reads as first-slot-reads
-use Rattle.write_bytes.proofs.sheet.slot_count.Reads as slot-count-reads
-use Rattle.write_bytes.proofs.sheet.slot_word.Reads as slot-word-reads
+use Rattle.write_bytes.proofs.numbered.first_slot.Reads as first-slot-reads
+use Rattle.write_bytes.proofs.numbered.slot_count.Reads as slot-count-reads
+use Rattle.write_bytes.proofs.numbered.slot_word.Reads as slot-word-reads
 use Rattle.write_bytes.proofs.slot.cover.Reads as cover-reads
 use Rattle.write_bytes.proofs.slot.value_start.Reads as value-start-reads
 use Rattle.write_bytes.proofs.measure.+measure_item+measure_table.{statement}
@@ -66,7 +66,7 @@ abbrev measure-table-claims : ℕ → measure-table-lts.Claims
 measure-table-claims t = (first-slot-reads.Asked, first-slot-reads.Learnt, slot-count-reads.Asked, slot-count-reads.Learnt, measure-item-below t, measure-item.Post)
 
 -- what is given of the slot, and of the table once its words are read
-measure-item-given : (t : ℕ) (c : measure-item-lts.Start (measure-item-claims t) (measure-item-at t) measure-item.Post) → AtSlot (c .args .sheet .now) (c .args .arena .now) (c .args .slot)
+measure-item-given : (t : ℕ) (c : measure-item-lts.Start (measure-item-claims t) (measure-item-at t) measure-item.Post) → AtSlot (c .args .numbered .now) (c .args .arena .now) (c .args .slot)
 measure-item-given t c = record { fits = c .pre .1 .0; inside = c .pre .1 .1 .0 }
 
 measure-item-value-start-requires : (t : ℕ) → measure-item-lts.Need-value-start-requires (measure-item-claims t) (measure-item-at t) measure-item.Post
@@ -79,9 +79,9 @@ measure-item-returns : (t : ℕ) → measure-item-lts.Need-returns (measure-item
 measure-item-returns t c =
     let s = c .before .before .before .before in
     let g = measure-item-given t s in
-    let sheet = s .args .sheet .now in
+    let numbered = s .args .numbered .now in
     let arena = s .args .arena .now in
-    let inner = sheetBytes sheet arena (s .args .depth) in
+    let inner = numberedBytes numbered arena (s .args .depth) in
     let ends = item-end g inner (s .args .at) in
     sym (beyond _ (omega (arith, ends, c .before .value-start .ensures, c .if1 .taken)))
 
@@ -106,9 +106,9 @@ measure-item-returns-2 : (t : ℕ) → measure-item-lts.Need-returns-2 (measure-
 measure-item-returns-2 t c =
     let s = c .before .before .before .before .before .before .before .before in
     let g = measure-item-given t s in
-    let sheet = s .args .sheet .now in
+    let numbered = s .args .numbered .now in
     let arena = s .args .arena .now in
-    let inner = sheetBytes sheet arena (s .args .depth) in
+    let inner = numberedBytes numbered arena (s .args .depth) in
     let kind = sym (c .before .before .before .slot-word .ensures) ∙ c .before .before .if2 .taken in
     let ends = table-item g inner (s .args .at) kind (c .before .slot-word2 .ensures) (c .before .before .before .before .before .value-start .ensures) in
     c .measure-table .ensures ∙ ap measured (sym ends)
@@ -123,10 +123,10 @@ measure-item-returns-3 : (t : ℕ) → measure-item-lts.Need-returns-3 (measure-
 measure-item-returns-3 t c =
     let s = c .before .before .before .before .before .before .before .before in
     let g = measure-item-given t s in
-    let sheet = s .args .sheet .now in
+    let numbered = s .args .numbered .now in
     let arena = s .args .arena .now in
-    let inner = sheetBytes sheet arena (s .args .depth) in
-    let plain : slotWord sheet (s .args .slot) 4 ≡ kindTable → ⊥ = λ e. c .before .before .if2 .left (c .before .before .before .slot-word .ensures ∙ e) in
+    let inner = numberedBytes numbered arena (s .args .depth) in
+    let plain : slotWord numbered (s .args .slot) 4 ≡ kindTable → ⊥ = λ e. c .before .before .if2 .left (c .before .before .before .slot-word .ensures ∙ e) in
     let ends = plain-item g inner (s .args .at) plain (c .before .before .before .before .before .value-start .ensures) in
     sym (beyond _ (omega (arith, ends, c .before .cover .ensures, c .if3 .taken, c .before .before .before .before .if1 .left)))
 
@@ -137,22 +137,22 @@ measure-item-returns-4 : (t : ℕ) → measure-item-lts.Need-returns-4 (measure-
 measure-item-returns-4 t c =
     let s = c .before .before .before .before .before .before .before .before in
     let g = measure-item-given t s in
-    let sheet = s .args .sheet .now in
+    let numbered = s .args .numbered .now in
     let arena = s .args .arena .now in
-    let inner = sheetBytes sheet arena (s .args .depth) in
-    let plain : slotWord sheet (s .args .slot) 4 ≡ kindTable → ⊥ = λ e. c .before .before .if2 .left (c .before .before .before .slot-word .ensures ∙ e) in
+    let inner = numberedBytes numbered arena (s .args .depth) in
+    let plain : slotWord numbered (s .args .slot) 4 ≡ kindTable → ⊥ = λ e. c .before .before .if2 .left (c .before .before .before .slot-word .ensures ∙ e) in
     let ends = plain-item g inner (s .args .at) plain (c .before .before .before .before .before .value-start .ensures) in
-    let e : c .before .before .before .before .before .value-start .result + c .before .cover .result ≡ s .args .at + length (slotItem inner sheet arena (s .args .slot) (s .args .at)) = omega (arith, ends, c .before .cover .ensures) in
+    let e : c .before .before .before .before .before .value-start .result + c .before .cover .result ≡ s .args .at + length (slotItem inner numbered arena (s .args .slot) (s .args .at)) = omega (arith, ends, c .before .cover .ensures) in
     sym (ap measured (sym e) ∙ within _ (omega (arith, c .if3 .left, c .before .before .before .before .if1 .left)))
 
 abbrev measure-table-Inv-loop : measure-table-lts.InvT-loop
-measure-table-Inv-loop sheet arena table at depth first count end₀ k₀ end k = (k ≤ count) × (end ≤ longestFile) × (end ≡ place (planAt sheet arena depth table) (baseAt sheet arena depth table at) k)
+measure-table-Inv-loop numbered arena table at depth first count end₀ k₀ end k = (k ≤ count) × (end ≤ longestFile) × (end ≡ place (planAt numbered arena depth table) (baseAt numbered arena depth table at) k)
 
 abbrev measure-table-μ-loop : measure-table-lts.MeasureT-loop
-measure-table-μ-loop sheet arena table at depth first count end₀ k₀ end k = count - k
+measure-table-μ-loop numbered arena table at depth first count end₀ k₀ end k = count - k
 
 measure-table-given : (t : ℕ) (c : measure-table-lts.After-slot-count (measure-table-claims t) (measure-table-at t) measure-table.Post measure-table-Inv-loop measure-table-μ-loop)
-    → AtTable (c .before .before .before .before .before .args .sheet .now) (c .before .before .before .before .before .args .arena .now) (c .before .before .before .before .before .args .table) (c .before .before .before .before .before .args .at) (c .before .before .before .before .before .args .depth) (c .before .first-slot .result) (c .slot-count .result)
+    → AtTable (c .before .before .before .before .before .args .numbered .now) (c .before .before .before .before .before .args .arena .now) (c .before .before .before .before .before .args .table) (c .before .before .before .before .before .args .at) (c .before .before .before .before .before .args .depth) (c .before .first-slot .result) (c .slot-count .result)
 measure-table-given t c =
     let s = c .before .before .before .before .before in
     record {
@@ -166,7 +166,7 @@ measure-table-given t c =
 measure-table-returns : (t : ℕ) → measure-table-lts.Need-returns (measure-table-claims t) (measure-table-at t) measure-table.Post measure-table-Inv-loop measure-table-μ-loop
 measure-table-returns t c =
     let s = c .before .before .before in
-    sym (ap measured (nothing-long (s .args .sheet .now) (s .args .arena .now) (s .args .table) (s .args .at) (s .args .depth) (c .if1 .taken)) ∙ within _ (s .pre .1 .1 .1))
+    sym (ap measured (nothing-long (s .args .numbered .now) (s .args .arena .now) (s .args .table) (s .args .at) (s .args .depth) (c .if1 .taken)) ∙ within _ (s .pre .1 .1 .1))
 
 measure-table-first-slot-requires : (t : ℕ) → measure-table-lts.Need-first-slot-requires (measure-table-claims t) (measure-table-at t) measure-table.Post measure-table-Inv-loop measure-table-μ-loop
 measure-table-first-slot-requires t c κs =
@@ -204,7 +204,7 @@ measure-table-returns-2 t c =
 measure-table-loop-holds : (t : ℕ) → measure-table-lts.Need-loop-holds (measure-table-claims t) (measure-table-at t) measure-table.Post measure-table-Inv-loop measure-table-μ-loop
 measure-table-loop-holds t c =
     let g = measure-table-given t (c .before) in
-    (omega arith, omega (arith, c .if2 .left), first-place g)
+    (omega arith, omega (arith, c .if2 .left), first-offset g)
 
 measure-table-add-measure-item : (t : ℕ) → measure-table-lts.Need-add-measure-item (measure-table-claims t) (measure-table-at t) measure-table.Post measure-table-Inv-loop measure-table-μ-loop
 measure-table-add-measure-item t c =
@@ -258,11 +258,11 @@ measure-table-returns-4 : (t : ℕ) → measure-table-lts.Need-returns-4 (measur
 measure-table-returns-4 t c =
     let s = c .before .before .before .before .before .before .before .before in
     let g = measure-table-given t (c .before .before .before) in
-    let sheet = s .args .sheet .now in
+    let numbered = s .args .numbered .now in
     let arena = s .args .arena .now in
     let at = c .before .loop in
     let all : at .k ≡ c .before .before .before .slot-count .result = omega (arith, at .inv .0, c .loop-test .left) in
-    let ends : s .args .at + length (sheetBytes sheet arena (s .args .depth) (s .args .table) (s .args .at)) ≡ at .end =
+    let ends : s .args .at + length (numberedBytes numbered arena (s .args .depth) (s .args .table) (s .args .at)) ≡ at .end =
     table-ends g ∙ sym (rw all at (at .inv .2)) in
     sym (ap measured ends ∙ within _ (at .inv .1))
 

@@ -7,16 +7,16 @@ use lib.ListN.{length}
 use Rattle.words.specs.Store.{putAt}
 use Rattle.words.proofs.StoreLaws.{length-put}
 use Rattle.image.specs.Plan.{wordsOf}
-use Rattle.write_bytes.specs.Sheet.{slotWord}
+use Rattle.write_bytes.specs.Numbered.{slotWord}
 use Rattle.write_bytes.proofs.PutLaws.{words-start, words-turn, words-laid}
 use Rattle.write_bytes.proofs.put.lay_buckets.Statement.{statement}
 use Rattle.write_bytes.proofs.put.lay_buckets.Tie as tie
 
 abbrev Inv-loop : tie.InvT-loop
-Inv-loop sheet image₀ first count at b₀ image b = (b ≤ count) × (length image ≡ length image₀) × (image ≡ putAt image₀ at (wordsOf (λ k. slotWord sheet (first + k) 7) b))
+Inv-loop numbered image₀ first count at b₀ image b = (b ≤ count) × (length image ≡ length image₀) × (image ≡ putAt image₀ at (wordsOf (λ k. slotWord numbered (first + k) 7) b))
 
 abbrev μ-loop : tie.MeasureT-loop
-μ-loop sheet image₀ first count at b₀ image b = count - b
+μ-loop numbered image₀ first count at b₀ image b = count - b
 
 loop-holds : tie.Need-loop-holds Inv-loop μ-loop
 loop-holds c = (omega arith, refl, words-start (c .before .before .args .image .now) (c .before .before .args .at) _)

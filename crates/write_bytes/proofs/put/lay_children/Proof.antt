@@ -7,16 +7,16 @@ use lib.ListN.{length}
 use Rattle.words.specs.Store.{putAt}
 use Rattle.words.proofs.StoreLaws.{length-put}
 use Rattle.image.specs.Plan.{wordsOf}
-use Rattle.write_bytes.specs.Sheet.{childWord}
+use Rattle.write_bytes.specs.Numbered.{childWord}
 use Rattle.write_bytes.proofs.PutLaws.{words-start, words-turn, words-laid}
 use Rattle.write_bytes.proofs.put.lay_children.Statement.{statement}
 use Rattle.write_bytes.proofs.put.lay_children.Tie as tie
 
 abbrev Inv-loop : tie.InvT-loop
-Inv-loop sheet image₀ from count at j₀ image j = (j ≤ count) × (length image ≡ length image₀) × (image ≡ putAt image₀ at (wordsOf (λ k. childWord sheet (from + k)) j))
+Inv-loop numbered image₀ from count at j₀ image j = (j ≤ count) × (length image ≡ length image₀) × (image ≡ putAt image₀ at (wordsOf (λ k. childWord numbered (from + k)) j))
 
 abbrev μ-loop : tie.MeasureT-loop
-μ-loop sheet image₀ from count at j₀ image j = count - j
+μ-loop numbered image₀ from count at j₀ image j = count - j
 
 loop-holds : tie.Need-loop-holds Inv-loop μ-loop
 loop-holds c = (omega arith, refl, words-start (c .before .before .args .image .now) (c .before .before .args .at) _)

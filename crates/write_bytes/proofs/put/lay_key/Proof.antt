@@ -3,7 +3,7 @@ use mathlib.Core.Path.{_≡_}
 use Prim.Native.Nat.{_+_}
 use native.Mathlib.Omega.{arith}
 use borrow.Author.Needs.{needs}
-use Rattle.write_bytes.specs.Sheet.{slotWord}
+use Rattle.write_bytes.specs.Numbered.{slotWord}
 use Rattle.write_bytes.proofs.PutLaws.{part-end, put-key}
 use Rattle.write_bytes.proofs.put.lay_key.Statement.{statement}
 use Rattle.write_bytes.proofs.put.lay_key.Tie as tie
@@ -18,11 +18,11 @@ lay-part-requires : tie.Need-lay-part-requires
 lay-part-requires c κs = search needs
 
 -- where the fragment ends
-ends : (c : tie.After-lay-part) → c .lay-part .result ≡ c .before .before .before .before .before .before .before .args .at + slotWord (c .before .before .before .before .before .before .before .args .sheet .now) (c .before .before .before .before .before .before .before .args .slot) 3
+ends : (c : tie.After-lay-part) → c .lay-part .result ≡ c .before .before .before .before .before .before .before .args .at + slotWord (c .before .before .before .before .before .before .before .args .numbered .now) (c .before .before .before .before .before .before .before .args .slot) 3
 ends c =
     let s = c .before .before .before .before .before .before .before in
     let args = s .args in
-    part-end (args .sheet .now) (args .arena .now) (args .image .now) (args .slot) (args .at) (c .before .before .before .slot-word .ensures) (c .before .before .slot-word2 .ensures) (s .pre .1 .0) (c .lay-part .ensures)
+    part-end (args .numbered .now) (args .arena .now) (args .image .now) (args .slot) (args .at) (c .before .before .before .slot-word .ensures) (c .before .before .slot-word2 .ensures) (s .pre .1 .0) (c .lay-part .ensures)
 
 sub-put-zeros : tie.Need-sub-put-zeros
 sub-put-zeros c =
@@ -41,7 +41,7 @@ returns : tie.Need-returns
 returns c =
     let s = c .before .before .before .before .before .before .before .before .before .before .before .before .before in
     let args = s .args in
-    put-key (args .sheet .now) (args .arena .now) (args .image .now) (args .slot) (args .at) (args .start) (c .before .before .before .before .before .before .before .before .before .slot-word .ensures) (c .before .before .before .before .before .before .before .before .slot-word2 .ensures) (s .pre .1 .0)
+    put-key (args .numbered .now) (args .arena .now) (args .image .now) (args .slot) (args .at) (args .start) (c .before .before .before .before .before .before .before .before .before .slot-word .ensures) (c .before .before .before .before .before .before .before .before .slot-word2 .ensures) (s .pre .1 .0)
     (c .before .before .before .before .before .before .lay-part .ensures) (c .before .before .put-zeros .ensures)
 
 pub lay-key-spec : {M : Type 1} → statement M

@@ -3,7 +3,7 @@ use mathlib.Core.Path.{_≡_, sym, _∙_}
 use Prim.Native.Nat.{_+_}
 use native.Mathlib.Omega.{arith}
 use borrow.Author.Needs.{needs}
-use Rattle.write_bytes.specs.Sheet.{kindValue, slotWord}
+use Rattle.write_bytes.specs.Numbered.{kindValue, slotWord}
 use Rattle.write_bytes.proofs.SlotLaws.{cover-value, cover-container}
 use Rattle.write_bytes.proofs.PutLaws.{bytes-laid, children-laid}
 use Rattle.write_bytes.proofs.put.lay_plain.Statement.{statement}
@@ -23,7 +23,7 @@ lay-part-requires c κs =
     let s = c .before .before .before .before .before .before .before .before in
     let kind = sym (c .before .before .before .before .slot-word .ensures) ∙ c .before .if1 .taken in (
       omega (arith, s .pre .0 .slots (s .args .slot) (s .pre .1 .0) .value kind, c .before .before .before .slot-word2 .ensures, c .before .before .slot-word3 .ensures),
-      omega (arith, s .pre .1 .1 .1, cover-value (s .args .sheet .now) (s .args .slot) kind, c .before .before .slot-word3 .ensures),
+      omega (arith, s .pre .1 .1 .1, cover-value (s .args .numbered .now) (s .args .slot) kind, c .before .before .slot-word3 .ensures),
     )
 
 same-length : tie.Need-same-length
@@ -32,19 +32,19 @@ same-length c = search needs
 returns : tie.Need-returns
 returns c =
     let s = c .before .before .before .before .before .before .before .before .before .before .before in
-    bytes-laid (s .args .sheet .now) (s .args .arena .now) (s .args .slot) (sym (c .before .before .before .before .before .before .before .slot-word .ensures) ∙ c .before .before .before .before .if1 .taken) (c .before .before .before .before .before .before .slot-word2 .ensures) (c .before .before .before .before .before .slot-word3 .ensures)
+    bytes-laid (s .args .numbered .now) (s .args .arena .now) (s .args .slot) (sym (c .before .before .before .before .before .before .before .slot-word .ensures) ∙ c .before .before .before .before .if1 .taken) (c .before .before .before .before .before .before .slot-word2 .ensures) (c .before .before .before .before .before .slot-word3 .ensures)
     (c .before .before .lay-part .ensures)
 
 lay-children-requires : tie.Need-lay-children-requires
 lay-children-requires c κs =
     let s = c .before .before .before .before .before .before .before .before in
     let fits = s .pre .0 in
-    let other : slotWord (s .args .sheet .now) (s .args .slot) 4 ≡ kindValue → ⊥ = λ e. c .before .if1 .left (c .before .before .before .before .slot-word .ensures ∙ e) in
+    let other : slotWord (s .args .numbered .now) (s .args .slot) 4 ≡ kindValue → ⊥ = λ e. c .before .if1 .left (c .before .before .before .before .slot-word .ensures ∙ e) in
     let room = fits .slots (s .args .slot) (s .pre .1 .0) .children other (s .pre .1 .1 .0) in (
       (fits .long, omega (arith, room, c .before .before .before .slot-word2 .ensures, c .before .before .slot-word3 .ensures)),
       (
-        λ j less. fits .numbers (c .before .before .before .slot-word2 .result + j) (omega (arith, room, c .before .before .before .slot-word2 .ensures, c .before .before .slot-word3 .ensures)),
-        omega (arith, s .pre .1 .1 .1, cover-container (s .args .sheet .now) (s .args .slot) other (s .pre .1 .1 .0), c .before .before .slot-word3 .ensures),
+        λ j less. fits .children (c .before .before .before .slot-word2 .result + j) (omega (arith, room, c .before .before .before .slot-word2 .ensures, c .before .before .slot-word3 .ensures)),
+        omega (arith, s .pre .1 .1 .1, cover-container (s .args .numbered .now) (s .args .slot) other (s .pre .1 .1 .0), c .before .before .slot-word3 .ensures),
       ),
     )
 
@@ -54,7 +54,7 @@ same-length-2 c = search needs
 returns-2 : tie.Need-returns-2
 returns-2 c =
     let s = c .before .before .before .before .before .before .before .before .before .before .before in
-    children-laid (s .args .sheet .now) (s .args .arena .now) (s .args .slot) (λ e. c .before .before .before .before .if1 .left (c .before .before .before .before .before .before .before .slot-word .ensures ∙ e)) (c .before .before .before .before .before .before .slot-word2 .ensures) (c .before .before .before .before .before .slot-word3 .ensures)
+    children-laid (s .args .numbered .now) (s .args .arena .now) (s .args .slot) (λ e. c .before .before .before .before .if1 .left (c .before .before .before .before .before .before .before .slot-word .ensures ∙ e)) (c .before .before .before .before .before .before .slot-word2 .ensures) (c .before .before .before .before .before .slot-word3 .ensures)
     (c .before .before .lay-children .ensures)
 
 pub lay-plain-spec : {M : Type 1} → statement M

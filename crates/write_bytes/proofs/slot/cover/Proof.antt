@@ -3,7 +3,7 @@ use mathlib.Core.Path.{_≡_, sym, ap, _∙_}
 use Prim.Native.Nat.{ℕ, _+_, _*_, _≤_}
 use native.Mathlib.Omega.{arith}
 use borrow.Author.Needs.{needs}
-use Rattle.write_bytes.specs.Sheet.{slotWord, slotCount}
+use Rattle.write_bytes.specs.Numbered.{slotWord, slotCount}
 use Rattle.write_bytes.proofs.SlotLaws.{cover-value, cover-table, cover-container}
 use Rattle.write_bytes.proofs.slot.cover.Statement.{statement}
 use Rattle.write_bytes.proofs.slot.cover.Tie as tie
@@ -17,7 +17,7 @@ slot-word-requires-2 c κs = search needs
 returns : tie.Need-returns
 returns c =
     let args = c .before .before .before .before .args in
-    c .before .slot-word2 .ensures ∙ sym (cover-value (args .sheet .now) (args .slot) (sym (c .before .before .slot-word .ensures) ∙ c .if1 .taken))
+    c .before .slot-word2 .ensures ∙ sym (cover-value (args .numbered .now) (args .slot) (sym (c .before .before .slot-word .ensures) ∙ c .if1 .taken))
 
 slot-word-requires-3 : tie.Need-slot-word-requires-3
 slot-word-requires-3 c κs = search needs
@@ -28,8 +28,8 @@ slot-count-requires c κs =
     omega (arith, c .slot-word3 .ensures, s .pre .0, s .pre .1 .guest (sym (c .before .before .before .before .slot-word .ensures) ∙ c .before .if2 .taken))
 
 -- the guest's count
-counted : (c : tie.After-slot-count) → c .slot-count .result ≡ slotCount (c .before .before .before .before .before .before .before .args .sheet .now) (slotWord (c .before .before .before .before .before .before .before .args .sheet .now) (c .before .before .before .before .before .before .before .args .slot) 5)
-counted c = c .slot-count .ensures ∙ ap (slotCount (c .before .before .before .before .before .before .before .args .sheet .now)) (c .before .slot-word3 .ensures)
+counted : (c : tie.After-slot-count) → c .slot-count .result ≡ slotCount (c .before .before .before .before .before .before .before .args .numbered .now) (slotWord (c .before .before .before .before .before .before .before .args .numbered .now) (c .before .before .before .before .before .before .before .args .slot) 5)
+counted c = c .slot-count .ensures ∙ ap (slotCount (c .before .before .before .before .before .before .before .args .numbered .now)) (c .before .slot-word3 .ensures)
 
 few : (c : tie.After-slot-count) → c .slot-count .result ≤ 1024
 few c = omega (arith, counted c, c .before .before .before .before .before .before .before .pre .1 .items (sym (c .before .before .before .before .before .slot-word .ensures) ∙ c .before .before .if2 .taken))
@@ -43,7 +43,7 @@ add-result c = omega (arith, few c)
 returns-2 : tie.Need-returns-2
 returns-2 c =
     let args = c .before .before .before .before .before .before .before .args in
-    sym (cover-table (args .sheet .now) (args .slot) (sym (c .before .before .before .before .before .slot-word .ensures) ∙ c .before .before .if2 .taken) ∙ ap (λ (n : ℕ). 8 + 28 * n) (sym (counted c)))
+    sym (cover-table (args .numbered .now) (args .slot) (sym (c .before .before .before .before .before .slot-word .ensures) ∙ c .before .before .if2 .taken) ∙ ap (λ (n : ℕ). 8 + 28 * n) (sym (counted c)))
 
 mul-result-2 : tie.Need-mul-result-2
 mul-result-2 c =
@@ -54,7 +54,7 @@ returns-3 : tie.Need-returns-3
 returns-3 c =
     let args = c .before .before .before .before .before .args in
     ap (λ (n : ℕ). 4 * n) (c .before .before .slot-word2 .ensures)
-    ∙ sym (cover-container (args .sheet .now) (args .slot) (λ e. c .before .if1 .left (c .before .before .before .slot-word .ensures ∙ e)) (λ e. c .if2 .left (c .before .before .before .slot-word .ensures ∙ e)))
+    ∙ sym (cover-container (args .numbered .now) (args .slot) (λ e. c .before .if1 .left (c .before .before .before .slot-word .ensures ∙ e)) (λ e. c .if2 .left (c .before .before .before .slot-word .ensures ∙ e)))
 
 pub cover-spec : {M : Type 1} → statement M
 cover-spec =

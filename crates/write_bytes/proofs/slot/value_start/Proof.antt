@@ -3,7 +3,7 @@ use mathlib.Core.Path.{ap, _∙_}
 use Prim.Native.Nat.{ℕ, _+_}
 use borrow.Author.Needs.{needs}
 use Rattle.words.specs.Align.{aligned}
-use Rattle.write_bytes.specs.Sheet.{byKind}
+use Rattle.write_bytes.specs.Numbered.{byKind}
 use Rattle.write_bytes.proofs.SlotLaws.{start-is}
 use Rattle.write_bytes.proofs.slot.value_start.Statement.{statement}
 use Rattle.write_bytes.proofs.slot.value_start.Tie as tie
@@ -26,7 +26,7 @@ align-offset-requires c κs = search needs
 returns : tie.Need-returns
 returns c =
     let args = c .before .before .before .before .before .args in
-    start-is (args .sheet .now) (args .slot) (args .at) (c .before .before .before .slot-word .ensures)
+    start-is (args .numbered .now) (args .slot) (args .at) (c .before .before .before .slot-word .ensures)
     (c .align-offset .ensures ∙ ap (aligned (args .at + c .before .before .before .slot-word .result)) (c .before .alignment-of .ensures ∙ ap (λ (k : ℕ). byKind k 8 4 4) (c .before .before .slot-word2 .ensures)))
 
 pub value-start-spec : {M : Type 1} → statement M

@@ -7,7 +7,7 @@ use borrow.Author.Needs.{needs}
 use borrow.Fn.Kinds.{In}
 use borrow.Fn.PlainCycle.{Measures, is, falls, and}
 use lib.ListN.{length}
-use Rattle.write_bytes.specs.Sheet.{kindTable, slotWord, sheetBytes}
+use Rattle.write_bytes.specs.Numbered.{kindTable, slotWord, numberedBytes}
 use Rattle.write_bytes.proofs.SlotLaws.{start-above}
 use Rattle.write_bytes.proofs.ItemLaws.{AtSlot, slot-in, slot-fits, cover-fits, item-end, record-fits, item-laid, guest-is, table-item, plain-item, value-plain}
 use Rattle.write_bytes.proofs.TableLaws.{Half}
@@ -22,9 +22,9 @@ use Rattle.write_bytes.proofs.put.lay_front.Reads as lay-front-reads
 use Rattle.write_bytes.proofs.put.lay_key.Reads as lay-key-reads
 use Rattle.write_bytes.proofs.put.lay_plain.Reads as lay-plain-reads
 use Rattle.write_bytes.proofs.put.lay_record.Reads as lay-record-reads
-use Rattle.write_bytes.proofs.sheet.first_slot.Reads as first-slot-reads
-use Rattle.write_bytes.proofs.sheet.slot_count.Reads as slot-count-reads
-use Rattle.write_bytes.proofs.sheet.slot_word.Reads as slot-word-reads
+use Rattle.write_bytes.proofs.numbered.first_slot.Reads as first-slot-reads
+use Rattle.write_bytes.proofs.numbered.slot_count.Reads as slot-count-reads
+use Rattle.write_bytes.proofs.numbered.slot_word.Reads as slot-word-reads
 use Rattle.write_bytes.proofs.slot.value_start.Reads as value-start-reads
 use Rattle.write_bytes.proofs.table.+lay_item+lay_table.{statement}
 use Rattle.write_bytes.proofs.table.+lay_item+lay_table.Tie.{close}
@@ -56,7 +56,7 @@ abbrev lay-table-claims : ℕ → lay-table-lts.Claims
 lay-table-claims t = (first-slot-reads.Asked, first-slot-reads.Learnt, slot-count-reads.Asked, slot-count-reads.Learnt, lay-front-reads.Asked, lay-front-reads.Learnt, lay-item-below t, lay-item.Post)
 
 -- what is given of the slot, and of the table once its words are read
-lay-item-given : (t : ℕ) (c : lay-item-lts.Start (lay-item-claims t) (lay-item-at t) lay-item.Post) → AtSlot (c .args .sheet .now) (c .args .arena .now) (c .args .slot)
+lay-item-given : (t : ℕ) (c : lay-item-lts.Start (lay-item-claims t) (lay-item-at t) lay-item.Post) → AtSlot (c .args .numbered .now) (c .args .arena .now) (c .args .slot)
 lay-item-given t c = record { fits = c .pre .1 .0; inside = c .pre .1 .1 .0 .0 }
 
 lay-item-value-start-requires : (t : ℕ) → lay-item-lts.Need-value-start-requires (lay-item-claims t) (lay-item-at t) lay-item.Post
@@ -69,9 +69,9 @@ lay-item-lay-record-requires : (t : ℕ) → lay-item-lts.Need-lay-record-requir
 lay-item-lay-record-requires t c κs =
     let s = c .before .before .before .before .before in
     let g = lay-item-given t s in
-    let sheet = s .args .sheet .now in
+    let numbered = s .args .numbered .now in
     let arena = s .args .arena .now in
-    let inner = sheetBytes sheet arena (s .args .depth) in (
+    let inner = numberedBytes numbered arena (s .args .depth) in (
       slot-in g,
       (
         cover-fits g,
@@ -86,14 +86,14 @@ lay-item-lay-key-requires : (t : ℕ) → lay-item-lts.Need-lay-key-requires (la
 lay-item-lay-key-requires t c κs =
     let s = c .before .before .before .before .before .before .before .before .before in
     let g = lay-item-given t s in
-    let sheet = s .args .sheet .now in
+    let numbered = s .args .numbered .now in
     let arena = s .args .arena .now in
-    let inner = sheetBytes sheet arena (s .args .depth) in (
+    let inner = numberedBytes numbered arena (s .args .depth) in (
       slot-in g,
       (
         slot-fits g .fragment,
         (
-          omega (arith, c .before .before .before .before .before .value-start .ensures, start-above sheet (s .args .slot) (s .args .at)),
+          omega (arith, c .before .before .before .before .before .value-start .ensures, start-above numbered (s .args .slot) (s .args .at)),
           omega (arith, c .before .before .before .before .before .value-start .ensures, c .before .before .before .lay-record .kept, item-end g inner (s .args .at), s .pre .1 .1 .1),
         ),
       ),
@@ -113,10 +113,10 @@ lay-item-lay-table-requires : (t : ℕ) → lay-item-lts.Need-lay-table-requires
 lay-item-lay-table-requires t c κs =
     let s = c .before .before .before .before .before .before .before .before .before .before .before .before .before .before .before .before in
     let g = lay-item-given t s in
-    let sheet = s .args .sheet .now in
+    let numbered = s .args .numbered .now in
     let arena = s .args .arena .now in
     let fits = s .pre .1 .0 in
-    let inner = sheetBytes sheet arena (s .args .depth) in
+    let inner = numberedBytes numbered arena (s .args .depth) in
     let kind = sym (c .before .before .before .slot-word .ensures) ∙ c .before .before .if1 .taken in
     let guest = c .before .slot-word2 .ensures in
     let ends = table-item g inner (s .args .at) kind guest (c .before .before .before .before .before .before .before .before .before .before .before .before .value-start .ensures) in (
@@ -140,9 +140,9 @@ lay-item-returns : (t : ℕ) → lay-item-lts.Need-returns (lay-item-claims t) (
 lay-item-returns t c =
     let s = c .before .before .before .before .before .before .before .before .before .before .before .before .before .before .before .before .before .before .before in
     let g = lay-item-given t s in
-    let sheet = s .args .sheet .now in
+    let numbered = s .args .numbered .now in
     let arena = s .args .arena .now in
-    let inner = sheetBytes sheet arena (s .args .depth) in
+    let inner = numberedBytes numbered arena (s .args .depth) in
     let kind = sym (c .before .before .before .before .before .before .slot-word .ensures) ∙ c .before .before .before .before .before .if1 .taken in
     item-laid g inner (s .args .image .now) (s .args .to) (s .args .at) (c .before .before .before .before .before .before .before .before .before .before .before .before .before .before .before .value-start .ensures) (c .before .before .before .before .before .before .before .before .before .before .before .before .before .lay-record .ensures)
     (c .before .before .before .before .before .before .before .before .before .lay-key .ensures) (guest-is g inner kind (c .before .before .before .before .slot-word2 .ensures)) (c .before .before .lay-table .ensures)
@@ -151,12 +151,12 @@ lay-item-lay-plain-requires : (t : ℕ) → lay-item-lts.Need-lay-plain-requires
 lay-item-lay-plain-requires t c κs =
     let s = c .before .before .before .before .before .before .before .before .before .before .before .before .before .before .before in
     let g = lay-item-given t s in
-    let sheet = s .args .sheet .now in
+    let numbered = s .args .numbered .now in
     let arena = s .args .arena .now in
     let fits = s .pre .1 .0 in
     let inside = s .pre .1 .1 .0 .0 in
-    let inner = sheetBytes sheet arena (s .args .depth) in
-    let plain : slotWord sheet (s .args .slot) 4 ≡ kindTable → ⊥ = λ e. c .before .if1 .left (c .before .before .slot-word .ensures ∙ e) in
+    let inner = numberedBytes numbered arena (s .args .depth) in
+    let plain : slotWord numbered (s .args .slot) 4 ≡ kindTable → ⊥ = λ e. c .before .if1 .left (c .before .before .slot-word .ensures ∙ e) in
     let ends = plain-item g inner (s .args .at) plain (c .before .before .before .before .before .before .before .before .before .before .before .value-start .ensures) in
     (fits, (inside, (plain, omega (arith, ends, s .pre .1 .1 .1, c .before .before .before .before .before .lay-key .kept, c .before .before .before .before .before .before .before .before .before .lay-record .kept))))
 
@@ -167,23 +167,23 @@ lay-item-returns-2 : (t : ℕ) → lay-item-lts.Need-returns-2 (lay-item-claims 
 lay-item-returns-2 t c =
     let s = c .before .before .before .before .before .before .before .before .before .before .before .before .before .before .before .before .before .before in
     let g = lay-item-given t s in
-    let sheet = s .args .sheet .now in
+    let numbered = s .args .numbered .now in
     let arena = s .args .arena .now in
-    let inner = sheetBytes sheet arena (s .args .depth) in
-    let plain : slotWord sheet (s .args .slot) 4 ≡ kindTable → ⊥ = λ e. c .before .before .before .before .if1 .left (c .before .before .before .before .before .slot-word .ensures ∙ e) in
+    let inner = numberedBytes numbered arena (s .args .depth) in
+    let plain : slotWord numbered (s .args .slot) 4 ≡ kindTable → ⊥ = λ e. c .before .before .before .before .if1 .left (c .before .before .before .before .before .slot-word .ensures ∙ e) in
     item-laid g inner (s .args .image .now) (s .args .to) (s .args .at) (c .before .before .before .before .before .before .before .before .before .before .before .before .before .before .value-start .ensures) (c .before .before .before .before .before .before .before .before .before .before .before .before .lay-record .ensures)
     (c .before .before .before .before .before .before .before .before .lay-key .ensures) (sym (value-plain g inner _ plain)) (c .before .before .lay-plain .ensures)
 
 abbrev lay-table-Inv-loop : lay-table-lts.InvT-loop
-lay-table-Inv-loop sheet arena image₀ table at depth first count records end₀ k₀ image end k =
+lay-table-Inv-loop numbered arena image₀ table at depth first count records end₀ k₀ image end k =
     (k ≤ count) × (length image ≡ length image₀)
-    × Half (planAt sheet arena depth table) image₀ image records (baseAt sheet arena depth table at) k end
+    × Half (planAt numbered arena depth table) image₀ image records (baseAt numbered arena depth table at) k end
 
 abbrev lay-table-μ-loop : lay-table-lts.MeasureT-loop
-lay-table-μ-loop sheet arena image₀ table at depth first count records end₀ k₀ image end k = count - k
+lay-table-μ-loop numbered arena image₀ table at depth first count records end₀ k₀ image end k = count - k
 
 lay-table-given : (t : ℕ) (c : lay-table-lts.After-slot-count (lay-table-claims t) (lay-table-at t) lay-table.Post lay-table-Inv-loop lay-table-μ-loop)
-    → AtTable (c .before .before .before .before .before .before .args .sheet .now) (c .before .before .before .before .before .before .args .arena .now) (c .before .before .before .before .before .before .args .table) (c .before .before .before .before .before .before .args .at) (c .before .before .before .before .before .before .args .depth) (c .before .first-slot .result) (c .slot-count .result)
+    → AtTable (c .before .before .before .before .before .before .args .numbered .now) (c .before .before .before .before .before .before .args .arena .now) (c .before .before .before .before .before .before .args .table) (c .before .before .before .before .before .before .args .at) (c .before .before .before .before .before .before .args .depth) (c .before .first-slot .result) (c .slot-count .result)
 lay-table-given t c =
     let s = c .before .before .before .before .before .before in
     record {
@@ -197,7 +197,7 @@ lay-table-given t c =
 lay-table-returns : (t : ℕ) → lay-table-lts.Need-returns (lay-table-claims t) (lay-table-at t) lay-table.Post lay-table-Inv-loop lay-table-μ-loop
 lay-table-returns t c =
     let s = c .before .before .before .before in
-    nothing-laid (s .args .sheet .now) (s .args .arena .now) (s .args .table) (s .args .at) (s .args .depth) (s .args .image .now) (c .if1 .taken)
+    nothing-laid (s .args .numbered .now) (s .args .arena .now) (s .args .table) (s .args .at) (s .args .depth) (s .args .image .now) (c .if1 .taken)
 
 lay-table-first-slot-requires : (t : ℕ) → lay-table-lts.Need-first-slot-requires (lay-table-claims t) (lay-table-at t) lay-table.Post lay-table-Inv-loop lay-table-μ-loop
 lay-table-first-slot-requires t c κs =

@@ -12,7 +12,7 @@ measure-table-requires c κs = search needs
 returns : tie.Need-returns
 returns c =
     let args = c .before .before .before .args in
-    c .measure-table .ensures ∙ ap measured (sym (length-image (args .sheet .now) (args .arena .now) (args .table)))
+    c .measure-table .ensures ∙ ap measured (sym (length-image (args .numbered .now) (args .arena .now) (args .table)))
 
 pub measure-spec : {M : Type 1} → statement M
 measure-spec = tie.close (tie.spec measure-table-requires returns)

@@ -5,13 +5,13 @@ use native.Mathlib.Omega.{arith}
 use lib.ListN.{length, length-set}
 use Rattle.words.specs.Store.{putAt}
 use Rattle.build_memory.specs.Memory.{itemTotal, itemTable}
-use Rattle.write_numbers.specs.Fill.{own, owned}
-use Rattle.write_numbers.proofs.OwnLaws.{own-none, own-start, own-count, own-put, own-count-pass, own-put-pass}
+use Rattle.write_numbers.specs.Fill.{ofTable, allOfTable}
+use Rattle.write_numbers.proofs.OfTableLaws.{of-table-none, of-table-start, of-table-count, of-table-put, of-table-count-pass, of-table-put-pass}
 use Rattle.write_numbers.proofs.collect.collect.Statement.{statement}
 use Rattle.write_numbers.proofs.collect.collect.Tie as tie
 
 abbrev Inv-loop : tie.InvT-loop
-Inv-loop words t out₀ most n₀ i₀ out n i = (i ≤ itemTotal words) × (most ≡ itemTotal words) × (n ≡ length (own words t i)) × (n ≤ i) × (length out ≡ length out₀) × (out ≡ putAt out₀ 0 (own words t i))
+Inv-loop words t out₀ most n₀ i₀ out n i = (i ≤ itemTotal words) × (most ≡ itemTotal words) × (n ≡ length (ofTable words t i)) × (n ≤ i) × (length out ≡ length out₀) × (out ≡ putAt out₀ 0 (ofTable words t i))
 
 abbrev μ-loop : tie.MeasureT-loop
 μ-loop words t out₀ most n₀ i₀ out n i = itemTotal words - i
@@ -20,7 +20,7 @@ shared-slice-read-most : tie.Need-shared-slice-read-most Inv-loop μ-loop
 shared-slice-read-most c = omega (arith, c .before .before .before .pre .0 .long)
 
 loop-holds : tie.Need-loop-holds Inv-loop μ-loop
-loop-holds c = let a = c .before .before .before .args in (omega arith, refl, own-none (a .words .now) (a .t) (a .out .now), omega arith, refl, own-start (a .words .now) (a .t) (a .out .now))
+loop-holds c = let a = c .before .before .before .args in (omega arith, refl, of-table-none (a .words .now) (a .t) (a .out .now), omega arith, refl, of-table-start (a .words .now) (a .t) (a .out .now))
 
 item-word-requires : tie.Need-item-word-requires Inv-loop μ-loop
 item-word-requires c κs = let s = c .before .before .before .before .before in (s .pre .0 .long, omega (arith, s .pre .0 .few), omega arith)
@@ -47,10 +47,10 @@ loop-again c =
     let e : itemTable (a .words .now) (l .i) ≡ a .t = sym (c .before .item-word .ensures) ∙ c .if1 .taken in (
       omega arith,
       l .inv .1,
-      own-count (a .words .now) (a .t) (a .out .now) (l .n) (l .i) (l .inv .2) e,
+      of-table-count (a .words .now) (a .t) (a .out .now) (l .n) (l .i) (l .inv .2) e,
       omega arith,
       simp length-set (l .inv .4),
-      rw (l .inv .5) (own-put (a .words .now) (a .t) (a .out .now) (l .n) (l .i) (l .inv .2) e),
+      rw (l .inv .5) (of-table-put (a .words .now) (a .t) (a .out .now) (l .n) (l .i) (l .inv .2) e),
     )
 
 add-i-2 : tie.Need-add-i-2 Inv-loop μ-loop
@@ -66,23 +66,23 @@ loop-again-2 c =
     let ne : itemTable (a .words .now) (l .i) ≡ a .t → ⊥ = λ e. c .if1 .left (c .before .item-word .ensures ∙ e) in (
       omega arith,
       l .inv .1,
-      own-count-pass (a .words .now) (a .t) (a .out .now) (l .n) (l .i) (l .inv .2) ne,
+      of-table-count-pass (a .words .now) (a .t) (a .out .now) (l .n) (l .i) (l .inv .2) ne,
       omega arith,
       l .inv .4,
-      l .inv .5 ∙ own-put-pass (a .words .now) (a .t) (a .out .now) (l .n) (l .i) (l .inv .2) ne,
+      l .inv .5 ∙ of-table-put-pass (a .words .now) (a .t) (a .out .now) (l .n) (l .i) (l .inv .2) ne,
     )
 
 same-length : tie.Need-same-length Inv-loop μ-loop
 same-length c = omega arith
 
 returns : tie.Need-returns Inv-loop μ-loop
-unfolding owned
+unfolding allOfTable
 returns c =
     let a = c .before .before .before .before .before .args in
     let l = c .before .loop in
     let all : l .i ≡ itemTotal (a .words .now) = omega (arith, c .loop-test .left) in record {
-      count = l .inv .2 ∙ ap (λ (k : ℕ). length (own (a .words .now) (a .t) k)) all;
-      put = l .inv .5 ∙ ap (λ (k : ℕ). putAt (a .out .now) 0 (own (a .words .now) (a .t) k)) all;
+      count = l .inv .2 ∙ ap (λ (k : ℕ). length (ofTable (a .words .now) (a .t) k)) all;
+      put = l .inv .5 ∙ ap (λ (k : ℕ). putAt (a .out .now) 0 (ofTable (a .words .now) (a .t) k)) all;
     }
 
 pub collect-spec : {M : Type 1} → statement M

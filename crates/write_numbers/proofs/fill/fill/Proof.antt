@@ -3,24 +3,24 @@ use mathlib.Core.Path.{_≡_, refl, sym, ap, _∙_}
 use Prim.Native.Nat.{_-_, _≤_}
 use native.Mathlib.Omega.{arith}
 use lib.ListN.{length, length-set}
-use Rattle.write_numbers.specs.Fill.{slotOf, Fits, Sized, Filled}
-use Rattle.write_numbers.proofs.OwnLaws.{slot-start, slot-few}
+use Rattle.write_numbers.specs.Fill.{firstSlotOf, Fits, Sized, Filled}
+use Rattle.write_numbers.proofs.OfTableLaws.{slot-start, slot-few}
 use Rattle.write_numbers.proofs.FillLaws.{put-few, put-next, filled-none, filled-more}
 use Rattle.write_numbers.proofs.fill.fill.Statement.{statement}
 use Rattle.write_numbers.proofs.fill.fill.Tie as tie
 
 abbrev Inv-loop : tie.InvT-loop
-Inv-loop words₀ arena heads₀ slots₀ numbers₀ buckets₀ t₀ first₀ words heads slots numbers buckets t first =
-    (t ≤ 64) × (first ≡ slotOf words₀ t) × (length heads ≡ length heads₀) × Sized slots numbers buckets × Filled words₀ arena t heads slots numbers buckets × (words ≡ words₀)
+Inv-loop words₀ arena heads₀ slots₀ indices₀ buckets₀ t₀ first₀ words heads slots indices buckets t first =
+    (t ≤ 64) × (first ≡ firstSlotOf words₀ t) × (length heads ≡ length heads₀) × Sized slots indices buckets × Filled words₀ arena t heads slots indices buckets × (words ≡ words₀)
 
 abbrev μ-loop : tie.MeasureT-loop
-μ-loop words₀ arena heads₀ slots₀ numbers₀ buckets₀ t₀ first₀ words heads slots numbers buckets t first = 64 - t
+μ-loop words₀ arena heads₀ slots₀ indices₀ buckets₀ t₀ first₀ words heads slots indices buckets t first = 64 - t
 
 loop-holds : tie.Need-loop-holds Inv-loop μ-loop
 loop-holds c =
     let s = c .before .before .before .before .before .before in
     let a = s .args in
-    (omega arith, slot-start (a .words .now), refl, s .pre .1, filled-none (a .words .now) (a .arena .now) (a .heads .now) (a .slots .now) (a .numbers .now) (a .buckets .now), refl)
+    (omega arith, slot-start (a .words .now), refl, s .pre .1, filled-none (a .words .now) (a .arena .now) (a .heads .now) (a .slots .now) (a .indices .now) (a .buckets .now), refl)
 
 put-table-requires : tie.Need-put-table-requires Inv-loop μ-loop
 put-table-requires c κs =
@@ -72,7 +72,7 @@ add-first c =
     let put = rw (l .inv .5) at (p .ensures .1) in
     omega (
       arith,
-      put-few (a .words .now) (a .arena .now) (l .t) (l .first) (p .result) (l .heads) (l .slots) (p .last .1 .1 .1 .1 .0) (l .numbers) (p .last .1 .1 .1 .1 .1 .0)
+      put-few (a .words .now) (a .arena .now) (l .t) (l .first) (p .result) (l .heads) (l .slots) (p .last .1 .1 .1 .1 .0) (l .indices) (p .last .1 .1 .1 .1 .1 .0)
           (l .buckets) (p .last .1 .1 .1 .1 .1 .1 .0) (s .pre .0 .0 .fit) (c .before .before .before .before .before .before .before .before .before .before .before .before .before .loop-test .taken) (omega (arith, l .inv .2, s .pre .0 .1)) (l .inv .3) (l .inv .1) put (l .inv .4),
     )
 
@@ -90,15 +90,15 @@ loop-again c =
     let p = c .before .before .before .before .before .before .before .before .put-table in
     let put = rw (l .inv .5) at (p .ensures .1) in (
       omega (arith, c .before .before .before .before .before .before .before .before .before .before .before .before .before .loop-test .taken),
-      put-next (a .words .now) (a .arena .now) (l .t) (l .first) (p .result) (l .heads) (l .slots) (p .last .1 .1 .1 .1 .0) (l .numbers) (p .last .1 .1 .1 .1 .1 .0)
+      put-next (a .words .now) (a .arena .now) (l .t) (l .first) (p .result) (l .heads) (l .slots) (p .last .1 .1 .1 .1 .0) (l .indices) (p .last .1 .1 .1 .1 .1 .0)
           (l .buckets) (p .last .1 .1 .1 .1 .1 .1 .0) (s .pre .0 .0 .fit) (c .before .before .before .before .before .before .before .before .before .before .before .before .before .loop-test .taken) (omega (arith, l .inv .2, s .pre .0 .1)) (l .inv .3) (l .inv .1) put (l .inv .4),
       simp length-set (l .inv .2),
       record {
         of-slots = p .kept .1 .1 .1 .1 .0 ∙ l .inv .3 .of-slots;
-        of-numbers = p .kept .1 .1 .1 .1 .1 .0 ∙ l .inv .3 .of-numbers;
+        of-indices = p .kept .1 .1 .1 .1 .1 .0 ∙ l .inv .3 .of-indices;
         of-buckets = p .kept .1 .1 .1 .1 .1 .1 .0 ∙ l .inv .3 .of-buckets;
       },
-      filled-more (a .words .now) (a .arena .now) (l .t) (l .first) (p .result) (l .heads) (l .slots) (p .last .1 .1 .1 .1 .0) (l .numbers) (p .last .1 .1 .1 .1 .1 .0)
+      filled-more (a .words .now) (a .arena .now) (l .t) (l .first) (p .result) (l .heads) (l .slots) (p .last .1 .1 .1 .1 .0) (l .indices) (p .last .1 .1 .1 .1 .1 .0)
           (l .buckets) (p .last .1 .1 .1 .1 .1 .1 .0) (s .pre .0 .0 .fit) (c .before .before .before .before .before .before .before .before .before .before .before .before .before .loop-test .taken) (omega (arith, l .inv .2, s .pre .0 .1)) (l .inv .3) (l .inv .1) put (l .inv .4),
       p .ensures .0 ∙ l .inv .5,
     )
@@ -113,7 +113,7 @@ same-length-3 : tie.Need-same-length-3 Inv-loop μ-loop
 same-length-3 c = c .before .loop .inv .3 .of-slots ∙ sym (c .before .before .before .before .before .before .before .before .pre .1 .of-slots)
 
 same-length-4 : tie.Need-same-length-4 Inv-loop μ-loop
-same-length-4 c = c .before .loop .inv .3 .of-numbers ∙ sym (c .before .before .before .before .before .before .before .before .pre .1 .of-numbers)
+same-length-4 c = c .before .loop .inv .3 .of-indices ∙ sym (c .before .before .before .before .before .before .before .before .pre .1 .of-indices)
 
 same-length-5 : tie.Need-same-length-5 Inv-loop μ-loop
 same-length-5 c = c .before .loop .inv .3 .of-buckets ∙ sym (c .before .before .before .before .before .before .before .before .pre .1 .of-buckets)

@@ -2,19 +2,19 @@
 use mathlib.Core.Path.{sym}
 use native.Mathlib.Omega.{arith}
 use lib.ListN.{length}
-use Rattle.write_numbers.proofs.FillLaws.{laid-count, laid-few, laid-long, laid-below, put-all}
+use Rattle.write_numbers.proofs.FillLaws.{indexed-as-count, indexed-as-few, indexed-as-long, indexed-as-below, put-all}
 use borrow.Author.Needs.{needs}
 use Rattle.write_numbers.proofs.fill.put_items.Statement.{statement}
 use Rattle.write_numbers.proofs.fill.put_items.Tie as tie
 
-slice-aggregate-number-table : tie.Need-slice-aggregate-number-table
-slice-aggregate-number-table c = search needs
+slice-aggregate-index-table : tie.Need-slice-aggregate-index-table
+slice-aggregate-index-table c = search needs
 
-slice-aggregate-number-table-2 : tie.Need-slice-aggregate-number-table-2
-slice-aggregate-number-table-2 c = search needs
+slice-aggregate-index-table-2 : tie.Need-slice-aggregate-index-table-2
+slice-aggregate-index-table-2 c = search needs
 
-number-table-requires : tie.Need-number-table-requires
-number-table-requires c κs = search needs
+index-table-requires : tie.Need-index-table-requires
+index-table-requires c κs = search needs
 
 slice-aggregate-copy-first : tie.Need-slice-aggregate-copy-first
 slice-aggregate-copy-first c = search needs
@@ -23,8 +23,8 @@ copy-first-requires : tie.Need-copy-first-requires
 copy-first-requires c κs =
     let s = c .before .before .before .before .before .before .before .before .before .before .before .before .before .before .before in
     let a = s .args in
-    let l = c .before .before .before .before .before .before .number-table in
-    (omega (arith, laid-few (a .words .now) (a .arena .now) (a .t) (l .result) (l .last .1 .1 .1 .0) (l .last .1 .1 .1 .1 .0) (s .pre .0 .0 .fit) (l .ensures .1), l .kept .1 .1 .1 .0), omega (arith, laid-count (a .words .now) (a .arena .now) (a .t) (l .result) (l .last .1 .1 .1 .0) (l .last .1 .1 .1 .1 .0) (s .pre .0 .0 .fit) (l .ensures .1), s .pre .0 .1, s .pre .1 .of-slots))
+    let l = c .before .before .before .before .before .before .index-table in
+    (omega (arith, indexed-as-few (a .words .now) (a .arena .now) (a .t) (l .result) (l .last .1 .1 .1 .0) (l .last .1 .1 .1 .1 .0) (s .pre .0 .0 .fit) (l .ensures .1), l .kept .1 .1 .1 .0), omega (arith, indexed-as-count (a .words .now) (a .arena .now) (a .t) (l .result) (l .last .1 .1 .1 .0) (l .last .1 .1 .1 .1 .0) (s .pre .0 .0 .fit) (l .ensures .1), s .pre .0 .1, s .pre .1 .of-slots))
 
 slice-aggregate-copy-first-2 : tie.Need-slice-aggregate-copy-first-2
 slice-aggregate-copy-first-2 c = search needs
@@ -33,29 +33,29 @@ copy-first-requires-2 : tie.Need-copy-first-requires-2
 copy-first-requires-2 c κs =
     let s = c .before .before .before .before .before .before .before .before .before .before .before .before .before .before .before .before .before .before .before .before in
     let a = s .args in
-    let l = c .before .before .before .before .before .before .before .before .before .before .before .number-table in
-    (omega (arith, laid-few (a .words .now) (a .arena .now) (a .t) (l .result) (l .last .1 .1 .1 .0) (l .last .1 .1 .1 .1 .0) (s .pre .0 .0 .fit) (l .ensures .1), l .kept .1 .1 .1 .1 .0), omega (arith, laid-count (a .words .now) (a .arena .now) (a .t) (l .result) (l .last .1 .1 .1 .0) (l .last .1 .1 .1 .1 .0) (s .pre .0 .0 .fit) (l .ensures .1), s .pre .0 .1, s .pre .1 .of-buckets))
+    let l = c .before .before .before .before .before .before .before .before .before .before .before .index-table in
+    (omega (arith, indexed-as-few (a .words .now) (a .arena .now) (a .t) (l .result) (l .last .1 .1 .1 .0) (l .last .1 .1 .1 .1 .0) (s .pre .0 .0 .fit) (l .ensures .1), l .kept .1 .1 .1 .1 .0), omega (arith, indexed-as-count (a .words .now) (a .arena .now) (a .t) (l .result) (l .last .1 .1 .1 .0) (l .last .1 .1 .1 .1 .0) (s .pre .0 .0 .fit) (l .ensures .1), s .pre .0 .1, s .pre .1 .of-buckets))
 
 array-share-prefix-items : tie.Need-array-share-prefix-items
 array-share-prefix-items c =
     let s = c .before .before .before .before .before .before .before .before .before .before .before .before .before .before .before .before .before .before .before .before .before .before .before in
     let a = s .args in
-    let l = c .before .before .before .before .before .before .before .before .before .before .before .before .before .before .number-table in
-    omega (arith, laid-few (a .words .now) (a .arena .now) (a .t) (l .result) (l .last .1 .1 .1 .0) (l .last .1 .1 .1 .1 .0) (s .pre .0 .0 .fit) (l .ensures .1), l .kept .1 .1 .1 .0)
+    let l = c .before .before .before .before .before .before .before .before .before .before .before .before .before .before .index-table in
+    omega (arith, indexed-as-few (a .words .now) (a .arena .now) (a .t) (l .result) (l .last .1 .1 .1 .0) (l .last .1 .1 .1 .1 .0) (s .pre .0 .0 .fit) (l .ensures .1), l .kept .1 .1 .1 .0)
 
-slice-aggregate-number-items : tie.Need-slice-aggregate-number-items
-slice-aggregate-number-items c =
+slice-aggregate-index-items : tie.Need-slice-aggregate-index-items
+slice-aggregate-index-items c =
     let s = c .before .before .before .before .before .before .before .before .before .before .before .before .before .before .before .before .before .before .before .before .before .before .before .before in
     let a = s .args in
-    let l = c .before .before .before .before .before .before .before .before .before .before .before .before .before .before .before .number-table in
-    sym (laid-long (a .words .now) (a .arena .now) (a .t) (l .result) (l .last .1 .1 .1 .0) (l .last .1 .1 .1 .1 .0) (s .pre .0 .0 .fit) (l .ensures .1))
+    let l = c .before .before .before .before .before .before .before .before .before .before .before .before .before .before .before .index-table in
+    sym (indexed-as-long (a .words .now) (a .arena .now) (a .t) (l .result) (l .last .1 .1 .1 .0) (l .last .1 .1 .1 .1 .0) (s .pre .0 .0 .fit) (l .ensures .1))
 
-number-items-requires : tie.Need-number-items-requires
-number-items-requires c κs =
+index-items-requires : tie.Need-index-items-requires
+index-items-requires c κs =
     let s = c .before .before .before .before .before .before .before .before .before .before .before .before .before .before .before .before .before .before .before .before .before .before .before .before .before in
     let a = s .args in
-    let l = c .before .before .before .before .before .before .before .before .before .before .before .before .before .before .before .before .number-table in
-    laid-below (a .words .now) (a .arena .now) (a .t) (l .result) (l .last .1 .1 .1 .0) (l .last .1 .1 .1 .1 .0) (s .pre .0 .0 .fit) (l .ensures .1) (length (a .numbers .now)) (omega (arith, s .pre .1 .of-numbers))
+    let l = c .before .before .before .before .before .before .before .before .before .before .before .before .before .before .before .before .index-table in
+    indexed-as-below (a .words .now) (a .arena .now) (a .t) (l .result) (l .last .1 .1 .1 .0) (l .last .1 .1 .1 .1 .0) (s .pre .0 .0 .fit) (l .ensures .1) (length (a .indices .now)) (omega (arith, s .pre .1 .of-indices))
 
 same-length : tie.Need-same-length
 same-length c = search needs
@@ -73,26 +73,26 @@ returns : tie.Need-returns
 returns c =
     let s = c .before .before .before .before .before .before .before .before .before .before .before .before .before .before .before .before .before .before .before .before .before .before .before .before .before .before .before .before in
     let a = s .args in
-    let l = c .before .before .before .before .before .before .before .before .before .before .before .before .before .before .before .before .before .before .before .number-table in (
+    let l = c .before .before .before .before .before .before .before .before .before .before .before .before .before .before .before .before .before .before .before .index-table in (
       l .ensures .0,
-      put-all (a .words .now) (a .arena .now) (a .t) (l .result) (l .last .1 .1 .1 .0) (l .last .1 .1 .1 .1 .0) (s .pre .0 .0 .fit) (l .ensures .1) (a .first) (a .slots .now) (c .before .before .before .before .before .before .before .before .before .before .before .before .copy-first .last .1 .1 .0) (a .numbers .now) (c .before .before .number-items .last .1 .0) (a .buckets .now) (c .before .before .before .before .before .before .before .copy-first2 .last .1 .1 .0)
-          (c .before .before .before .before .before .before .before .before .before .before .before .before .copy-first .ensures) (c .before .before .before .before .before .before .before .copy-first2 .ensures) (c .before .before .number-items .ensures),
+      put-all (a .words .now) (a .arena .now) (a .t) (l .result) (l .last .1 .1 .1 .0) (l .last .1 .1 .1 .1 .0) (s .pre .0 .0 .fit) (l .ensures .1) (a .first) (a .slots .now) (c .before .before .before .before .before .before .before .before .before .before .before .before .copy-first .last .1 .1 .0) (a .indices .now) (c .before .before .index-items .last .1 .0) (a .buckets .now) (c .before .before .before .before .before .before .before .copy-first2 .last .1 .1 .0)
+          (c .before .before .before .before .before .before .before .before .before .before .before .before .copy-first .ensures) (c .before .before .before .before .before .before .before .copy-first2 .ensures) (c .before .before .index-items .ensures),
     )
 
 pub put-items-spec : {M : Type 1} → statement M
 put-items-spec =
     tie.close
     (tie.spec
-    slice-aggregate-number-table
-    slice-aggregate-number-table-2
-    number-table-requires
+    slice-aggregate-index-table
+    slice-aggregate-index-table-2
+    index-table-requires
     slice-aggregate-copy-first
     copy-first-requires
     slice-aggregate-copy-first-2
     copy-first-requires-2
     array-share-prefix-items
-    slice-aggregate-number-items
-    number-items-requires
+    slice-aggregate-index-items
+    index-items-requires
     same-length
     same-length-2
     same-length-3

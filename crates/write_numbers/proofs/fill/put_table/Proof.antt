@@ -15,7 +15,7 @@ same-length c = search needs
 returns : tie.Need-returns
 returns c =
     let a = c .before .before .before .before .before .before .before .before .args in
-    (refl, put-bare (a .words .now) (a .arena .now) (a .t) (sym (c .before .has-items .ensures) ∙ not-true _ (c .if1 .taken)) (a .first) (a .slots .now) (a .numbers .now) (a .buckets .now))
+    (refl, put-bare (a .words .now) (a .arena .now) (a .t) (sym (c .before .has-items .ensures) ∙ not-true _ (c .if1 .taken)) (a .first) (a .slots .now) (a .indices .now) (a .buckets .now))
 
 put-items-requires : tie.Need-put-items-requires
 put-items-requires c κs = search needs

@@ -18,7 +18,7 @@ slice-aggregate-fill-4 : tie.Need-slice-aggregate-fill-4
 slice-aggregate-fill-4 c = search needs
 
 fill-requires : tie.Need-fill-requires
-fill-requires c κs = let s = c .before .before .before .before .before .before .before .before in ((whole-judged (s .args .words .now) (s .args .arena .now) (s .pre .0), refl), record { of-slots = refl; of-numbers = refl; of-buckets = refl })
+fill-requires c κs = let s = c .before .before .before .before .before .before .before .before in ((whole-judged (s .args .words .now) (s .args .arena .now) (s .pre .0), refl), record { of-slots = refl; of-indices = refl; of-buckets = refl })
 
 slice-aggregate-copy-first : tie.Need-slice-aggregate-copy-first
 slice-aggregate-copy-first c = search needs
@@ -57,7 +57,7 @@ returns c =
       f .ensures .0,
       rostered (f .last .1 .1 .0) (f .last .1 .1 .1 .0) (f .last .1 .1 .1 .1 .0) (f .last .1 .1 .1 .1 .1 .0) (s .args .roster .now)
           (c .before .before .before .before .before .before .before .before .before .before .before .before .before .before .before .before .before .copy-first .last .1 .1 .0) (c .before .before .before .before .before .before .before .before .before .before .before .before .copy-first2 .last .1 .1 .0) (c .before .before .before .before .before .before .before .copy-first3 .last .1 .1 .0) (c .before .before .copy-first4 .last .1 .1 .0)
-          (s .pre .1) (f .kept .1 .1 .0) (record { of-slots = f .kept .1 .1 .1 .0; of-numbers = f .kept .1 .1 .1 .1 .0; of-buckets = f .kept .1 .1 .1 .1 .1 .0 })
+          (s .pre .1) (f .kept .1 .1 .0) (record { of-slots = f .kept .1 .1 .1 .0; of-indices = f .kept .1 .1 .1 .1 .0; of-buckets = f .kept .1 .1 .1 .1 .1 .0 })
           (c .before .before .before .before .before .before .before .before .before .before .before .before .before .before .before .before .before .copy-first .ensures) (c .before .before .before .before .before .before .before .before .before .before .before .before .copy-first2 .ensures) (c .before .before .before .before .before .before .before .copy-first3 .ensures) (c .before .before .copy-first4 .ensures)
           (s .args .words .now) (s .args .arena .now) (s .pre .0) (f .ensures .1),
     )

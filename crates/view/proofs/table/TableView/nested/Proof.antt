@@ -43,7 +43,7 @@ use denote.Exit.{yes}
 use denote.Triple.Clauses.{ensured, lasts}
 use Rattle.words.specs.Hash.{plain as plain-rule}
 use Rattle.read.specs.Lookup.{lookupTable}
-use Rattle.view.specs.Part.{NestedIn, placeStart, placeEnd}
+use Rattle.view.specs.Part.{NestedIn, pointerStart, pointerEnd}
 use Rattle.view.specs.Views.{NestedOf}
 use Rattle.read.specs.declared.lookup.Looked.{Looked}
 use Rattle.read.proofs.lookup.Looked as DLooked
@@ -62,14 +62,14 @@ use Rattle.view.proofs.part.nested_part as of-nested-part
 use Rattle.view.proofs.part.nested_part.Symbol as of-nested-part-def
 use Rattle.view.proofs.part.nested_part.Symbol.{name as #nested-part}
 use Rattle.view.proofs.part.nested_part.Met as of-nested-part-thm
-use Rattle.view.proofs.part.place_start as of-place-start
-use Rattle.view.proofs.part.place_start.Symbol as of-place-start-def
-use Rattle.view.proofs.part.place_start.Symbol.{name as #place-start}
-use Rattle.view.proofs.part.place_start.Met as of-place-start-thm
-use Rattle.view.proofs.part.place_end as of-place-end
-use Rattle.view.proofs.part.place_end.Symbol as of-place-end-def
-use Rattle.view.proofs.part.place_end.Symbol.{name as #place-end}
-use Rattle.view.proofs.part.place_end.Met as of-place-end-thm
+use Rattle.view.proofs.part.pointer_start as of-pointer-start
+use Rattle.view.proofs.part.pointer_start.Symbol as of-pointer-start-def
+use Rattle.view.proofs.part.pointer_start.Symbol.{name as #pointer-start}
+use Rattle.view.proofs.part.pointer_start.Met as of-pointer-start-thm
+use Rattle.view.proofs.part.pointer_end as of-pointer-end
+use Rattle.view.proofs.part.pointer_end.Symbol as of-pointer-end-def
+use Rattle.view.proofs.part.pointer_end.Symbol.{name as #pointer-end}
+use Rattle.view.proofs.part.pointer_end.Met as of-pointer-end-thm
 use Rattle.view.proofs.table.TableView.nested.Key.{name as #it}
 use Rattle.view.proofs.table.TableView.nested as it
 use Rattle.view.proofs.table.TableView.nested.Statement as stated
@@ -87,13 +87,13 @@ module _ {M : Type 1} (𝓤 : URA M) (H : Heap 𝓤) (A : Atoms 𝓤) (mem : Mem
   abbrev Contract-nested-part : Contract 𝓤
   Contract-nested-part = tripleOf 𝓤 H A of-nested-part.signature (of-nested-part.spec 𝓤 H A mem run)
 
-  -- the contract of `view::part::place_start`
-  abbrev Contract-place-start : Contract 𝓤
-  Contract-place-start = tripleOf 𝓤 H A of-place-start.signature (of-place-start.spec 𝓤 H A mem run)
+  -- the contract of `view::part::pointer_start`
+  abbrev Contract-pointer-start : Contract 𝓤
+  Contract-pointer-start = tripleOf 𝓤 H A of-pointer-start.signature (of-pointer-start.spec 𝓤 H A mem run)
 
-  -- the contract of `view::part::place_end`
-  abbrev Contract-place-end : Contract 𝓤
-  Contract-place-end = tripleOf 𝓤 H A of-place-end.signature (of-place-end.spec 𝓤 H A mem run)
+  -- the contract of `view::part::pointer_end`
+  abbrev Contract-pointer-end : Contract 𝓤
+  Contract-pointer-end = tripleOf 𝓤 H A of-pointer-end.signature (of-pointer-end.spec 𝓤 H A mem run)
 
 module _ {M : Type 1} (𝓤 : URA M) (H : Heap 𝓤) (A : Atoms 𝓤) (W : Given 𝓤 H A) (mem : Memory → SProp 𝓤) (run : Routine → Fun 𝓤) (κ₀ : Lft) (κ₁ : Lft) (q₀ : Share) (q₁ : Share) (self : TableView) (key : RefT (List ℕ)) where
   abbrev at : Vals it.signature (κ₀, (κ₁, tt))
@@ -130,25 +130,25 @@ module _ {M : Type 1} (𝓤 : URA M) (H : Heap 𝓤) (A : Atoms 𝓤) (W : Given
   said-2 : (r1 : Looked) (u1 : Val) (r2 : RefT (List ℕ)) → ent 𝓤 (ensured 𝓤 H A of-nested-part.ended (of-nested-part.clauses 𝓤 H A mem run) (κ₀, tt) ((self .file), (r1, tt)) tt r2) (fact 𝓤 (NestedIn (self .file) r1 r2))
   said-2 r1 u1 r2 = exE 𝓤 _ (λ ws. snd∗ 𝓤 (sem 𝓤 H A (lasts of-nested-part.ended (κ₀, tt) ((self .file), (r1, tt)) ws)) (fact 𝓤 (NestedIn (self .file) r1 r2)))
 
-  -- call 3, of `view::part::place_start`: what it is passed, what it asks, and what it says of its result
-  abbrev to-3 : (r1 : Looked) (r2 : RefT (List ℕ)) (u1 : Val) (u2 : Val) → Contract-place-start 𝓤 H A mem run .Ghost
+  -- call 3, of `view::part::pointer_start`: what it is passed, what it asks, and what it says of its result
+  abbrev to-3 : (r1 : Looked) (r2 : RefT (List ℕ)) (u1 : Val) (u2 : Val) → Contract-pointer-start 𝓤 H A mem run .Ghost
   to-3 r1 r2 u1 u2 = ((tt, tt, tt, (r1, tt), (u1 ∷ [], tt)), tt)
 
-  asked-3 : (r1 : Looked) (r2 : RefT (List ℕ)) (u1 : Val) (u2 : Val) → ent 𝓤 (onEntry 𝓤 H A of-place-start.signature tt tt (r1, tt) (u1 ∷ [], tt)) (Contract-place-start 𝓤 H A mem run .pre (to-3 r1 r2 u1 u2))
+  asked-3 : (r1 : Looked) (r2 : RefT (List ℕ)) (u1 : Val) (u2 : Val) → ent 𝓤 (onEntry 𝓤 H A of-pointer-start.signature tt tt (r1, tt) (u1 ∷ [], tt)) (Contract-pointer-start 𝓤 H A mem run .pre (to-3 r1 r2 u1 u2))
   asked-3 r1 r2 u1 u2 = qed W ((‵ ftrue) ∷ ‵ (owns (DLooked.the-row ∷ []) (r1, tt) (u1 ∷ [], tt)) ∷ []) ∵ join ! $ frame ! $ done !
 
-  said-3 : (r1 : Looked) (r2 : RefT (List ℕ)) (u1 : Val) (u2 : Val) (r3 : ℕ) → ent 𝓤 (ensured 𝓤 H A of-place-start.ended (of-place-start.clauses 𝓤 H A mem run) tt (r1, tt) tt r3) (fact 𝓤 (r3 ≡ placeStart r1))
-  said-3 r1 r2 u1 u2 r3 = exE 𝓤 _ (λ ws. snd∗ 𝓤 (sem 𝓤 H A (lasts of-place-start.ended tt (r1, tt) ws)) (fact 𝓤 (r3 ≡ placeStart r1)))
+  said-3 : (r1 : Looked) (r2 : RefT (List ℕ)) (u1 : Val) (u2 : Val) (r3 : ℕ) → ent 𝓤 (ensured 𝓤 H A of-pointer-start.ended (of-pointer-start.clauses 𝓤 H A mem run) tt (r1, tt) tt r3) (fact 𝓤 (r3 ≡ pointerStart r1))
+  said-3 r1 r2 u1 u2 r3 = exE 𝓤 _ (λ ws. snd∗ 𝓤 (sem 𝓤 H A (lasts of-pointer-start.ended tt (r1, tt) ws)) (fact 𝓤 (r3 ≡ pointerStart r1)))
 
-  -- call 4, of `view::part::place_end`: what it is passed, what it asks, and what it says of its result
-  abbrev to-4 : (r1 : Looked) (r2 : RefT (List ℕ)) (r3 : ℕ) (u1 : Val) (u2 : Val) (u3 : Val) → Contract-place-end 𝓤 H A mem run .Ghost
+  -- call 4, of `view::part::pointer_end`: what it is passed, what it asks, and what it says of its result
+  abbrev to-4 : (r1 : Looked) (r2 : RefT (List ℕ)) (r3 : ℕ) (u1 : Val) (u2 : Val) (u3 : Val) → Contract-pointer-end 𝓤 H A mem run .Ghost
   to-4 r1 r2 r3 u1 u2 u3 = ((tt, tt, tt, (r1, tt), (u1 ∷ [], tt)), tt)
 
-  asked-4 : (r1 : Looked) (r2 : RefT (List ℕ)) (r3 : ℕ) (u1 : Val) (u2 : Val) (u3 : Val) → ent 𝓤 (onEntry 𝓤 H A of-place-end.signature tt tt (r1, tt) (u1 ∷ [], tt)) (Contract-place-end 𝓤 H A mem run .pre (to-4 r1 r2 r3 u1 u2 u3))
+  asked-4 : (r1 : Looked) (r2 : RefT (List ℕ)) (r3 : ℕ) (u1 : Val) (u2 : Val) (u3 : Val) → ent 𝓤 (onEntry 𝓤 H A of-pointer-end.signature tt tt (r1, tt) (u1 ∷ [], tt)) (Contract-pointer-end 𝓤 H A mem run .pre (to-4 r1 r2 r3 u1 u2 u3))
   asked-4 r1 r2 r3 u1 u2 u3 = qed W ((‵ ftrue) ∷ ‵ (owns (DLooked.the-row ∷ []) (r1, tt) (u1 ∷ [], tt)) ∷ []) ∵ join ! $ frame ! $ done !
 
-  said-4 : (r1 : Looked) (r2 : RefT (List ℕ)) (r3 : ℕ) (u1 : Val) (u2 : Val) (u3 : Val) (r4 : ℕ) → ent 𝓤 (ensured 𝓤 H A of-place-end.ended (of-place-end.clauses 𝓤 H A mem run) tt (r1, tt) tt r4) (fact 𝓤 (r4 ≡ placeEnd r1))
-  said-4 r1 r2 r3 u1 u2 u3 r4 = exE 𝓤 _ (λ ws. snd∗ 𝓤 (sem 𝓤 H A (lasts of-place-end.ended tt (r1, tt) ws)) (fact 𝓤 (r4 ≡ placeEnd r1)))
+  said-4 : (r1 : Looked) (r2 : RefT (List ℕ)) (r3 : ℕ) (u1 : Val) (u2 : Val) (u3 : Val) (r4 : ℕ) → ent 𝓤 (ensured 𝓤 H A of-pointer-end.ended (of-pointer-end.clauses 𝓤 H A mem run) tt (r1, tt) tt r4) (fact 𝓤 (r4 ≡ pointerEnd r1))
+  said-4 r1 r2 r3 u1 u2 u3 r4 = exE 𝓤 _ (λ ws. snd∗ 𝓤 (sem 𝓤 H A (lasts of-pointer-end.ended tt (r1, tt) ws)) (fact 𝓤 (r4 ≡ pointerEnd r1)))
 
   module _ (wt0 : Holds (hasTy (DTableView′.mir (named 0)) (DTableView′.lowered self)) × WT (DTableView′.lowered self)) (is1 : Is (ShrSlice (named 1) κ₁ u8) key ((sliceVal (key .ptr) (length (key .now))) ∷ [])) where
     exits : (x : NestedView) (w : Val) → NestedOf self (now key) x → ent 𝓤 (⋆ 𝓤 H A (‵ ((DNestedView.the-row (namedLft 2 0 tt (κ₀, (κ₁, tt)))) .own x (w ∷ [])) ∷ ‵ (flft κ₀ q₀) ∷ ‵ (flft κ₁ q₁) ∷ ‵ ((DTableView.the-row (namedLft 2 0 tt (κ₀, (κ₁, tt)))) .own self ((DTableView′.lowered self) ∷ [])) ∷ ‵ ((ShrSlice (named 1) κ₁ u8) .own key ((sliceVal (key .ptr) (length (key .now))) ∷ [])) ∷ [])) (Post w)
@@ -157,7 +157,7 @@ module _ {M : Type 1} (𝓤 : URA M) (H : Heap 𝓤) (A : Atoms 𝓤) (W : Given
         suffices ! _ (ends-at 𝓤 H A it.ended stayed (it.clauses 𝓤 H A mem run) W (((κ₀, (κ₁, tt)), (q₀, (q₁, tt)), tt, (self, (key, tt)), at), tt) w x (tt, (tt, tt)) (tt, (tt, tt))) $ says ! e $
         nothing ! $ move ! (3 ∷ 0 ∷ []) $ join ! $ move ! (2 ∷ 0 ∷ []) $ join ! $ frame ! $ nothing ! $ move ! (3 ∷ 0 ∷ []) $ fjoin ! $ move ! (2 ∷ 0 ∷ []) $ fjoin ! $ frame ! $ done !
 
-    module _ (C : Calls 𝓤 H) (Λ : Loops 𝓤 H) (fm : FmC 𝓤 H (W .laws) C) (known-lookup-table : Triple 𝓤 (C #lookup-table) (Contract-lookup-table 𝓤 H A mem run)) (known-nested-part : Triple 𝓤 (C #nested-part) (Contract-nested-part 𝓤 H A mem run)) (known-place-start : Triple 𝓤 (C #place-start) (Contract-place-start 𝓤 H A mem run)) (known-place-end : Triple 𝓤 (C #place-end) (Contract-place-end 𝓤 H A mem run)) where
+    module _ (C : Calls 𝓤 H) (Λ : Loops 𝓤 H) (fm : FmC 𝓤 H (W .laws) C) (known-lookup-table : Triple 𝓤 (C #lookup-table) (Contract-lookup-table 𝓤 H A mem run)) (known-nested-part : Triple 𝓤 (C #nested-part) (Contract-nested-part 𝓤 H A mem run)) (known-pointer-start : Triple 𝓤 (C #pointer-start) (Contract-pointer-start 𝓤 H A mem run)) (known-pointer-end : Triple 𝓤 (C #pointer-end) (Contract-pointer-end 𝓤 H A mem run)) where
       walk : ent 𝓤 (onEntry 𝓤 H A it.signature (κ₀, (κ₁, tt)) (q₀, (q₁, tt)) (self, (key, tt)) at) (WpFn 𝓤 H C Λ code.function ((DTableView′.lowered self) ∷ (sliceVal (key .ptr) (length (key .now))) ∷ []) Post)
       walk =
           qed W (raw (onEntry 𝓤 H A it.signature (κ₀, (κ₁, tt)) (q₀, (q₁, tt)) (self, (key, tt)) at) ∷ []) ∵ enter ! C Λ code.function ((DTableView′.lowered self) ∷ (sliceVal (key .ptr) (length (key .now))) ∷ []) _ $
@@ -180,17 +180,17 @@ module _ {M : Type 1} (𝓤 : URA M) (H : Heap 𝓤) (A : Atoms 𝓤) (W : Given
           use1 W (later (some (λ (r2 : RefT (List ℕ)). ((‵ (flft κ₀ q₀) ⊛ ‵ ftrue) ⊛ ‵ ((ShrSlice (named 0) κ₀ u8) .own r2 (u2 ∷ []))) ⊛ raw (ensured 𝓤 H A of-nested-part.ended (of-nested-part.clauses 𝓤 H A mem run) (κ₀, tt) ((self .file), (r1, tt)) tt r2)))) (id⊢ 𝓤 _) $ await ! tt $ pick ! (λ r2.
           split ! $ move ! (1 ∷ []) $ use1 W (raw (fact 𝓤 (NestedIn (self .file) r1 r2))) (said-2 r1 u1 r2) $ heard ! (NestedIn (self .file) r1 r2) (λ e2. split ! $ split ! $ move ! (1 ∷ []) $ drop ! $ move ! (1 ∷ []) $ peeks ! (ShrSlice (named 0) κ₀ u8) (Is (ShrSlice (named 0) κ₀ u8)) (shows 𝓤 H A (ShrSlice (named 0) κ₀ u8)) r2 (u2 ∷ []) (λ i2.
           land ! (from ! (stop !)) (init ! 19 refl (shr-slice-lawful 𝓤 H A W erased κ₀ u8 .typed r2 (u2 ∷ []) i2 .0)) $
-          -- call 3, of `view::part::place_start`
-          nothing ! $ owned ! DLooked.the-row (Is DLooked.the-row) (EL.makes DLooked.the-type DLooked′.the-plain 𝓤 H A) r1 (u1 ∷ []) i1 $ fjoin ! $ nothing ! $ use2 W (raw (Contract-place-start 𝓤 H A mem run .pre (to-3 r1 r2 u1 u2))) (asked-3 r1 r2 u1 u2) $
-          calls-at ! fm (Contract-place-start 𝓤 H A mem run) known-place-start (to-3 r1 r2 u1 u2) (and-then ! (load ! (from ! (stop !)) (look ! 22 refl)) (no-more !)) (λ u3.
-          use1 W (later (some (λ (r3 : ℕ). ((‵ ftrue) ⊛ ‵ (u32 .own r3 (u3 ∷ []))) ⊛ raw (ensured 𝓤 H A of-place-start.ended (of-place-start.clauses 𝓤 H A mem run) tt (r1, tt) tt r3)))) (id⊢ 𝓤 _) $ await ! tt $ pick ! (λ r3.
-          split ! $ move ! (1 ∷ []) $ use1 W (raw (fact 𝓤 (r3 ≡ placeStart r1))) (said-3 r1 r2 u1 u2 r3) $ heard ! (r3 ≡ placeStart r1) (λ e3. split ! $ drop ! $ facts ! u32 (Is u32) (shows 𝓤 H A u32) r3 (u3 ∷ []) (λ i3.
+          -- call 3, of `view::part::pointer_start`
+          nothing ! $ owned ! DLooked.the-row (Is DLooked.the-row) (EL.makes DLooked.the-type DLooked′.the-plain 𝓤 H A) r1 (u1 ∷ []) i1 $ fjoin ! $ nothing ! $ use2 W (raw (Contract-pointer-start 𝓤 H A mem run .pre (to-3 r1 r2 u1 u2))) (asked-3 r1 r2 u1 u2) $
+          calls-at ! fm (Contract-pointer-start 𝓤 H A mem run) known-pointer-start (to-3 r1 r2 u1 u2) (and-then ! (load ! (from ! (stop !)) (look ! 22 refl)) (no-more !)) (λ u3.
+          use1 W (later (some (λ (r3 : ℕ). ((‵ ftrue) ⊛ ‵ (u32 .own r3 (u3 ∷ []))) ⊛ raw (ensured 𝓤 H A of-pointer-start.ended (of-pointer-start.clauses 𝓤 H A mem run) tt (r1, tt) tt r3)))) (id⊢ 𝓤 _) $ await ! tt $ pick ! (λ r3.
+          split ! $ move ! (1 ∷ []) $ use1 W (raw (fact 𝓤 (r3 ≡ pointerStart r1))) (said-3 r1 r2 u1 u2 r3) $ heard ! (r3 ≡ pointerStart r1) (λ e3. split ! $ drop ! $ facts ! u32 (Is u32) (shows 𝓤 H A u32) r3 (u3 ∷ []) (λ i3.
           land ! (from ! (stop !)) (init ! 17 refl (uint-lawful 𝓤 H A W w32 .typed r3 _ i3 .0)) $
-          -- call 4, of `view::part::place_end`
-          nothing ! $ owned ! DLooked.the-row (Is DLooked.the-row) (EL.makes DLooked.the-type DLooked′.the-plain 𝓤 H A) r1 (u1 ∷ []) i1 $ fjoin ! $ nothing ! $ use2 W (raw (Contract-place-end 𝓤 H A mem run .pre (to-4 r1 r2 r3 u1 u2 u3))) (asked-4 r1 r2 r3 u1 u2 u3) $
-          calls-at ! fm (Contract-place-end 𝓤 H A mem run) known-place-end (to-4 r1 r2 r3 u1 u2 u3) (and-then ! (load ! (from ! (stop !)) (look ! 22 refl)) (no-more !)) (λ u4.
-          use1 W (later (some (λ (r4 : ℕ). ((‵ ftrue) ⊛ ‵ (u32 .own r4 (u4 ∷ []))) ⊛ raw (ensured 𝓤 H A of-place-end.ended (of-place-end.clauses 𝓤 H A mem run) tt (r1, tt) tt r4)))) (id⊢ 𝓤 _) $ await ! tt $ pick ! (λ r4.
-          split ! $ move ! (1 ∷ []) $ use1 W (raw (fact 𝓤 (r4 ≡ placeEnd r1))) (said-4 r1 r2 r3 u1 u2 u3 r4) $ heard ! (r4 ≡ placeEnd r1) (λ e4. split ! $ drop ! $ facts ! u32 (Is u32) (shows 𝓤 H A u32) r4 (u4 ∷ []) (λ i4.
+          -- call 4, of `view::part::pointer_end`
+          nothing ! $ owned ! DLooked.the-row (Is DLooked.the-row) (EL.makes DLooked.the-type DLooked′.the-plain 𝓤 H A) r1 (u1 ∷ []) i1 $ fjoin ! $ nothing ! $ use2 W (raw (Contract-pointer-end 𝓤 H A mem run .pre (to-4 r1 r2 r3 u1 u2 u3))) (asked-4 r1 r2 r3 u1 u2 u3) $
+          calls-at ! fm (Contract-pointer-end 𝓤 H A mem run) known-pointer-end (to-4 r1 r2 r3 u1 u2 u3) (and-then ! (load ! (from ! (stop !)) (look ! 22 refl)) (no-more !)) (λ u4.
+          use1 W (later (some (λ (r4 : ℕ). ((‵ ftrue) ⊛ ‵ (u32 .own r4 (u4 ∷ []))) ⊛ raw (ensured 𝓤 H A of-pointer-end.ended (of-pointer-end.clauses 𝓤 H A mem run) tt (r1, tt) tt r4)))) (id⊢ 𝓤 _) $ await ! tt $ pick ! (λ r4.
+          split ! $ move ! (1 ∷ []) $ use1 W (raw (fact 𝓤 (r4 ≡ pointerEnd r1))) (said-4 r1 r2 r3 u1 u2 u3 r4) $ heard ! (r4 ≡ pointerEnd r1) (λ e4. split ! $ drop ! $ facts ! u32 (Is u32) (shows 𝓤 H A u32) r4 (u4 ∷ []) (λ i4.
           land ! (from ! (stop !)) (init ! 15 refl (uint-lawful 𝓤 H A W w32 .typed r4 _ i4 .0)) $
           -- `view::table::TableView` is made
           nothing ! $ owned ! u32 (Is u32) (uint-makes 𝓤 H A W w32) r4 (u4 ∷ []) i4 $ fjoin ! $ owned ! u32 (Is u32) (uint-makes 𝓤 H A W w32) r3 (u3 ∷ []) i3 $ fjoin ! $ move ! (1 ∷ []) $ use1 W (‵ ((ShrSlice (named 0) κ₀ u8) .own r2 (u2 ∷ [])) ⊛ ‵ ((ShrSlice (named 0) κ₀ u8) .own r2 (u2 ∷ []))) (shr-slice-copy 𝓤 H A W (named 0) κ₀ u8 .twice r2 (u2 ∷ [])) $ split ! $ move ! (0 ∷ 2 ∷ []) $ fjoin ! $ use1 W (‵ ((DTableView.the-row (namedLft 2 0 tt (κ₀, (κ₁, tt)))) .own (record { file = r2; start = r3; end = r4 }) ((vstruct (vcons u2 (vcons u3 (vcons u4 vnil)))) ∷ []))) (makes 𝓤 H A W ((ShrSlice (named 0) κ₀ u8) ∷ u32 ∷ u32 ∷ []) (owns ((ShrSlice (named 0) κ₀ u8) ∷ u32 ∷ u32 ∷ []) (r2, (r3, (r4, tt)))) (u2 ∷ [], (u3 ∷ [], (u4 ∷ [], tt)))) $ peeks ! (DTableView.the-row (namedLft 2 0 tt (κ₀, (κ₁, tt)))) (Is (DTableView.the-row (namedLft 2 0 tt (κ₀, (κ₁, tt))))) (shows 𝓤 H A (DTableView.the-row (namedLft 2 0 tt (κ₀, (κ₁, tt))))) (record { file = r2; start = r3; end = r4 }) ((vstruct (vcons u2 (vcons u3 (vcons u4 vnil)))) ∷ []) (λ j1.
@@ -203,15 +203,15 @@ module _ {M : Type 1} (𝓤 : URA M) (H : Heap 𝓤) (A : Atoms 𝓤) (W : Given
           keep ! (0 ∷ 3 ∷ 5 ∷ 4 ∷ 6 ∷ []) $ by ! (exits (record { answer = r1; table = (record { file = r2; start = r3; end = r4 }) }) (vstruct (vcons u1 (vcons (vstruct (vcons u2 (vcons u3 (vcons u4 vnil)))) vnil))) (record { answered = e1; viewed = e2; starts = e3; ends = e4 }))))))))))))))))))))))))))))))))
 
 module _ {M : Type 1} (𝓤 : URA M) (H : Heap 𝓤) (A : Atoms 𝓤) (W : Given 𝓤 H A) (mem : Memory → SProp 𝓤) (run : Routine → Fun 𝓤) where
-  it-walks : (C : Calls 𝓤 H) (Λ : Loops 𝓤 H) → FmC 𝓤 H (W .laws) C → Triple 𝓤 (C #lookup-table) (Contract-lookup-table 𝓤 H A mem run) → Triple 𝓤 (C #nested-part) (Contract-nested-part 𝓤 H A mem run) → Triple 𝓤 (C #place-start) (Contract-place-start 𝓤 H A mem run) → Triple 𝓤 (C #place-end) (Contract-place-end 𝓤 H A mem run)
+  it-walks : (C : Calls 𝓤 H) (Λ : Loops 𝓤 H) → FmC 𝓤 H (W .laws) C → Triple 𝓤 (C #lookup-table) (Contract-lookup-table 𝓤 H A mem run) → Triple 𝓤 (C #nested-part) (Contract-nested-part 𝓤 H A mem run) → Triple 𝓤 (C #pointer-start) (Contract-pointer-start 𝓤 H A mem run) → Triple 𝓤 (C #pointer-end) (Contract-pointer-end 𝓤 H A mem run)
       → Walks 𝓤 H A it.ended stayed (WpFn 𝓤 H C Λ code.function) (it.clauses 𝓤 H A mem run)
-  it-walks C Λ fm known-lookup-table known-nested-part known-place-start known-place-end = walked 𝓤 H A it.ended stayed (it.clauses 𝓤 H A mem run) (WpFn 𝓤 H C Λ code.function) (λ κs. (LL.vals (DTableView.the-type (namedLft 2 0 tt κs)) (DTableView′.the-laws (namedLft 2 0 tt κs)), (slice-vals, tt))) (λ κs. (LL.tells (DTableView.the-type (namedLft 2 0 tt κs)) (DTableView′.the-laws (namedLft 2 0 tt κs)), (shr-slice-tells (named 1) (κs .1 .0) u8, tt)))
-      (λ κs qs bounds a g are. via 𝓤 _ (fst∗ 𝓤 _ (emp 𝓤)) (walk 𝓤 H A W mem run (κs .0) (κs .1 .0) (qs .0) (qs .1 .0) (a .0) (a .1 .0) (LL.lawful (DTableView.the-type (namedLft 2 0 tt κs)) (DTableView′.the-laws (namedLft 2 0 tt κs)) 𝓤 H A W .typed (a .0) _ (are .0) .0) (are .1 .0) C Λ fm known-lookup-table known-nested-part known-place-start known-place-end))
+  it-walks C Λ fm known-lookup-table known-nested-part known-pointer-start known-pointer-end = walked 𝓤 H A it.ended stayed (it.clauses 𝓤 H A mem run) (WpFn 𝓤 H C Λ code.function) (λ κs. (LL.vals (DTableView.the-type (namedLft 2 0 tt κs)) (DTableView′.the-laws (namedLft 2 0 tt κs)), (slice-vals, tt))) (λ κs. (LL.tells (DTableView.the-type (namedLft 2 0 tt κs)) (DTableView′.the-laws (namedLft 2 0 tt κs)), (shr-slice-tells (named 1) (κs .1 .0) u8, tt)))
+      (λ κs qs bounds a g are. via 𝓤 _ (fst∗ 𝓤 _ (emp 𝓤)) (walk 𝓤 H A W mem run (κs .0) (κs .1 .0) (qs .0) (qs .1 .0) (a .0) (a .1 .0) (LL.lawful (DTableView.the-type (namedLft 2 0 tt κs)) (DTableView′.the-laws (namedLft 2 0 tt κs)) 𝓤 H A W .typed (a .0) _ (are .0) .0) (are .1 .0) C Λ fm known-lookup-table known-nested-part known-pointer-start known-pointer-end))
 
-it-meets : {M : Type 1} (𝓤 : URA M) (H : Heap 𝓤) (A : Atoms 𝓤) (W : Given 𝓤 H A) (mem : Memory → SProp 𝓤) (run : Routine → Fun 𝓤) (𝓣 : Tables 𝓤 H) → Triple 𝓤 (𝓣 .C #lookup-table) (Contract-lookup-table 𝓤 H A mem run) → Triple 𝓤 (𝓣 .C #nested-part) (Contract-nested-part 𝓤 H A mem run) → Triple 𝓤 (𝓣 .C #place-start) (Contract-place-start 𝓤 H A mem run) → Triple 𝓤 (𝓣 .C #place-end) (Contract-place-end 𝓤 H A mem run)
+it-meets : {M : Type 1} (𝓤 : URA M) (H : Heap 𝓤) (A : Atoms 𝓤) (W : Given 𝓤 H A) (mem : Memory → SProp 𝓤) (run : Routine → Fun 𝓤) (𝓣 : Tables 𝓤 H) → Triple 𝓤 (𝓣 .C #lookup-table) (Contract-lookup-table 𝓤 H A mem run) → Triple 𝓤 (𝓣 .C #nested-part) (Contract-nested-part 𝓤 H A mem run) → Triple 𝓤 (𝓣 .C #pointer-start) (Contract-pointer-start 𝓤 H A mem run) → Triple 𝓤 (𝓣 .C #pointer-end) (Contract-pointer-end 𝓤 H A mem run)
     → Meets 𝓤 H A it.signature (WpFn 𝓤 H (𝓣 .C) (𝓣 .Λ) code.function) (it.spec 𝓤 H A mem run)
-it-meets 𝓤 H A W mem run 𝓣 known-lookup-table known-nested-part known-place-start known-place-end = walk-meets 𝓤 H A it.ended stayed W (goes-none 𝓤 H A W 2 (λ κs. DTableView.the-row (namedLft 2 0 tt κs)) yes (λ κs x f. refl), (goes-none-slice 𝓤 H A W 2 (1 ∷ []) tt (plain (λ _. u8)) yes, tt)) (it.clauses 𝓤 H A mem run) (WpFn 𝓤 H (𝓣 .C) (𝓣 .Λ) code.function) (WpFn-mono 𝓤 H (W .laws) 𝓣 code.function)
-    (it-walks 𝓤 H A W mem run (𝓣 .C) (𝓣 .Λ) (fmOf 𝓤 H (W .laws) 𝓣) known-lookup-table known-nested-part known-place-start known-place-end)
+it-meets 𝓤 H A W mem run 𝓣 known-lookup-table known-nested-part known-pointer-start known-pointer-end = walk-meets 𝓤 H A it.ended stayed W (goes-none 𝓤 H A W 2 (λ κs. DTableView.the-row (namedLft 2 0 tt κs)) yes (λ κs x f. refl), (goes-none-slice 𝓤 H A W 2 (1 ∷ []) tt (plain (λ _. u8)) yes, tt)) (it.clauses 𝓤 H A mem run) (WpFn 𝓤 H (𝓣 .C) (𝓣 .Λ) code.function) (WpFn-mono 𝓤 H (W .laws) 𝓣 code.function)
+    (it-walks 𝓤 H A W mem run (𝓣 .C) (𝓣 .Λ) (fmOf 𝓤 H (W .laws) 𝓣) known-lookup-table known-nested-part known-pointer-start known-pointer-end)
 
 pub nested-spec : {M : Type 1} → stated.statement M
 unfolding code.routine tablesOf
@@ -221,5 +221,5 @@ nested-spec 𝓤 H 𝓜 𝓖 𝓡 =
     (it-meets 𝓤 H (𝓖 .A) (givenOf 𝓤 H 𝓜 𝓖) (𝓜 .mem) (𝓡 .run) (tablesOf 𝓤 H 𝓜 (tables 𝓤 H 𝓜 𝓡 code.env))
     (cited 𝓤 H (Contract-lookup-table 𝓤 H (𝓖 .A) (𝓜 .mem) (𝓡 .run)) 𝓜 𝓡 code.env #lookup-table of-lookup-table-def.routine code.calls-read·lookup·lookup-table (of-lookup-table-thm.met 𝓤 H 𝓜 𝓖 𝓡))
     (cited 𝓤 H (Contract-nested-part 𝓤 H (𝓖 .A) (𝓜 .mem) (𝓡 .run)) 𝓜 𝓡 code.env #nested-part of-nested-part-def.routine code.calls-view·part·nested-part (of-nested-part-thm.met 𝓤 H 𝓜 𝓖 𝓡))
-    (cited 𝓤 H (Contract-place-start 𝓤 H (𝓖 .A) (𝓜 .mem) (𝓡 .run)) 𝓜 𝓡 code.env #place-start of-place-start-def.routine code.calls-view·part·place-start (of-place-start-thm.met 𝓤 H 𝓜 𝓖 𝓡))
-    (cited 𝓤 H (Contract-place-end 𝓤 H (𝓖 .A) (𝓜 .mem) (𝓡 .run)) 𝓜 𝓡 code.env #place-end of-place-end-def.routine code.calls-view·part·place-end (of-place-end-thm.met 𝓤 H 𝓜 𝓖 𝓡)))
+    (cited 𝓤 H (Contract-pointer-start 𝓤 H (𝓖 .A) (𝓜 .mem) (𝓡 .run)) 𝓜 𝓡 code.env #pointer-start of-pointer-start-def.routine code.calls-view·part·pointer-start (of-pointer-start-thm.met 𝓤 H 𝓜 𝓖 𝓡))
+    (cited 𝓤 H (Contract-pointer-end 𝓤 H (𝓖 .A) (𝓜 .mem) (𝓡 .run)) 𝓜 𝓡 code.env #pointer-end of-pointer-end-def.routine code.calls-view·part·pointer-end (of-pointer-end-thm.met 𝓤 H 𝓜 𝓖 𝓡)))

@@ -1,0 +1,121 @@
+// A place in an item's joined key, which moves from the key's end to its front over stretches of the file that stand there too.
+use layout::item::item_at;
+use layout::table::Table;
+use read::chain::Step;
+use read::chain::parent_of;
+use text::compare::same_bytes;
+use words::wide::half_size;
+use words::wide::word_size;
+ghost use mathlib.Core.Path.{_≡_};
+ghost use Prim.Native.Nat.{_+_, _-_, _≤_, _<_};
+ghost use lib.ListN.{length};
+ghost use Rattle.words.specs.Store.{part};
+ghost use Rattle.text.specs.Compare.{sameBytes};
+ghost use Rattle.layout.specs.Table.{InFile};
+ghost use Rattle.check_keys.specs.Front.{frontAt, frontBytes, FrontFits, Raised, StretchPassed, BackPassed, smaller};
+
+// An item of the chain, how many bytes of its fragment and of the whole key stand before the place, and the parent steps left.
+pub struct Front {
+    pub at: usize,
+    pub rest: usize,
+    pub size: usize,
+    pub left: usize,
+}
+
+// The place before the bytes passed over, or that others stand there.
+pub enum Passed {
+    Over(Front),
+    Differs,
+}
+
+// The place at the end of an item's fragment, with so many bytes of the key before it.
+pub fn front_at(file: &[u8], table: Table, at: usize, size: usize, left: usize) -> Front
+    requires { ⌜ InFile (now file) table × (at < table .count) ⌝ }
+    ensures { λ r. ⌜ r ≡ frontAt (now (file .entry)) table at size left ⌝ }
+{
+    let item = item_at(file, table, at);
+    Front {
+        at,
+        rest: half_size(item.size),
+        size,
+        left,
+    }
+}
+
+// The same place, at the end of the parent's fragment: none of the item's own is left before it.
+fn raise(file: &[u8], table: Table, front: Front) -> Front
+    requires { ⌜ InFile (now file) table × FrontFits (now file) table front × (front .rest ≡ 0) × (0 < front .size) ⌝ }
+    ensures { λ r. ⌜ Raised (now (file .entry)) table front r ⌝ }
+{
+    let item = item_at(file, table, front.at);
+    match parent_of(table.count, item.parent) {
+        Step::Up(parent) => front_at(file, table, parent, front.size, front.left - 1),
+        Step::Root => front,
+        Step::Refused(_) => front,
+    }
+}
+
+// Whether the n bytes before a place, all of the item's own fragment, are those of the file up to `end`.
+fn same_stretch(file: &[u8], table: Table, front: Front, end: usize, n: usize) -> bool
+    requires { ⌜ InFile (now file) table × FrontFits (now file) table front × (n ≤ front .rest) × (n ≤ end) × (end ≤ length (now file)) ⌝ }
+    ensures { λ r. ⌜ r ≡ sameBytes (part (frontBytes (now (file .entry)) table front) (front .size - n) n) (part (now (file .entry)) (end - n) n) ⌝ }
+{
+    let item = item_at(file, table, front.at);
+    let stop = word_size(item.key) + front.rest;
+    let start = stop - n;
+    let from = end - n;
+    same_bytes(&file[start..stop], &file[from..end])
+}
+
+fn shorter(a: usize, b: usize) -> usize
+    ensures { λ r. ⌜ r ≡ smaller a b ⌝ }
+{
+    if a < b { a } else { b }
+}
+
+// Passes over the shorter of what is left of the fragment and of the stretch; where nothing is left of the fragment, only moves up.
+fn pass_some(file: &[u8], table: Table, front: Front, from: usize, end: usize) -> Passed
+    requires { ⌜ InFile (now file) table × FrontFits (now file) table front ⌝ }
+    requires { ⌜ (from < end) × (end ≤ length (now file)) × (end - from ≤ front .size) ⌝ }
+    ensures { λ r. ⌜ StretchPassed (now (file .entry)) table front from end r ⌝ }
+{
+    let rest = front.rest;
+    if rest == 0 {
+        return Passed::Over(raise(file, table, front));
+    }
+    let n = shorter(rest, end - from);
+    if same_stretch(file, table, front, end, n) {
+        Passed::Over(Front {
+            at: front.at,
+            rest: rest - n,
+            size: front.size - n,
+            left: front.left,
+        })
+    } else {
+        Passed::Differs
+    }
+}
+
+// Passes over the bytes of the file from `from` to `to`, which have to stand right before the place.
+pub fn pass_back(file: &[u8], table: Table, front: Front, from: usize, to: usize) -> Passed
+    requires { ⌜ InFile (now file) table × FrontFits (now file) table front × (from ≤ to) × (to ≤ length (now file)) ⌝ }
+    ensures { λ r. ⌜ BackPassed (now (file .entry)) table front (part (now (file .entry)) from (to - from)) r ⌝ }
+{
+    if front.size < to - from {
+        return Passed::Differs;
+    }
+    let mut here = front;
+    let mut end = to;
+    while from < end {
+        match pass_some(file, table, here, from, end) {
+            Passed::Differs => {
+                return Passed::Differs;
+            }
+            Passed::Over(next) => {
+                end -= here.size - next.size;
+                here = next;
+            }
+        }
+    }
+    Passed::Over(here)
+}

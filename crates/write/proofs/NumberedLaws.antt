@@ -1,0 +1,71 @@
+-- A sheet of a memory lays the image that the memory means. Assumes nothing.
+use mathlib.Core.Path.{_≡_, refl, sym, ap, _∙_}
+use mathlib.Core.Logic.{_⊎_, inl, inr, ⊎-elim}
+use mathlib.Core.List.{List, _++_}
+use Prim.Native.Nat.{ℕ, zero, suc, _+_, _<_}
+use native.Mathlib.Omega.{arith}
+use lib.ListN.{length}
+use Rattle.words.specs.Hash.{plain}
+use Rattle.words.specs.Store.{part, zeros}
+use Rattle.image.specs.Plan.{wordsOf}
+use Rattle.image.specs.Fits.{SamePlan}
+use Rattle.image.specs.Image.{headerSize, depth, planOf, tableBytes, imageOf}
+use Rattle.image.proofs.SameLaws.{plan-same}
+use Rattle.image.proofs.TimesLaws.{eq-or-ne}
+use Rattle.write_bytes.specs.Numbered.{numberedTables, numberedSlots, kindValue, kindTable, firstSlot, slotCount, slotWord, childWord, byKind, slotValue, slotCovers, numberedPlan, numberedBytes, numberedImage, NumberedFits}
+use Rattle.write_bytes.proofs.KindLaws.{kind-value, kind-container}
+use Rattle.write_numbers.specs.Roster.{stateOf}
+use Rattle.write.specs.Write.{imageFor}
+use Rattle.write.specs.NumberedAs.{NumberedAs}
+
+-- ---- nested tables laid alike
+
+-- a choice by kind depends on the table's part only where the kind is that of a table
+kind-same : {A : Type 0} (kind : ℕ) (v x y w : A) → (kind ≡ kindTable → x ≡ y) → byKind kind v x w ≡ byKind kind v y w
+kind-same kind v x y w same = ⊎-elim (λ e. rw (same e)) (λ n. by n (eq-or-ne kind kindValue)) (eq-or-ne kind kindTable)
+  where
+    by : (kind ≡ kindTable → ⊥) → (kind ≡ kindValue) ⊎ (kind ≡ kindValue → ⊥) → byKind kind v x w ≡ byKind kind v y w
+    by n (inl e) = kind-value kind v x w e ∙ sym (kind-value kind v y w e)
+    by n (inr m) = kind-container kind v x w m n ∙ sym (kind-container kind v y w m n)
+
+module _ (numbered arena : List ℕ) (fits : NumberedFits numbered arena) (f g : ℕ → ℕ → List ℕ)
+    (same : (u at : ℕ) → u < numberedTables → f u at ≡ g u at) where
+  value-same : (s at : ℕ) → s < numberedSlots → slotValue f numbered arena s at ≡ slotValue g numbered arena s at
+  unfolding slotValue
+  value-same s at l =
+      kind-same (slotWord numbered s 4) (part arena (slotWord numbered s 5) (slotWord numbered s 6)) (f (slotWord numbered s 5) at) (g (slotWord numbered s 5) at)
+      (wordsOf (λ j. childWord numbered (slotWord numbered s 5 + j)) (slotWord numbered s 6)) (λ e. same (slotWord numbered s 5) at (fits .slots s l .guest e))
+
+  inner-same : (t : ℕ) → t < numberedTables → SamePlan (numberedPlan f numbered arena t) (numberedPlan g numbered arena t)
+  unfolding numberedPlan slotCovers
+  inner-same t l = record {
+    count = refl;
+    first = λ b h. refl;
+    hash = λ k h. refl;
+    parent = λ k h. refl;
+    fragment = λ k h. refl;
+    kind = λ k h. refl;
+    align = λ k h. refl;
+    value = λ k at h. value-same (firstSlot numbered t + k) at (omega (arith, fits .tables t l));
+    covers = λ k h. refl;
+  }
+
+-- ---- the theorem
+
+module _ (ws ar numbered : List ℕ) (s : NumberedAs ws ar numbered) where
+  pub numbered-bytes : (d t at : ℕ) → t < numberedTables → numberedBytes numbered ar d t at ≡ tableBytes plain (stateOf ws ar) d t at
+  unfolding numberedBytes tableBytes
+  numbered-bytes zero t at l = refl
+  numbered-bytes (suc d) t at l =
+      let f : ℕ → ℕ → List ℕ = λ u start. numberedBytes numbered ar d u start in
+      let g : ℕ → ℕ → List ℕ = λ u start. tableBytes plain (stateOf ws ar) d u start in
+      plan-same (numberedPlan f numbered ar t) (numberedPlan g numbered ar t) (inner-same numbered ar (s .fits) f g (λ u start h. numbered-bytes d u start h) t l) at
+      ∙ plan-same (numberedPlan g numbered ar t) (planOf plain g (stateOf ws ar) (stateOf ws ar t)) (s .plans g t l) at
+
+  pub numbered-image : (t : ℕ) → t < numberedTables → numberedImage numbered ar t ≡ imageFor ws ar t
+  unfolding numberedImage imageFor imageOf
+  numbered-image t l = ap (λ (bytes : List ℕ). zeros headerSize ++ bytes) (numbered-bytes depth t headerSize l)
+
+  pub numbered-count : (t : ℕ) → t < numberedTables → slotCount numbered t ≡ length (stateOf ws ar t .members)
+  unfolding numberedPlan planOf
+  numbered-count t l = s .plans (λ u at. zeros 0) t l .count

@@ -1,0 +1,127 @@
+-- The sheet of a builder's memory: what each of its words is, and that its tables are those that the memory means. Assumes nothing: these
+-- are definitions.
+use Prim.Native.Nat.{ℕ, zero, suc, _+_, _-_, _≤_, _<_, _^_}
+use mathlib.Core.Path.{_≡_}
+use mathlib.Core.Bool.{Bool, _&&_, not}
+use mathlib.Core.List.{List, [], _∷_, _++_}
+use lib.Dec.{eqb, ltb}
+use lib.ListN.{length, getD}
+use Rattle.words.specs.Choice.{pick}
+use Rattle.words.specs.Hash.{plain}
+use Rattle.build_memory.specs.Memory.{emptyMark, itemTotal, itemTable, itemHash, keyStart, keySize, itemParent, itemKind, valueStart, valueSize, itemGuest, containerKind}
+use Rattle.image.specs.Fits.{SamePlan}
+use Rattle.image.specs.Image.{planOf}
+use Rattle.write_bytes.specs.Numbered.{numberedTables, numberedSlots, slotsAt, childrenAt, numberedSize, slotWord, childWord, byKind, numberedPlan, NumberedFits, SlotFits}
+use Rattle.write_numbers.specs.Roster.{stateOf, firstSlot, itemIndex, bucketWord}
+
+-- every table of the sheet agrees with the table that the memory means, whatever nested tables are laid as
+pub record NumberedAs (ws ar numbered : List ℕ) : Type 0 where
+  pub fits : NumberedFits numbered ar
+  pub plans : (inner : ℕ → ℕ → List ℕ) (t : ℕ) → t < numberedTables
+      → SamePlan (numberedPlan inner numbered ar t) (planOf plain inner (stateOf ws ar) (stateOf ws ar t))
+
+-- ---- children
+
+-- of the first n items those with a parent word, in order of creation
+unfoldable pub childItems : List ℕ → ℕ → ℕ → List ℕ
+childItems ws parent zero = []
+childItems ws parent (suc n) = childItems ws parent n ++ pick (eqb (itemParent ws n) parent) (n ∷ []) []
+
+-- the item of a place: the last item has the first place
+abbrev pub fromLast : List ℕ → ℕ → ℕ
+fromLast ws p = itemTotal ws - 1 - p
+
+-- the parent words by place
+abbrev pub Parents : List ℕ → List ℕ → Type 0
+Parents ws hashes = (p : ℕ) → p < itemTotal ws → getD hashes p 0 ≡ itemParent ws (fromLast ws p)
+
+-- places in the order of their parents, and the first of each parent: those of one parent in order of creation
+pub record Siblings (ws order firsts : List ℕ) : Type 0 where
+  pub long : length order ≡ numberedSlots
+  pub wide : length firsts ≡ 1026
+  pub inside : (j : ℕ) → j < itemTotal ws → getD order j 0 < itemTotal ws
+  pub next : (i : ℕ) → i < numberedSlots → getD firsts (i + 2) 0 ≡ getD firsts (i + 1) 0 + length (childItems ws (i + 1) (itemTotal ws))
+  pub few : (i : ℕ) → i < numberedSlots → getD firsts (i + 2) 0 ≤ itemTotal ws
+  pub child : (i j : ℕ) → i < numberedSlots → j < length (childItems ws (i + 1) (itemTotal ws))
+      → fromLast ws (getD order (getD firsts (i + 1) 0 + j) 0) ≡ getD (childItems ws (i + 1) (itemTotal ws)) j 0
+
+-- ---- the words of a sheet
+
+-- every word is 0
+abbrev pub Clear : List ℕ → Type 0
+Clear numbered = (k : ℕ) → k < numberedSize → getD numbered k 0 ≡ 0
+
+-- the head's words are the roster's; all else is 0
+unfoldable pub startWord : List ℕ → ℕ → ℕ
+startWord roster k = pick (ltb k slotsAt) (getD roster k 0) 0
+
+pub record NumberedStart (roster numbered : List ℕ) : Type 0 where
+  pub long : length numbered ≡ numberedSize
+  pub is : (k : ℕ) → k < numberedSize → getD numbered k 0 ≡ startWord roster k
+
+-- the child words are the numbers of the places, as many as there are items; all else is as it was
+pub record NumberedChildren (ws roster order before after : List ℕ) : Type 0 where
+  pub long : length after ≡ length before
+  pub is : (j : ℕ) → j < itemTotal ws → childWord after j ≡ itemIndex roster (fromLast ws (getD order j 0))
+  pub kept : (k : ℕ) → k < childrenAt → getD after k 0 ≡ getD before k 0
+  pub rest : (k : ℕ) → childrenAt + itemTotal ws ≤ k → getD after k 0 ≡ getD before k 0
+
+-- item i is laid as a child: it has a parent, which is a container
+unfoldable pub childTest : List ℕ → ℕ → Bool
+childTest ws i = not (eqb (itemParent ws i) 0) && eqb (itemKind ws (itemParent ws i - 1)) containerKind
+
+-- how much of its key its parent has
+unfoldable pub skipped : List ℕ → ℕ → ℕ
+skipped ws i = pick (childTest ws i) (keySize ws (itemParent ws i - 1)) 0
+
+module _ (ws firsts : List ℕ) where
+  -- by kind: value start, guest, or first child word; value length, nothing, or count of child words
+  unfoldable pub startOf : ℕ → ℕ
+  startOf i = byKind (itemKind ws i) (valueStart ws i) (itemGuest ws i) (getD firsts (i + 1) 0)
+
+  unfoldable pub sizeOf : ℕ → ℕ
+  sizeOf i = byKind (itemKind ws i) (valueSize ws i) 0 (getD firsts (i + 2) 0 - getD firsts (i + 1) 0)
+
+module _ (ws roster : List ℕ) where
+  unfoldable pub parentWord : ℕ → ℕ
+  parentWord i = pick (childTest ws i) (itemIndex roster (itemParent ws i - 1)) emptyMark
+
+  -- the slot of item i
+  unfoldable pub slotOf : ℕ → ℕ
+  slotOf i = firstSlot roster (itemTable ws i) + itemIndex roster i
+
+  -- its parent is earlier, and its slot is one
+  pub record Slotted (i : ℕ) : Type 0 where
+    pub long : 14600 ≤ length ws
+    pub roster-long : length roster ≡ 3200
+    pub inside : i < 1024
+    pub table : itemTable ws i < 64
+    pub earlier : itemParent ws i ≤ i
+    pub shorter : skipped ws i ≤ keySize ws i
+    pub key : keyStart ws i + keySize ws i < 2 ^ 64
+    pub within : slotOf i < 1024
+
+  unfoldable pub frontWords : ℕ → List ℕ
+  frontWords i = itemHash ws i ∷ parentWord i ∷ (keyStart ws i + skipped ws i) ∷ (keySize ws i - skipped ws i) ∷ []
+
+  module _ (firsts : List ℕ) where
+    -- the words of its slot: four, and four more
+    unfoldable pub backWords : ℕ → List ℕ
+    backWords i = itemKind ws i ∷ startOf ws firsts i ∷ sizeOf ws firsts i ∷ bucketWord roster (slotOf i) ∷ []
+
+    unfoldable pub slotWords : ℕ → List ℕ
+    slotWords i = frontWords i ++ backWords i
+
+-- the firsts ascend, up to the count of the child words
+pub record Firsts (firsts : List ℕ) : Type 0 where
+  pub wide : length firsts ≡ 1026
+  pub up : (i : ℕ) → i < numberedSlots → getD firsts (i + 1) 0 ≤ getD firsts (i + 2) 0
+  pub few : (i : ℕ) → i < numberedSlots → getD firsts (i + 2) 0 ≤ numberedSlots
+
+-- the slots of the first n items have their words, every slot can be laid, and all else is as it was
+pub record NumberedSlots (ws ar roster firsts before after : List ℕ) (n : ℕ) : Type 0 where
+  pub long : length after ≡ length before
+  pub is : (i : ℕ) → i < n → (which : ℕ) → which < 8 → slotWord after (slotOf ws roster i) which ≡ getD (slotWords ws roster firsts i) which 0
+  pub fits : (s : ℕ) → s < numberedSlots → SlotFits after ar s
+  pub head : (k : ℕ) → k < slotsAt → getD after k 0 ≡ getD before k 0
+  pub tail : (k : ℕ) → childrenAt ≤ k → getD after k 0 ≡ getD before k 0

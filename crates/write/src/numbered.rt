@@ -1,0 +1,64 @@
+// The sheet of a builder's memory, from its roster.
+use crate::children::order_siblings;
+use crate::children::put_children;
+use crate::slot::put_slot;
+use build_memory::fields::ITEMS;
+ghost use mathlib.Core.Path.{_≡_};
+ghost use mathlib.Core.Bool.{true};
+ghost use Prim.Native.Nat.{ℕ, _<_};
+ghost use lib.ListN.{length};
+ghost use Rattle.build_memory.specs.Memory.{itemTotal};
+ghost use Rattle.build_rules.specs.Valid.{fullyValid};
+ghost use Rattle.write_bytes.specs.Numbered.{SlotFits};
+ghost use Rattle.write_numbers.specs.Roster.{Rostered};
+ghost use Rattle.write.specs.NumberedAs.{Clear, NumberedStart, NumberedSlots, Firsts, NumberedAs};
+
+// Puts the head, which is the roster's, into a clear sheet.
+fn start_numbered(roster: &[usize], numbered: &mut [usize])
+    requires { ⌜ (length (now roster) ≡ 3200) × (length (now numbered) ≡ 9344) × Clear (now numbered) ⌝ }
+    ensures { λ _. ⌜ NumberedStart (now (roster .entry)) (now (numbered .exit)) ⌝ }
+{
+    let mut k = 0;
+    while k < 128 {
+        numbered[k] = roster[k];
+        k += 1;
+    }
+}
+
+// Puts the slots of all items.
+fn put_slots(
+    words: &[usize],
+    arena: &[u8],
+    roster: &[usize],
+    firsts: &[usize],
+    numbered: &mut [usize],
+)
+    requires { ⌜ fullyValid (now words) (now arena) ≡ true ⌝ }
+    requires { ⌜ Rostered (now words) (now arena) (now roster) ⌝ }
+    requires { ⌜ Firsts (now firsts) ⌝ }
+    requires { ⌜ (length (now numbered) ≡ 9344) × ((s : ℕ) → s < 1024 → SlotFits (now numbered) (now arena) s) ⌝ }
+    ensures { λ _. ⌜ NumberedSlots (now (words .entry)) (now (arena .entry)) (now (roster .entry)) (now (firsts .entry)) (now (numbered .entry)) (now (numbered .exit)) (itemTotal (now (words .entry))) ⌝ }
+{
+    let n = words[ITEMS];
+    let mut i = 0;
+    while i < n {
+        put_slot(words, roster, firsts, i, numbered);
+        i += 1;
+    }
+}
+
+// Fills a clear sheet: head, child words, slots.
+pub fn fill_numbered(words: &[usize], arena: &[u8], roster: &[usize], numbered: &mut [usize])
+    requires { ⌜ fullyValid (now words) (now arena) ≡ true ⌝ }
+    requires { ⌜ Rostered (now words) (now arena) (now roster) ⌝ }
+    requires { ⌜ (length (now numbered) ≡ 9344) × Clear (now numbered) ⌝ }
+    ensures { λ _. ⌜ NumberedAs (now (words .entry)) (now (arena .entry)) (now (numbered .exit)) ⌝ }
+{
+    let n = words[ITEMS];
+    let mut order = [0usize; 1024];
+    let mut firsts = [n; 1026];
+    order_siblings(words, arena, &mut order, &mut firsts);
+    start_numbered(roster, numbered);
+    put_children(words, roster, &order, numbered);
+    put_slots(words, arena, roster, &firsts, numbered);
+}

@@ -1,0 +1,108 @@
+-- A sheet: what is to be laid, flat in words, each table's items in the order of their numbers; and the bytes that it means.
+--   2t, 2t + 1     table t (64 of them): its first slot, and its count of items, which stand in the slots behind one another
+--   128 + 8s       slot s (1,024 of them): hash, parent's number (4294967295: none), fragment start and size in the arena, kind,
+--                  then by kind: value start in the arena, guest, or first of its child words; value length, nothing, or count of its child words;
+--                  and the word of bucket (s - first slot)
+--   8320 + j       child words (1,024 of them): the numbers of the children, container by container
+-- Assumes nothing: these are definitions.
+use Prim.Native.Nat.{ℕ, zero, suc, _+_, _*_, _≤_, _<_, _^_}
+use mathlib.Core.Path.{_≡_}
+use mathlib.Core.List.{List, [], _++_}
+use lib.Dec.{eqb}
+use lib.ListN.{length, getD}
+use Rattle.words.specs.Choice.{pick}
+use Rattle.words.specs.Store.{part, zeros}
+use Rattle.image.specs.Plan.{Plan, wordsOf, chunkSize, planBytes}
+use Rattle.image.specs.Image.{headerSize, depth}
+
+abbrev pub numberedTables : ℕ
+numberedTables = 64
+
+abbrev pub numberedSlots : ℕ
+numberedSlots = 1024
+
+abbrev pub slotsAt : ℕ
+slotsAt = 128
+
+abbrev pub childrenAt : ℕ
+childrenAt = 8320
+
+abbrev pub numberedSize : ℕ
+numberedSize = 9344
+
+abbrev pub kindValue : ℕ
+kindValue = 118
+
+abbrev pub kindTable : ℕ
+kindTable = 72
+
+module _ (numbered : List ℕ) where
+  unfoldable pub firstSlot : ℕ → ℕ
+  firstSlot t = getD numbered (2 * t) 0
+
+  unfoldable pub slotCount : ℕ → ℕ
+  slotCount t = getD numbered (2 * t + 1) 0
+
+  -- word `which` of slot s
+  unfoldable pub slotWord : ℕ → ℕ → ℕ
+  slotWord s which = getD numbered (slotsAt + 8 * s + which) 0
+
+  unfoldable pub childWord : ℕ → ℕ
+  childWord j = getD numbered (childrenAt + j) 0
+
+-- by kind: for a value, for a nested table, for a container
+unfoldable pub byKind : {A : Type 0} → ℕ → A → A → A → A
+byKind kind value table container = pick (eqb kind kindValue) value (pick (eqb kind kindTable) table container)
+
+module _ (inner : ℕ → ℕ → List ℕ) (numbered arena : List ℕ) where
+  -- what slot s holds, if it starts at a place: a value's bytes, a nested table with all its chunks, or the children's numbers
+  unfoldable pub slotValue : ℕ → ℕ → List ℕ
+  slotValue s at =
+      byKind (slotWord numbered s 4) (part arena (slotWord numbered s 5) (slotWord numbered s 6)) (inner (slotWord numbered s 5) at)
+      (wordsOf (λ j. childWord numbered (slotWord numbered s 5 + j)) (slotWord numbered s 6))
+
+  -- the length that its pointer covers: of a nested table the table chunk only
+  unfoldable pub slotCovers : ℕ → ℕ
+  slotCovers s = byKind (slotWord numbered s 4) (slotWord numbered s 6) (chunkSize (slotCount numbered (slotWord numbered s 5))) (4 * slotWord numbered s 6)
+
+  -- table t, by number
+  unfoldable pub numberedPlan : ℕ → Plan
+  numberedPlan t = record {
+    count = slotCount numbered t;
+    first = λ b. slotWord numbered (firstSlot numbered t + b) 7;
+    hash = λ k. slotWord numbered (firstSlot numbered t + k) 0;
+    parent = λ k. slotWord numbered (firstSlot numbered t + k) 1;
+    fragment = λ k. part arena (slotWord numbered (firstSlot numbered t + k) 2) (slotWord numbered (firstSlot numbered t + k) 3);
+    kind = λ k. slotWord numbered (firstSlot numbered t + k) 4;
+    align = λ k. byKind (slotWord numbered (firstSlot numbered t + k) 4) 8 4 4;
+    value = λ k at. slotValue (firstSlot numbered t + k) at;
+    covers = λ k. slotCovers (firstSlot numbered t + k);
+  }
+
+-- table t at `at`, with all its chunks; nested tables as deep as d goes
+unfoldable pub numberedBytes : List ℕ → List ℕ → ℕ → ℕ → ℕ → List ℕ
+numberedBytes numbered arena zero t at = []
+numberedBytes numbered arena (suc d) t at = planBytes (numberedPlan (λ u start. numberedBytes numbered arena d u start) numbered arena t) at
+
+-- the whole image: zeros for the header, then the root table
+unfoldable pub numberedImage : List ℕ → List ℕ → ℕ → List ℕ
+numberedImage numbered arena root = zeros headerSize ++ numberedBytes numbered arena depth root headerSize
+
+-- ---- a sheet that can be laid: every place lies where it should, and every number fits its field
+
+pub record SlotFits (numbered arena : List ℕ) (s : ℕ) : Type 0 where
+  pub hash : slotWord numbered s 0 < 2 ^ 32
+  pub parent : slotWord numbered s 1 < 2 ^ 32
+  pub fragment : slotWord numbered s 2 + slotWord numbered s 3 ≤ length arena
+  pub size : slotWord numbered s 3 < 65536
+  pub kind : slotWord numbered s 4 < 256
+  pub bucket : slotWord numbered s 7 < 2 ^ 32
+  pub value : slotWord numbered s 4 ≡ kindValue → slotWord numbered s 5 + slotWord numbered s 6 ≤ length arena
+  pub guest : slotWord numbered s 4 ≡ kindTable → slotWord numbered s 5 < numberedTables
+  pub children : (slotWord numbered s 4 ≡ kindValue → ⊥) → (slotWord numbered s 4 ≡ kindTable → ⊥) → slotWord numbered s 5 + slotWord numbered s 6 ≤ numberedSlots
+
+pub record NumberedFits (numbered arena : List ℕ) : Type 0 where
+  pub long : length numbered ≡ numberedSize
+  pub tables : (t : ℕ) → t < numberedTables → firstSlot numbered t + slotCount numbered t ≤ numberedSlots
+  pub slots : (s : ℕ) → s < numberedSlots → SlotFits numbered arena s
+  pub children : (j : ℕ) → j < numberedSlots → childWord numbered j < 2 ^ 32
