@@ -1,4 +1,4 @@
--- The laws of the search along a chain: its turns and its ends. Assumes nothing.
+-- The laws of the search along a chain: its turns and its ends.
 use Prim.Native.Nat.{ℕ, zero, suc, _%_, _≤_, _<_}
 use native.Mathlib.Nat.{not-suc-le-zero}
 use native.Mathlib.Omega.{arith}

@@ -1,4 +1,4 @@
--- The laws of an item made or written again: what the stores of the code come to, and what stands where afterwards. Assumes nothing.
+-- The laws of an item made or written again: what the stores of the code come to, and what stands where afterwards.
 use Prim.Native.Nat.{ℕ, suc, _+_, _%_}
 use native.Mathlib.Numerals.{add-one}
 use native.Mathlib.Omega.{arith}

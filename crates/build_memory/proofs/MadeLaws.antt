@@ -1,4 +1,4 @@
--- What stands where once an item is made, or written again: the words, and stretches of the arena. Assumes nothing.
+-- What stands where once an item is made, or written again: the words, and stretches of the arena.
 use Prim.Native.Nat.{ℕ, _+_, _%_, _≤_, _<_}
 use native.Mathlib.Nat.{add-zero, add-assoc, mod-lt}
 use native.Mathlib.Omega.{arith}

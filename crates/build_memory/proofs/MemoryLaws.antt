@@ -1,4 +1,4 @@
--- The laws of the memory's layout, of total reads, of the rules that every call judges, and of the fresh start. Assumes nothing.
+-- The laws of the memory's layout, of total reads, of the rules that every call judges, and of the fresh start.
 use Prim.Native.Nat.{ℕ, _+_, _-_, _*_, _≤_, _<_}
 use native.Mathlib.Nat.{add-sub-cancel-left}
 use native.Mathlib.Omega.{arith}

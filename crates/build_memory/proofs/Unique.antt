@@ -1,4 +1,4 @@
--- Each promise leaves one answer and one content of each lent buffer: two that meet it are equal. Assumes nothing.
+-- Each promise leaves one answer and one content of each lent buffer: two that meet it are equal.
 use Prim.Native.Nat.{ℕ, _+_}
 use mathlib.Core.Path.{_≡_, sym, ap, _∙_}
 use mathlib.Core.Bool.{Bool}

@@ -1,4 +1,4 @@
--- The number of document 01 that each answer stands for; 0 for a success. Assumes nothing: these are definitions.
+-- The number of document 01 that each answer stands for; 0 for a success.
 use Prim.Native.Nat.{ℕ}
 use Rattle.layout.specs.Refusal.{number}
 use Rattle.build_memory.specs.declared.fresh.Started.{Started}

@@ -1,5 +1,5 @@
 -- The search for the item of a table with a key, along the chain of the key's bucket. It reads memory of any content: a chain ends where
--- an index does not fall. Assumes nothing: these are definitions.
+-- an index does not fall.
 use Prim.Native.Nat.{ℕ, zero, suc, _%_}
 use mathlib.Core.Bool.{Bool, _&&_}
 use mathlib.Core.List.{List}

@@ -1,4 +1,4 @@
--- Items made and written again. Assumes nothing: these are definitions.
+-- Items made and written again.
 use Prim.Native.Nat.{ℕ, _+_, _%_}
 use mathlib.Core.List.{List, [], _∷_}
 use lib.ListN.{length}

@@ -1,4 +1,4 @@
--- What a builder's memory means: the builder of the crate `model` that it holds. Assumes nothing: these are definitions.
+-- What a builder's memory means: the builder of the crate `model` that it holds.
 use Prim.Native.Nat.{ℕ, zero, suc, _-_}
 use mathlib.Core.Bool.{not}
 use mathlib.Core.List.{List, [], _∷_, _++_}

@@ -1,5 +1,5 @@
 -- The lent memory of a builder: two buffers, the words and the arena. Where each word stands, the rules behind refusal 29 that every call
--- judges, and the fresh start. Assumes nothing: these are definitions.
+-- judges, and the fresh start.
 --   word 0 length of the words, 1 length of the arena, 2 tables, 3 items, 4 room used of the arena, 5 to 7 unused
 --   8 + 4t     table t: separator (256: none), placed (0: no), height once it is placed, unused
 --   264 + b    head of bucket b: the last item made whose hash modulo 1,024 is b, or the empty mark

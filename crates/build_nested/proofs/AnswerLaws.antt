@@ -1,5 +1,5 @@
 -- The order of refusals in the document's words: for each number, what was passed before it and what it is given for; and that a refusal
--- leaves the memory as it was. Assumes nothing.
+-- leaves the memory as it was.
 use Prim.Native.Nat.{ℕ, _+_, _≤_, _<_}
 use mathlib.Core.Path.{_≡_}
 use mathlib.Core.Bool.{true, false}

@@ -1,4 +1,4 @@
--- The laws of heights, and the stages of an insert of a table. Assumes nothing.
+-- The laws of heights, and the stages of an insert of a table.
 use Prim.Native.Nat.{ℕ, suc, _+_, _-_, _≤_, _<_}
 use native.Mathlib.Numerals.{add-one}
 use native.Mathlib.Omega.{arith}

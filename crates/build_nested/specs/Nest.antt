@@ -1,5 +1,4 @@
--- The insert of a table into another: 29, 24 for the receiver, 24 for the guest, 25, 8, 20, 21, 26, 22, 23. Assumes nothing: these are
--- definitions.
+-- The insert of a table into another: 29, 24 for the receiver, 24 for the guest, 25, 8, 20, 21, 26, 22, 23.
 use Prim.Native.Nat.{ℕ, _+_}
 use mathlib.Core.Bool.{_&&_}
 use mathlib.Core.List.{List, [], _∷_}

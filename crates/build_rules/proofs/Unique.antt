@@ -1,4 +1,4 @@
--- The promise of judge_fully leaves one answer. Assumes nothing.
+-- The promise of judge_fully leaves one answer.
 use Prim.Native.Nat.{ℕ}
 use mathlib.Core.Path.{_≡_, sym, _∙_}
 use mathlib.Core.Bool.{Bool}

@@ -1,4 +1,4 @@
--- What the rules that a write judges say, as plain facts. Assumes nothing.
+-- What the rules that a write judges say, as plain facts.
 use Prim.Native.Nat.{ℕ, _+_, _-_, _≤_, _<_}
 use native.Mathlib.Omega.{arith}
 use mathlib.Core.Path.{_≡_, sym}

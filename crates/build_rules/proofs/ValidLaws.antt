@@ -1,4 +1,4 @@
--- The laws of the rules that a write judges: for the code that judges them, and for those who are told that they hold. Assumes nothing.
+-- The laws of the rules that a write judges: for the code that judges them, and for those who are told that they hold.
 use Prim.Native.Nat.{ℕ, _+_, _-_, _≤_, _<_}
 use native.Mathlib.Numerals.{add-one}
 use native.Mathlib.Omega.{arith}

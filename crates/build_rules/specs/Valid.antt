@@ -1,5 +1,5 @@
 -- The rules behind refusal 29 that a write judges, besides those of every call. Memory that the fresh start and the builder's calls wrote
--- keeps them. Assumes nothing: these are definitions.
+-- keeps them.
 use Prim.Native.Nat.{ℕ, _+_, _-_, _<_}
 use mathlib.Core.Path.{_≡_}
 use mathlib.Core.Bool.{Bool, _&&_, _||_, not}

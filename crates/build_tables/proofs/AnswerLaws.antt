@@ -1,5 +1,4 @@
 -- The order of refusals in the document's words: for each number, what was passed before it and what it is given for.
--- Assumes nothing.
 use Prim.Native.Nat.{ℕ, _≤_, _<_}
 use mathlib.Core.Path.{_≡_}
 use mathlib.Core.Bool.{true, false}

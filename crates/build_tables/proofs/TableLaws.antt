@@ -1,4 +1,4 @@
--- The laws of new tables and of the count of a table's items. Assumes nothing.
+-- The laws of new tables and of the count of a table's items.
 use Prim.Native.Nat.{ℕ, suc, _+_, _≤_, _<_}
 use native.Mathlib.Numerals.{add-one}
 use native.Mathlib.Omega.{arith}

@@ -1,5 +1,4 @@
--- The number of document 01 that each answer stands for, 0 for a success, and the values that it carries. Assumes nothing: these are
--- definitions.
+-- The number of document 01 that each answer stands for, 0 for a success, and the values that it carries.
 use Prim.Native.Nat.{ℕ}
 use Rattle.layout.specs.Refusal.{number}
 use Rattle.model.specs.declared.Added.{Added}

@@ -1,4 +1,4 @@
--- A new table: 29, 28, 27; and the count of a table's items: 29, 24. Assumes nothing: these are definitions.
+-- A new table: 29, 28, 27; and the count of a table's items: 29, 24.
 use Prim.Native.Nat.{ℕ, zero, suc, _+_}
 use mathlib.Core.Bool.{Bool, _&&_}
 use mathlib.Core.List.{List, [], _∷_}

@@ -1,4 +1,4 @@
--- The stages of an insert: one law for each way through a stage. Assumes nothing.
+-- The stages of an insert: one law for each way through a stage.
 use Prim.Native.Nat.{ℕ, _+_, _≤_, _<_}
 use mathlib.Core.Path.{_≡_, sym, ap, _∙_}
 use mathlib.Core.Bool.{Bool, true, false}

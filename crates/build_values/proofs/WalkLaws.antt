@@ -1,4 +1,4 @@
--- The laws of the walk down a key's containers and of what the rest costs, a step at a time. Assumes nothing.
+-- The laws of the walk down a key's containers and of what the rest costs, a step at a time.
 use Prim.Native.Nat.{ℕ, suc, _+_, _≤_, _<_}
 use native.Mathlib.Omega.{arith}
 use mathlib.Core.Path.{_≡_, sym, ap, _∙_, subst}

@@ -1,5 +1,5 @@
 -- The insert of a value: 29, 24, 8, 20, 21, 22, 23; 26, which comes after 21, is for the insert of a table. A refusal leaves the memory as
--- it was. Assumes nothing: these are definitions.
+-- it was.
 use Prim.Native.Nat.{ℕ, _+_, _≤_, _<_}
 use mathlib.Core.Bool.{Bool, false}
 use mathlib.Core.List.{List, [], _∷_}

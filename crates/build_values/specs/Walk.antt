@@ -1,5 +1,4 @@
--- The way of an insert down the containers of its key, before anything is written; and what the rest will cost. Assumes nothing: these
--- are definitions.
+-- The way of an insert down the containers of its key, before anything is written; and what the rest will cost.
 use Prim.Native.Nat.{ℕ, zero, _+_}
 use mathlib.Core.Bool.{Bool, true, false}
 use mathlib.Core.List.{List, [], _∷_}

@@ -1,4 +1,4 @@
--- A place in a key that reads: the bytes before it in the item's own fragment, and the place further up. Assumes nothing.
+-- A place in a key that reads: the bytes before it in the item's own fragment, and the place further up.
 use Prim.Native.Nat.{ℕ, _+_, _-_, _≤_, _<_}
 use mathlib.Core.Path.{_≡_, refl, sym, ap, _∙_, subst}
 use mathlib.Core.List.{List, _++_}

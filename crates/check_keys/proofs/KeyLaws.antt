@@ -1,4 +1,4 @@
--- An item's own key: its bytes where it is measured, and the loop that tallies its hash and length. Assumes nothing.
+-- An item's own key: its bytes where it is measured, and the loop that tallies its hash and length.
 use Prim.Native.Nat.{ℕ, _+_, _*_, _-_, _≤_, _<_}
 use mathlib.Core.Path.{_≡_, refl, sym, ap, _∙_, subst}
 use mathlib.Core.List.{List, _++_}

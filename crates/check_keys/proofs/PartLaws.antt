@@ -1,4 +1,4 @@
--- Parts of lists: the parts of a front, two parts that meet, and when a list ends in another. Assumes nothing.
+-- Parts of lists: the parts of a front, two parts that meet, and when a list ends in another.
 use Prim.Native.Nat.{ℕ, _+_, _-_, _≤_}
 use mathlib.Core.Path.{_≡_, sym, ap, _∙_}
 use mathlib.Core.List.{List, [], _∷_, _++_}

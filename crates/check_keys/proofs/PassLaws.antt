@@ -1,4 +1,4 @@
--- Moving a place over a stretch of the file: one turn, the loop, and what it says of the key before the place. Assumes nothing.
+-- Moving a place over a stretch of the file: one turn, the loop, and what it says of the key before the place.
 use Prim.Native.Nat.{ℕ, _+_, _-_, _≤_, _<_}
 use mathlib.Core.Path.{_≡_, refl, sym, ap, _∙_, subst}
 use mathlib.Core.List.{List, _++_}

@@ -1,4 +1,4 @@
--- Comparing an item's key with the key before a place: one item, and the loop over its chain. Assumes nothing.
+-- Comparing an item's key with the key before a place: one item, and the loop over its chain.
 use Prim.Native.Nat.{ℕ, suc, _+_, _-_, _≤_, _<_}
 use mathlib.Core.Path.{_≡_, refl, sym, ap, _∙_, subst}
 use mathlib.Core.List.{List}

@@ -1,4 +1,4 @@
--- The hash from the back is the hash, for every rule for a byte. Assumes nothing.
+-- The hash from the back is the hash, for every rule for a byte.
 use Prim.Native.Nat.{ℕ, suc, _+_, _*_, _%_, _-_, _/_, _^_, _≤_, _<_}
 use mathlib.Core.Path.{_≡_, refl, sym, ap, _∙_}
 use mathlib.Core.List.{List, [], _∷_, _++_}

@@ -1,4 +1,4 @@
--- Each promise leaves one answer: two that meet it are equal. Assumes nothing.
+-- Each promise leaves one answer: two that meet it are equal.
 use Prim.Native.Nat.{ℕ}
 use mathlib.Core.Path.{_≡_, sym, _∙_}
 use mathlib.Core.List.{List}

@@ -1,4 +1,4 @@
--- A place in an item's joined key, and what moving it over bytes of the file tells. Assumes nothing.
+-- A place in an item's joined key, and what moving it over bytes of the file tells.
 use Prim.Native.Nat.{ℕ, suc, _+_, _-_, _≤_, _<_}
 use mathlib.Core.Path.{_≡_}
 use mathlib.Core.List.{List}

@@ -1,4 +1,4 @@
--- An item's own key, which is never written out: its bytes, its hash and its length. Assumes nothing.
+-- An item's own key, which is never written out: its bytes, its hash and its length.
 use Prim.Native.Nat.{ℕ, _<_}
 use mathlib.Core.Path.{_≡_}
 use mathlib.Core.List.{List, []}

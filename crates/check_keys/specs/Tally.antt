@@ -1,5 +1,5 @@
 -- The hash of bytes from their back: the hash of what stands before them is multiplied by a weight and a sum is added, and both grow with
--- each byte in front. Assumes nothing.
+-- each byte in front.
 use Prim.Native.Nat.{ℕ, _+_, _*_, _%_, _^_}
 use mathlib.Core.List.{List, [], _∷_}
 use Rattle.check_keys.specs.declared.tally.Tally.{Tally}

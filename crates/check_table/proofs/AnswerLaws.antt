@@ -1,5 +1,5 @@
 -- The numbers of the check's answers: 0 just for a sound table, 40 just where a rule is broken, with the rule and the item; any other is
--- that of opening. Assumes nothing.
+-- that of opening.
 use Prim.Native.Nat.{ℕ}
 use mathlib.Core.Path.{_≡_, ap}
 use mathlib.Core.List.{List}

@@ -1,4 +1,4 @@
--- Laws of a set of bits: what is in it after a number is put in. Assumes nothing.
+-- Laws of a set of bits: what is in it after a number is put in.
 use Prim.Native.Nat.{ℕ, zero, suc, _+_, _*_, _-_, _/_, _%_, _^_, _<_, _≤_}
 use mathlib.Core.Path.{_≡_, refl, ap, _∙_}
 use mathlib.Core.List.{List}

@@ -1,5 +1,5 @@
 -- What is answered with 40 names the first item that does not keep every rule, and its first broken rule; what is refused is what opening
--- refuses. Assumes nothing.
+-- refuses.
 use Prim.Native.Nat.{ℕ, zero, suc, _+_}
 use mathlib.Core.Path.{_≡_, refl}
 use mathlib.Core.Logic.{_↔_}

@@ -1,4 +1,4 @@
--- Surveying a container's children: one child, the loop over its list, and what it leaves. Assumes nothing.
+-- Surveying a container's children: one child, the loop over its list, and what it leaves.
 use Prim.Native.Nat.{ℕ, _+_, _*_, _≤_, _<_}
 use mathlib.Core.Path.{_≡_, refl, sym, ap, _∙_, subst}
 use mathlib.Core.List.{List}

@@ -1,4 +1,4 @@
--- Of a sound table: a container's key and a child's fragment, joined, are a key that is looked up as that child. Assumes nothing.
+-- Of a sound table: a container's key and a child's fragment, joined, are a key that is looked up as that child.
 use Prim.Native.Nat.{ℕ, zero, suc, _-_, _<_}
 use mathlib.Core.Path.{_≡_, refl, sym, ap, _∙_}
 use mathlib.Core.List.{List, _++_}

@@ -1,4 +1,4 @@
--- The search for the first item that breaks a rule: it finds nothing just where none does, and what it finds is the first. Assumes nothing.
+-- The search for the first item that breaks a rule: it finds nothing just where none does, and what it finds is the first.
 use Prim.Native.Nat.{ℕ, zero, suc, _+_, _≤_, _<_}
 use mathlib.Core.Path.{_≡_, refl, sym, ap, _∙_, subst}
 use mathlib.Core.Bool.{Bool, true, false}

@@ -1,4 +1,4 @@
--- An item keeps every rule, or breaks one first: the cascade of the definition, both ways. Assumes nothing.
+-- An item keeps every rule, or breaks one first: the cascade of the definition, both ways.
 use Prim.Native.Nat.{ℕ, suc}
 use mathlib.Core.Path.{_≡_, refl, sym, _∙_, subst}
 use mathlib.Core.List.{List}

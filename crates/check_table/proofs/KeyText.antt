@@ -1,4 +1,4 @@
--- A joined key is UTF-8, since its fragments are: so lookup of it never answers 8. Assumes nothing.
+-- A joined key is UTF-8, since its fragments are: so lookup of it never answers 8.
 use Prim.Native.Nat.{ℕ, zero, suc}
 use mathlib.Core.Path.{_≡_}
 use mathlib.Core.List.{List}

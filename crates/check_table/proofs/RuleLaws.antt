@@ -1,4 +1,4 @@
--- The tests of the rules, from what the calls answer. Assumes nothing.
+-- The tests of the rules, from what the calls answer.
 use Prim.Native.Nat.{ℕ, suc, _+_, _*_, _≤_, _<_, _-_, _%_}
 use mathlib.Core.Path.{_≡_, refl, sym, ap, _∙_}
 use mathlib.Core.List.{List}

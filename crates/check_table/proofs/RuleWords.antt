@@ -1,4 +1,4 @@
--- Each rule in words: what its test says, both ways. Assumes nothing.
+-- Each rule in words: what its test says, both ways.
 use Prim.Native.Nat.{ℕ, _-_, _%_, _≤_, _<_}
 use mathlib.Core.Path.{_≡_, refl, ap}
 use mathlib.Core.Logic.{_⊎_, inl, inr}

@@ -1,5 +1,5 @@
 -- The check passes exactly the sound tables: a table that lies in the file and whose items keep every rule is sound, and the other way
--- round. Assumes nothing.
+-- round.
 use Prim.Native.Nat.{ℕ, _<_}
 use mathlib.Core.Path.{_≡_, refl, sym, ap, _∙_, subst}
 use mathlib.Core.Logic.{inl, inr}

@@ -1,4 +1,4 @@
--- The walk over all containers, and what its marks tell of rules 5 and 6. Assumes nothing.
+-- The walk over all containers, and what its marks tell of rules 5 and 6.
 use Prim.Native.Nat.{ℕ, _+_, _*_, _≤_, _<_}
 use mathlib.Core.Path.{_≡_, refl, sym, ap, _∙_, subst}
 use mathlib.Core.List.{List}

@@ -1,4 +1,4 @@
--- The promise of the check leaves one answer: two that meet it are equal. Assumes nothing.
+-- The promise of the check leaves one answer: two that meet it are equal.
 use Prim.Native.Nat.{ℕ}
 use mathlib.Core.Path.{_≡_, sym, _∙_}
 use mathlib.Core.List.{List}

@@ -1,4 +1,4 @@
--- The number of document 01 that each answer of the check stands for, with its values. Assumes nothing.
+-- The number of document 01 that each answer of the check stands for, with its values.
 use Prim.Native.Nat.{ℕ}
 use Rattle.layout.specs.declared.refusal.Refusal.the-variants.{CheckBroken}
 use Rattle.layout.specs.Refusal.{number}

@@ -1,4 +1,4 @@
--- What is answered with 40: the first item that does not keep every rule, and the first rule that it breaks. Assumes nothing.
+-- What is answered with 40: the first item that does not keep every rule, and the first rule that it breaks.
 use Prim.Native.Nat.{ℕ, _<_}
 use mathlib.Core.Path.{_≡_}
 use mathlib.Core.Logic.{_↔_}

@@ -1,5 +1,5 @@
 -- The table check, from document 01, 'The check's six rules': each rule is a test of an item, and the check answers the first item that
--- breaks one, with the first rule that it breaks. The rule for a byte of the hash is a parameter. Assumes nothing.
+-- breaks one, with the first rule that it breaks. The rule for a byte of the hash is a parameter.
 use Prim.Native.Nat.{ℕ, zero, suc, _+_, _*_, _-_, _/_, _%_}
 use mathlib.Core.List.{List}
 use mathlib.Core.Bool.{Bool, true, false, not, _&&_}

@@ -1,5 +1,5 @@
 -- A sound table: it opens; each item's key reads and is looked up as that very item; each kind is known and each value place is good;
--- each parent is a container; a container lists precisely the items that name it as parent, once each. Assumes nothing.
+-- each parent is a container; a container lists precisely the items that name it as parent, once each.
 use Prim.Native.Nat.{ℕ, _-_, _%_, _<_}
 use mathlib.Core.Path.{_≡_}
 use mathlib.Core.Logic.{_⊎_, _↔_}

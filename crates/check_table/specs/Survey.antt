@@ -1,5 +1,5 @@
 -- What the functions of the check say: rules 1 and 2 together, and the marks, by which a child is marked exactly when the container that
--- it names lists it. Assumes nothing.
+-- it names lists it.
 use Prim.Native.Nat.{ℕ, _*_, _≤_, _<_}
 use mathlib.Core.Path.{_≡_}
 use mathlib.Core.List.{List}

@@ -1,4 +1,4 @@
--- Demands 2 and 3: what the statements say holds of every history and every write that succeeds. Assumes nothing.
+-- Demands 2 and 3: what the statements say holds of every history and every write that succeeds.
 use Prim.Native.Nat.{ℕ, zero, suc, _<_, _≤_}
 use mathlib.Core.Path.{_≡_, refl, sym, ap, _∙_, subst}
 use mathlib.Core.Bool.{Bool, true, false}

@@ -1,5 +1,4 @@
--- What a list of items holds under a key: an item more, an item replaced, and the way of an insert along the prefixes of its key. Assumes
--- nothing.
+-- What a list of items holds under a key: an item more, an item replaced, and the way of an insert along the prefixes of its key.
 use Prim.Native.Nat.{ℕ, suc, _+_, _<_}
 use mathlib.Core.Path.{_≡_, refl, sym, ap, _∙_}
 use mathlib.Core.Bool.{Bool, true, false, _&&_}

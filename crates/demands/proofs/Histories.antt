@@ -1,4 +1,4 @@
--- Every history from a fresh start leaves honest memory, and what its items hold under a key is what the calls say. Assumes nothing.
+-- Every history from a fresh start leaves honest memory, and what its items hold under a key is what the calls say.
 use Prim.Native.Nat.{ℕ, zero, suc, _≤_}
 use mathlib.Core.Path.{_≡_, refl, sym, ap, _∙_}
 use mathlib.Core.Bool.{Bool, true, false, _&&_, _||_}

@@ -1,5 +1,4 @@
 -- What each call leaves under every key, on the model: an accepted insert what `walk-held` says; and every table keeps its separator.
--- Assumes nothing.
 use Prim.Native.Nat.{ℕ, zero, suc}
 use mathlib.Core.Path.{_≡_, refl, ap, _∙_}
 use mathlib.Core.Bool.{Bool, true, false, _&&_}

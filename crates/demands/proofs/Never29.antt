@@ -1,4 +1,4 @@
--- Demand 1: callers who change nothing between calls never meet 29. Assumes nothing.
+-- Demand 1: callers who change nothing between calls never meet 29.
 use Prim.Native.Nat.{ℕ}
 use mathlib.Core.Path.{_≡_}
 use mathlib.Core.Bool.{Bool, true}

@@ -1,4 +1,4 @@
--- Demand 1: a refusal changes nothing. Assumes nothing.
+-- Demand 1: a refusal changes nothing.
 use Prim.Native.Nat.{ℕ}
 use mathlib.Core.Path.{_≡_, refl}
 use mathlib.Core.Bool.{Bool, true, false}

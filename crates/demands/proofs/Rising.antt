@@ -1,4 +1,4 @@
--- A table's items stand in order of creation: an item made earlier has an earlier place. Assumes nothing.
+-- A table's items stand in order of creation: an item made earlier has an earlier place.
 use mathlib.Core.Path.{_≡_, sym, ap, _∙_}
 use mathlib.Core.Logic.{⊎-elim}
 use mathlib.Core.List.{List, [], _∷_, _++_}

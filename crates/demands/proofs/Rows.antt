@@ -1,4 +1,4 @@
--- What the items of a memory hold under a key, as an item of the table that the image is laid of. Assumes nothing.
+-- What the items of a memory hold under a key, as an item of the table that the image is laid of.
 use Prim.Native.Nat.{ℕ, zero, suc, _<_}
 use mathlib.Core.Path.{_≡_, refl, sym, _∙_}
 use mathlib.Core.Bool.{Bool, true, false}

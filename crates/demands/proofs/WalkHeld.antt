@@ -1,5 +1,5 @@
 -- What stands under every key after an insert walked along the prefixes of its key: what it put under the last, containers under those
--- before that held nothing, and all else as it was. Assumes nothing.
+-- before that held nothing, and all else as it was.
 use Prim.Native.Nat.{ℕ, suc, _+_}
 use mathlib.Core.Path.{_≡_, refl, sym, ap, _∙_}
 use mathlib.Core.Bool.{Bool, true, false, _&&_, _||_}

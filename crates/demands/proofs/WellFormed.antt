@@ -1,4 +1,4 @@
--- Every table of a memory that keeps the rules of a write is well-formed. Assumes nothing.
+-- Every table of a memory that keeps the rules of a write is well-formed.
 use mathlib.Core.Path.{_≡_, sym, ap, _∙_}
 use mathlib.Core.Bool.{true, false}
 use mathlib.Core.Logic.{⊎-elim}

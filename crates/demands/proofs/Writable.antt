@@ -1,4 +1,4 @@
--- Every memory that keeps the rules of a write means only tables that may be written. Assumes nothing: no history of the memory either.
+-- Every memory that keeps the rules of a write means only tables that may be written. Nothing is asked of its history.
 use mathlib.Core.Path.{_≡_, refl, sym, _∙_}
 use mathlib.Core.Bool.{Bool, true, false}
 use mathlib.Core.List.{List}

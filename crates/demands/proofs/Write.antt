@@ -1,4 +1,4 @@
--- A write that succeeds has laid an image that reads back and passes the check. Assumes nothing.
+-- A write that succeeds has laid an image that reads back and passes the check.
 use mathlib.Core.Path.{_≡_, refl, ap}
 use mathlib.Core.Bool.{Bool, true, false, _||_}
 use mathlib.Core.List.{List}

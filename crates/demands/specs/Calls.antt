@@ -1,5 +1,5 @@
 -- A history: a fresh start on any memory that is long enough, then any calls with any arguments, accepted or refused, in any order. What
--- each call answers and leaves is what its contract says. Assumes nothing: these are definitions.
+-- each call answers and leaves is what its contract says.
 use Prim.Native.Nat.{ℕ}
 use mathlib.Core.Bool.{Bool}
 use mathlib.Core.List.{List, [], _∷_}

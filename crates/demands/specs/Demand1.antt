@@ -1,6 +1,6 @@
 -- DEMAND 1. 'No bytes, pointer, key or order of calls can make it fail .. a refusal changes nothing in the builder or in any lent buffer.'
 -- In one statement over all builder calls: whatever the memory holds, a refusal leaves words (the links among them), arena and image as they
--- were. And on every history none of the calls meets 29. Assumes nothing: these are definitions.
+-- were. And on every history none of the calls meets 29.
 use Prim.Native.Nat.{ℕ, _≤_}
 use mathlib.Core.Path.{_≡_}
 use mathlib.Core.Bool.{false}

@@ -1,7 +1,7 @@
 -- DEMAND 2. 'After a write that succeeds, every value key looks up its exact bytes, and a key that the table does not hold is not found.'
 -- For every history and every write that succeeds after it, whatever was replaced on the way: the image's root opens; under each key a
 -- reader finds what the last accepted insert under it put there, said over the list of calls; and so in every nested table, to the last
--- level. Assumes nothing: these are definitions.
+-- level.
 use Prim.Native.Nat.{ℕ, zero, suc, _≤_}
 use mathlib.Core.Path.{_≡_}
 use mathlib.Core.Bool.{true, false}

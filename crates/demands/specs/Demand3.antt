@@ -1,5 +1,5 @@
 -- DEMAND 3. 'Every table in every image that our writer lays, nested ones too, after any accepted or refused calls on a fresh builder,
--- passes.' It holds of every memory, reached by calls or not. Assumes nothing: these are definitions.
+-- passes.' It holds of every memory, reached by calls or not.
 use Prim.Native.Nat.{ℕ, zero, suc, _≤_}
 use mathlib.Core.Path.{_≡_}
 use mathlib.Core.List.{List}

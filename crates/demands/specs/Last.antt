@@ -1,5 +1,5 @@
 -- What stands under a key of a table, said over the list of calls and their answers, not over the memory: what the last accepted insert
--- under that key put there; else a container, where an accepted insert went along it; else nothing. Assumes nothing: these are definitions.
+-- under that key put there; else a container, where an accepted insert went along it; else nothing.
 use Prim.Native.Nat.{ℕ}
 use mathlib.Core.Bool.{Bool, false, _&&_, _||_}
 use mathlib.Core.List.{List, [], _∷_}

@@ -1,5 +1,5 @@
 -- WHAT A WRITE GIVES: the statements, over every memory, with no history of it: what the rules that a write judges accept may be written, and
--- what a success says. Assumes nothing: these are definitions.
+-- what a success says.
 use Prim.Native.Nat.{ℕ, _≤_}
 use mathlib.Core.Path.{_≡_}
 use mathlib.Core.Bool.{true, false}

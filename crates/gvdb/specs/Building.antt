@@ -1,4 +1,4 @@
--- The document's number and values of each answer to a builder call, as they cross to C. Assumes nothing.
+-- The document's number and values of each answer to a builder call, as they cross to C.
 use Rattle.model.specs.declared.Inserted.{Inserted}
 use Rattle.model.specs.declared.Added.{Added}
 use Rattle.model.specs.declared.Counted.{Counted}

@@ -1,4 +1,4 @@
--- The document's number and values of the check's answer, as they cross to C. Assumes nothing.
+-- The document's number and values of the check's answer, as they cross to C.
 use Rattle.check_table.specs.declared.check.Checked.{Checked}
 use Rattle.check_table.specs.Answer.{checkedNumber, checkedRule, checkedItem}
 use Rattle.gvdb.specs.declared.checking.GvdbCheck.{GvdbCheck}

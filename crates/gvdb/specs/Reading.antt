@@ -1,4 +1,4 @@
--- The document's number and values of each answer to a reader, as they cross to C. Assumes nothing.
+-- The document's number and values of each answer to a reader, as they cross to C.
 use Prim.Native.Nat.{ℕ}
 use Rattle.layout.specs.declared.table.Opened.{Opened}
 use Rattle.layout.specs.Refusal.{number}

@@ -1,4 +1,4 @@
--- The document's number and values of a write's answer, as they cross to C. Assumes nothing.
+-- The document's number and values of a write's answer, as they cross to C.
 use Rattle.layout.specs.Refusal.{number}
 use Rattle.write.specs.declared.Written.{Written}
 use Rattle.gvdb.specs.declared.writing.GvdbImage.{GvdbImage}

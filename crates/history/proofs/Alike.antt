@@ -1,4 +1,4 @@
--- An insert past its key's tests: what it answers and leaves is what the model's put does. Assumes nothing.
+-- An insert past its key's tests: what it answers and leaves is what the model's put does.
 use Prim.Native.Nat.{ℕ, _+_, _-_, _≤_, _<_}
 use native.Mathlib.Omega.{arith}
 use native.Mathlib.Decide.{decLt}

@@ -1,4 +1,4 @@
--- A text that is UTF-8 is of bytes: the grammar bounds each byte of a character, so no element is 256 or more. Assumes nothing.
+-- A text that is UTF-8 is of bytes: the grammar bounds each byte of a character, so no element is 256 or more.
 use Prim.Native.Nat.{ℕ, zero, suc, _<_}
 use native.Mathlib.Nat.{le-of-suc-le-suc, not-suc-le-zero}
 use native.Mathlib.Omega.{arith}

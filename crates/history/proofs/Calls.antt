@@ -1,4 +1,4 @@
--- An insert keeps memory good. Assumes nothing.
+-- An insert keeps memory good.
 use Prim.Native.Nat.{ℕ, _+_, _-_, _≤_, _<_}
 use native.Mathlib.Omega.{arith}
 use native.Mathlib.Decide.{decLt}

@@ -1,4 +1,4 @@
--- On honest memory the search along a chain answers what the model's search through all entries does. Assumes nothing.
+-- On honest memory the search along a chain answers what the model's search through all entries does.
 use Prim.Native.Nat.{ℕ, zero, suc, _<_}
 use native.Mathlib.Nat.{not-suc-le-zero}
 use native.Mathlib.Omega.{arith}

@@ -1,4 +1,4 @@
--- The containers of a key are made, and memory stays good. Assumes nothing.
+-- The containers of a key are made, and memory stays good.
 use Prim.Native.Nat.{ℕ, zero, suc, _+_, _-_, _≤_, _<_}
 use native.Mathlib.Omega.{arith}
 use native.Mathlib.Decide.{decLt}

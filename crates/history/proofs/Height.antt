@@ -1,4 +1,4 @@
--- The height that the model follows through the entries is the one that the words tell, on honest memory. Assumes nothing.
+-- The height that the model follows through the entries is the one that the words tell, on honest memory.
 use Prim.Native.Nat.{ℕ, zero, suc, _+_, _≤_, _<_}
 use native.Mathlib.Nat.{not-suc-le-zero}
 use native.Mathlib.Numerals.{add-one}

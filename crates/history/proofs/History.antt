@@ -1,5 +1,5 @@
 -- Every memory that a history of calls reaches is honest, keeps the rules that every call judges, and keeps the rules that a write judges:
--- a caller who changes nothing between calls never meets 29. Assumes nothing.
+-- a caller who changes nothing between calls never meets 29.
 use Prim.Native.Nat.{ℕ, suc, _+_, _-_, _<_}
 use native.Mathlib.Omega.{arith}
 use native.Mathlib.Decide.{decLt}

@@ -1,4 +1,4 @@
--- On tidy memory the search along a chain finds the item of the table with the key, where there is one. Assumes nothing.
+-- On tidy memory the search along a chain finds the item of the table with the key, where there is one.
 use Prim.Native.Nat.{ℕ, zero, suc, _%_, _≤_, _<_}
 use native.Mathlib.Nat.{not-suc-le-zero, mod-lt}
 use native.Mathlib.Omega.{arith}

@@ -1,4 +1,4 @@
--- The fresh start is tidy; so is memory in which only words of tables changed. Assumes nothing.
+-- The fresh start is tidy; so is memory in which only words of tables changed.
 use Prim.Native.Nat.{ℕ, _+_, _%_, _≤_, _<_}
 use native.Mathlib.Omega.{arith}
 use mathlib.Core.Path.{_≡_, sym, ap, _∙_, fun-ext}

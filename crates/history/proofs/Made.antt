@@ -1,4 +1,4 @@
--- A made item keeps memory tidy, and is read back. Assumes nothing.
+-- A made item keeps memory tidy, and is read back.
 use Prim.Native.Nat.{ℕ, _+_, _%_, _≤_, _<_}
 use native.Mathlib.Nat.{mod-lt}
 use native.Mathlib.Numerals.{add-one}

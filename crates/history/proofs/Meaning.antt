@@ -1,5 +1,5 @@
 -- What each step does to the builder that the memory means: an item made is one entry more, an item written again is one entry set, a table
--- placed is one shelf set, a new table is one shelf more. Assumes nothing.
+-- placed is one standing set, a new table is one standing more.
 use Prim.Native.Nat.{ℕ, zero, suc, _+_, _-_, _≤_, _<_}
 use native.Mathlib.Nat.{not-suc-le-zero}
 use native.Mathlib.Numerals.{add-one}
@@ -77,7 +77,7 @@ module _ {A : Type 0} where
           ∙ ap (λ (y : A). set (listed f n) o x ++ (y ∷ [])) (h n (omega arith) (λ (y : n ≡ o). ne (sym y)))
           ∙ sym (set-append-left (listed f n) (f n ∷ []) o x (omega (arith, listed-length f n)))
 
--- ---- an entry from an item, a shelf from a table
+-- ---- an entry from an item, a standing from a table
 
 unfoldable pub contentFrom : ℕ → List ℕ → ℕ → Content
 contentFrom kind value guest = pick (eqb kind valueKind) (Content.bytes value) (pick (eqb kind tableKind) (Content.nested guest) Content.container)

@@ -1,4 +1,4 @@
--- The insert of a table keeps memory honest. Assumes nothing.
+-- The insert of a table keeps memory honest.
 use Prim.Native.Nat.{ℕ, zero, suc, _+_, _≤_, _<_}
 use native.Mathlib.Nat.{not-suc-le-zero, add-zero}
 use native.Mathlib.Omega.{arith}

@@ -1,4 +1,4 @@
--- The insert of a table is the model's: a table placed is one shelf set, and what is settled is alike. Assumes nothing.
+-- The insert of a table is the model's: a table placed is one standing set, and what is settled is alike.
 use Prim.Native.Nat.{ℕ, suc, _+_, _≤_, _<_}
 use native.Mathlib.Nat.{add-zero}
 use native.Mathlib.Numerals.{add-one}

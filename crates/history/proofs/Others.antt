@@ -1,4 +1,4 @@
--- Calls on one table change no item of another: what an insert into table t leaves of the other tables' items, on the model. Assumes nothing.
+-- Calls on one table change no item of another: what an insert into table t leaves of the other tables' items, on the model.
 use Prim.Native.Nat.{ℕ, suc, _+_, _≤_, _<_}
 use mathlib.Core.Path.{_≡_, refl, sym, ap, _∙_}
 use mathlib.Core.Bool.{Bool, true, false, _&&_}

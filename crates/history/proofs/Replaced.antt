@@ -1,4 +1,4 @@
--- An item written again keeps memory tidy, and is read back. Assumes nothing.
+-- An item written again keeps memory tidy, and is read back.
 use Prim.Native.Nat.{ℕ, _+_, _%_, _≤_, _<_}
 use native.Mathlib.Omega.{arith}
 use native.Mathlib.Decide.{decLt}

@@ -1,4 +1,4 @@
--- On honest memory each insert answers what the model does, and the memory after means the model's builder after. Assumes nothing.
+-- On honest memory each insert answers what the model does, and the memory after means the model's builder after.
 use Prim.Native.Nat.{ℕ, zero, suc, _+_, _-_, _≤_, _<_}
 use native.Mathlib.Numerals.{add-one}
 use native.Mathlib.Omega.{arith}

@@ -1,4 +1,4 @@
--- What document 01 says of the builder in words, for every memory that calls reach. Assumes nothing.
+-- What document 01 says of the builder in words, for every memory that calls reach.
 use Prim.Native.Nat.{ℕ, suc, _+_, _-_, _≤_, _<_}
 use mathlib.Core.Path.{_≡_, sym, ap, _∙_}
 use native.Mathlib.Numerals.{add-one}

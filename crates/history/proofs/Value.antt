@@ -1,4 +1,4 @@
--- The insert of a value, a new table and the fresh start keep memory honest. Assumes nothing.
+-- The insert of a value, a new table and the fresh start keep memory honest.
 use Prim.Native.Nat.{ℕ, _+_, _≤_, _<_}
 use native.Mathlib.Omega.{arith}
 use native.Mathlib.Decide.{decLt}

@@ -1,5 +1,4 @@
--- The model's walk along the prefixes of a key, a prefix at a time; and all of it where every prefix from a place on is missing. Assumes
--- nothing.
+-- The model's walk along the prefixes of a key, a prefix at a time; and all of it where every prefix from a place on is missing.
 use Prim.Native.Nat.{ℕ, zero, suc, _+_, _≤_, _<_}
 use native.Mathlib.Nat.{not-suc-le-zero}
 use native.Mathlib.Numerals.{add-one}

@@ -1,4 +1,4 @@
--- The way down the containers that are there. Assumes nothing.
+-- The way down the containers that are there.
 use Prim.Native.Nat.{ℕ, zero, suc, _+_, _-_, _≤_, _<_}
 use native.Mathlib.Omega.{arith}
 use native.Mathlib.Decide.{decLt}

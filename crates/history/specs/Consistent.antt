@@ -1,5 +1,5 @@
 -- What holds of the tables and items of every builder that a history of calls reaches. It speaks of functions of an index, not of words
--- or lists. Assumes nothing: these are definitions.
+-- or lists.
 use Prim.Native.Nat.{ℕ, suc, _+_, _-_, _≤_, _<_}
 use mathlib.Core.Path.{_≡_}
 use mathlib.Core.Bool.{Bool, true, _&&_}

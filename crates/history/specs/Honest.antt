@@ -1,4 +1,4 @@
--- Memory that only the builder wrote, and that holds what is right. Assumes nothing: these are definitions.
+-- Memory that only the builder wrote, and that holds what is right.
 use Prim.Native.Nat.{ℕ}
 use mathlib.Core.List.{List}
 use Rattle.build_memory.specs.Memory.{tableTotal, itemTotal}

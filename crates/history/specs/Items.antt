@@ -1,4 +1,4 @@
--- What the words say of an item and of a table, whole. Assumes nothing: these are definitions.
+-- What the words say of an item and of a table, whole.
 use Prim.Native.Nat.{ℕ}
 use mathlib.Core.List.{List}
 use Rattle.words.specs.Store.{part}

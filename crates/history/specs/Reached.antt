@@ -1,5 +1,5 @@
 -- The memories that a history of calls reaches: a fresh start on any memory that is long enough, then any calls with any arguments,
--- accepted or refused. Assumes nothing: these are definitions.
+-- accepted or refused.
 use Prim.Native.Nat.{ℕ, _≤_}
 use mathlib.Core.List.{List}
 use lib.ListN.{length}

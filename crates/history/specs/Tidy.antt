@@ -1,5 +1,5 @@
 -- Memory that only the builder wrote: every key and value lies within the room used, the index of chains is right, and the links are
--- empty. Assumes nothing: these are definitions.
+-- empty.
 use Prim.Native.Nat.{ℕ, zero, suc, _+_, _%_, _≤_, _<_}
 use mathlib.Core.Path.{_≡_}
 use mathlib.Core.List.{List}

@@ -1,4 +1,4 @@
--- A container's children and their words, as a pass over the items makes them. Assumes nothing.
+-- A container's children and their words, as a pass over the items makes them.
 use mathlib.Core.Path.{_≡_, refl, sym}
 use mathlib.Core.Bool.{Bool, true, false}
 use mathlib.Core.List.{List, [], _∷_, _++_, append-assoc}

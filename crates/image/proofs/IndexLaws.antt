@@ -1,5 +1,5 @@
 -- The numbers of a table's items, for every rule for a byte: each item has exactly one number, a number lies in the run of its item's
--- bucket, and a run reads in descending key order. Assumes nothing.
+-- bucket, and a run reads in descending key order.
 use mathlib.Core.Path.{_≡_, refl, sym, ap, _∙_}
 use mathlib.Core.Bool.{Bool, true, false}
 use mathlib.Core.List.{List, [], _∷_, map}

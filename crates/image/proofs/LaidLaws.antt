@@ -1,4 +1,4 @@
--- The laws of bytes that are laid, which callers cite and not `putAt` itself, and of bytes that are held. Assumes nothing.
+-- The laws of bytes that are laid, which callers cite and not `putAt` itself, and of bytes that are held.
 use mathlib.Core.Path.{_≡_, refl, sym, ap, _∙_}
 use mathlib.Core.List.{List, [], _∷_, _++_}
 use Prim.Native.Nat.{ℕ, _+_, _≤_, _<_}

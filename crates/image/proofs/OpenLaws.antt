@@ -1,4 +1,4 @@
--- A laid plan opens as a table of its items, and each item reads as laid. Assumes nothing.
+-- A laid plan opens as a table of its items, and each item reads as laid.
 use mathlib.Core.Path.{_≡_}
 use mathlib.Core.List.{List, [], _∷_, _++_}
 use Prim.Native.Nat.{ℕ, _+_, _-_, _*_, _%_, _/_, _≤_, _<_}

@@ -1,4 +1,4 @@
--- The key order holds each item once, ascends, and is the only list that does. Assumes nothing.
+-- The key order holds each item once, ascends, and is the only list that does.
 use mathlib.Core.Path.{_≡_, refl, sym, ap, _∙_}
 use mathlib.Core.Logic.{⊎-elim, _⊎_}
 use mathlib.Core.Bool.{Bool, true, false}

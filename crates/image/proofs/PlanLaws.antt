@@ -1,4 +1,4 @@
--- The words, lengths and places of what a plan lays, and what an image that holds it holds at each place. Assumes nothing.
+-- The words, lengths and places of what a plan lays, and what an image that holds it holds at each place.
 use mathlib.Core.Path.{_≡_, refl, ap, _∙_}
 use mathlib.Core.Logic.{⊎-elim}
 use mathlib.Core.List.{List, [], _∷_, _++_}

@@ -1,5 +1,5 @@
 -- Runs of places and the numbering bucket by bucket, over the hashes of the places: each place has one number, which lies in the run of
--- its bucket, and runs read in descending order. Assumes nothing.
+-- its bucket, and runs read in descending order.
 use mathlib.Core.Path.{_≡_, refl, sym, ap, _∙_, subst}
 use mathlib.Core.Logic.{⊎-elim, _⊎_}
 use mathlib.Core.Bool.{Bool, true, false}

@@ -1,4 +1,4 @@
--- How often a number stands in a list, and where. Assumes nothing.
+-- How often a number stands in a list, and where.
 use mathlib.Core.Path.{_≡_, refl}
 use mathlib.Core.Bool.{Bool, true, false}
 use mathlib.Core.Logic.{⊎-elim, _⊎_, inl, inr}

@@ -1,5 +1,4 @@
--- What a plan has to keep so that its image reads back, what is read there, and when two plans agree. Assumes nothing: these are
--- definitions.
+-- What a plan has to keep so that its image reads back, what is read there, and when two plans agree.
 use Prim.Native.Nat.{ℕ, _+_, _*_, _≤_, _<_}
 use mathlib.Core.Path.{_≡_}
 use lib.ListN.{length}

@@ -1,4 +1,4 @@
--- The image of a table of the model, whole, as document 01 has it under 'Laying an image'. Assumes nothing: these are definitions.
+-- The image of a table of the model, whole, as document 01 has it under 'Laying an image'.
 use Prim.Native.Nat.{ℕ, zero, suc, _+_, _*_}
 use mathlib.Core.List.{List, [], _∷_, _++_}
 use lib.Dec.{eqb}

@@ -1,5 +1,4 @@
 -- The order and the numbers of a table's items, as document 01 has them under 'Laying an image'. The hash is over a rule for a byte.
--- Assumes nothing: these are definitions.
 use Prim.Native.Nat.{ℕ, zero, suc, _%_}
 use mathlib.Core.List.{List, [], _∷_, _++_, map}
 use lib.Dec.{eqb}

@@ -1,4 +1,4 @@
--- What holds of the order and the numbers of a table's items. Assumes nothing: these are definitions.
+-- What holds of the order and the numbers of a table's items.
 use Prim.Native.Nat.{ℕ, zero, suc, _≤_, _<_}
 use mathlib.Core.Path.{_≡_}
 use mathlib.Core.Bool.{false}

@@ -1,4 +1,4 @@
--- The bytes of a table that is given by item number, as document 01 has them under 'Laying an image'. Assumes nothing: these are definitions.
+-- The bytes of a table that is given by item number, as document 01 has them under 'Laying an image'.
 use Prim.Native.Nat.{ℕ, zero, suc, _+_, _*_, _-_}
 use mathlib.Core.List.{List, [], _∷_, _++_}
 use lib.ListN.{length}

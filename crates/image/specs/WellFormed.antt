@@ -1,4 +1,4 @@
--- What the builder keeps of every table that it can write. Assumes nothing: these are definitions.
+-- What the builder keeps of every table that it can write.
 use Prim.Native.Nat.{ℕ, zero, suc, _≤_, _<_}
 use mathlib.Core.Path.{_≡_}
 use mathlib.Core.Bool.{true}

@@ -1,4 +1,4 @@
--- The images of document 01, 'Worked numbers', byte by byte: they come out of the definition by computation. Assumes nothing.
+-- The images of document 01, 'Worked numbers', byte by byte: they come out of the definition by computation.
 use Prim.Native.Nat.{ℕ}
 use mathlib.Core.Path.{_≡_, refl}
 use mathlib.Core.List.{List, [], _∷_}

@@ -1,4 +1,4 @@
--- A container's children: each item below it once, in order of arrival, and their numbers as words. Assumes nothing.
+-- A container's children: each item below it once, in order of arrival, and their numbers as words.
 use mathlib.Core.Path.{_≡_, refl, sym, ap, _∙_}
 use mathlib.Core.Logic.{⊎-elim}
 use mathlib.Core.List.{List, [], _∷_}

@@ -1,4 +1,4 @@
--- In an image that holds a plan, a key is found at its number, and a key that no number has is not found. Assumes nothing.
+-- In an image that holds a plan, a key is found at its number, and a key that no number has is not found.
 use mathlib.Core.Path.{_≡_, refl, ap, _∙_}
 use mathlib.Core.Bool.{Bool, true, false}
 use mathlib.Core.List.{List}

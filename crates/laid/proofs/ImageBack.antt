@@ -1,4 +1,4 @@
--- A whole image reads back, wherever it was put. Assumes nothing.
+-- A whole image reads back, wherever it was put.
 use mathlib.Core.Path.{refl}
 use mathlib.Core.List.{List}
 use Prim.Native.Nat.{ℕ, _≤_}

@@ -1,4 +1,4 @@
--- Each item of a table that an image holds reads back: its number, its key, its record, and what it holds. Assumes nothing.
+-- Each item of a table that an image holds reads back: its number, its key, its record, and what it holds.
 use mathlib.Core.Path.{_≡_, refl, sym, ap, _∙_}
 use mathlib.Core.List.{List}
 use Prim.Native.Nat.{ℕ, zero, suc, _+_, _%_, _≤_, _<_}

@@ -1,4 +1,4 @@
--- In an image that holds a plan, the chain of number k joins to its whole key. Assumes nothing.
+-- In an image that holds a plan, the chain of number k joins to its whole key.
 use mathlib.Core.Path.{_≡_, sym, ap, _∙_}
 use mathlib.Core.Logic.{⊎-elim}
 use mathlib.Core.Bool.{true}

@@ -1,4 +1,4 @@
--- A laid table is sound, number by number: what the check's rules ask of the item at each number. Assumes nothing.
+-- A laid table is sound, number by number: what the check's rules ask of the item at each number.
 use mathlib.Core.Path.{_≡_, refl, sym, ap, _∙_, subst}
 use mathlib.Core.Logic.{⊎-elim, _⊎_, inl, inr}
 use mathlib.Core.Bool.{true}

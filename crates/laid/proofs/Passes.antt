@@ -1,4 +1,4 @@
--- Whatever is laid, passes the check: one table, all that is nested in it, a whole image. Assumes nothing.
+-- Whatever is laid, passes the check: one table, all that is nested in it, a whole image.
 use mathlib.Core.Path.{_≡_, refl}
 use mathlib.Core.List.{List}
 use Prim.Native.Nat.{ℕ, zero, suc, _%_, _≤_}

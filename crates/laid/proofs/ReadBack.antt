@@ -1,5 +1,5 @@
 -- WHATEVER IS LAID, READS BACK: in any file of at most 16,777,216 bytes that holds a table of the model at a multiple of 4, for every rule
--- for a byte of the hash. Assumes nothing.
+-- for a byte of the hash.
 use mathlib.Core.Path.{_≡_, sym, _∙_}
 use mathlib.Core.Bool.{true, false}
 use mathlib.Core.List.{List}

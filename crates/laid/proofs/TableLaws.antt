@@ -1,4 +1,4 @@
--- The plan of a well-formed table keeps what reading back asks, for every rule for a byte. Assumes nothing.
+-- The plan of a well-formed table keeps what reading back asks, for every rule for a byte.
 use mathlib.Core.Path.{_≡_, refl, sym, ap, _∙_}
 use mathlib.Core.Logic.{⊎-elim, _⊎_, inl, inr}
 use mathlib.Core.Bool.{Bool, true, false}

@@ -1,4 +1,4 @@
--- The conditions of the statements can be met: a table with an item of each kind, laid and looked up. Assumes nothing.
+-- The conditions of the statements can be met: a table with an item of each kind, laid and looked up.
 use mathlib.Core.Path.{_≡_, refl}
 use mathlib.Core.Logic.{⊎-elim}
 use mathlib.Core.Bool.{true}

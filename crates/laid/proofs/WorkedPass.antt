@@ -1,5 +1,4 @@
--- The conditions of the statements can be met: an image with an item of each kind passes, and so does the table nested in it. Assumes
--- nothing.
+-- The conditions of the statements can be met: an image with an item of each kind passes, and so does the table nested in it.
 use mathlib.Core.Path.{_≡_, refl}
 use mathlib.Core.List.{List, [], _∷_}
 use Prim.Native.Nat.{ℕ, _+_}

@@ -1,5 +1,4 @@
--- Where a table of the model and its items stand in a file that holds the table, and how they read there. Assumes nothing: these are
--- definitions.
+-- Where a table of the model and its items stand in a file that holds the table, and how they read there.
 use Prim.Native.Nat.{ℕ, _+_, _%_, _≤_}
 use mathlib.Core.Path.{_≡_}
 use mathlib.Core.List.{List}

@@ -1,5 +1,4 @@
--- What a plan has to keep so that its keys are found: whole keys along the chains of parents, and runs of buckets, by number. Assumes
--- nothing: these are definitions.
+-- What a plan has to keep so that its keys are found: whole keys along the chains of parents, and runs of buckets, by number.
 use Prim.Native.Nat.{ℕ, _+_, _%_, _≤_, _<_}
 use mathlib.Core.Path.{_≡_}
 use mathlib.Core.Bool.{true}

@@ -1,5 +1,5 @@
 -- WHATEVER IS LAID, PASSES THE CHECK: the statements, in the words of document 01 under 'The check's six rules'. Each is for every rule for
--- a byte of the hash, and for every file of at most 16,777,216 bytes. Assumes nothing: these are definitions.
+-- a byte of the hash, and for every file of at most 16,777,216 bytes.
 use Prim.Native.Nat.{ℕ, zero, suc, _%_, _≤_}
 use mathlib.Core.Path.{_≡_}
 use mathlib.Core.List.{List}

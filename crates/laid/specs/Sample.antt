@@ -1,5 +1,4 @@
--- A table with an item of each kind: "a/" with its child "a/b", which holds 07, and "t", a table that holds "x" with 09. Assumes nothing:
--- these are definitions.
+-- A table with an item of each kind: "a/" with its child "a/b", which holds 07, and "t", a table that holds "x" with 09.
 use mathlib.Core.List.{List, [], _∷_}
 use Rattle.model.specs.Table.{Content, Entry, State, noItem, rowsOf}
 use Rattle.model.specs.Walk.{entry}

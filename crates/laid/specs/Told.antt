@@ -1,5 +1,5 @@
 -- What a reader of a laid table is told, as document 01 has it under 'Lookup': of each item by what it holds, of each key that no item
--- has, and the same in every nested table. Assumes nothing: these are definitions.
+-- has, and the same in every nested table.
 use Prim.Native.Nat.{ℕ, zero, suc, _-_}
 use mathlib.Core.Path.{_≡_}
 use mathlib.Core.Bool.{true, false}

@@ -1,4 +1,4 @@
--- The order of refusals in the document's words: for each number, what was passed before it and what it is given for. Assumes nothing.
+-- The order of refusals in the document's words: for each number, what was passed before it and what it is given for.
 use Prim.Native.Nat.{ℕ, _+_, _*_, _-_, _%_, _≤_, _<_}
 use mathlib.Core.Path.{_≡_, ap, _∙_}
 use mathlib.Core.List.{List}

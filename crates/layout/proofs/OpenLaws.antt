@@ -1,5 +1,4 @@
 -- What opens lies in the file: a predicate by cases on the answer, shown of the definition test by test.
--- Assumes nothing.
 use Prim.Native.Nat.{ℕ, _+_, _*_, _-_, _≤_}
 use mathlib.Core.Path.{_≡_, subst}
 use mathlib.Core.List.{List}

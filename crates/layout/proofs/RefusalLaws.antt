@@ -1,4 +1,4 @@
--- No two refusals have the same number. Assumes nothing.
+-- No two refusals have the same number.
 use Prim.Native.Nat.{ℕ}
 use mathlib.Core.Path.{_≡_, refl, sym, ap, _∙_}
 use lib.Dec.{eqb}

@@ -1,4 +1,4 @@
--- The number of document 01 that each answer stands for; 0 for a success. Assumes nothing.
+-- The number of document 01 that each answer stands for; 0 for a success.
 use Prim.Native.Nat.{ℕ}
 use Rattle.layout.specs.declared.pointer.Pointed.{Pointed}
 use Rattle.layout.specs.declared.table.Opened.{Opened}

@@ -1,4 +1,4 @@
--- An item of 24 bytes, from document 01, 'Layout of a table'. Assumes nothing.
+-- An item of 24 bytes, from document 01, 'Layout of a table'.
 use Prim.Native.Nat.{ℕ, _+_, _*_}
 use mathlib.Core.List.{List}
 use lib.ListN.{getD}

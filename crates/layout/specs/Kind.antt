@@ -1,4 +1,4 @@
--- The kinds of document 01, 'Layout of a table': 'v', 'H', 'L'. Assumes nothing.
+-- The kinds of document 01, 'Layout of a table': 'v', 'H', 'L'.
 use Prim.Native.Nat.{ℕ}
 use mathlib.Core.Bool.{Bool, _||_}
 use lib.Dec.{eqb}

@@ -1,4 +1,4 @@
--- Opening a pointer, from document 01, 'Order'. Assumes nothing.
+-- Opening a pointer, from document 01, 'Order'.
 use Prim.Native.Nat.{ℕ, _%_}
 use lib.Dec.{ltb, eqb}
 use Rattle.words.specs.Choice.{pick}

@@ -1,4 +1,4 @@
--- The numbers of document 01, 'Answer numbers'. Assumes nothing.
+-- The numbers of document 01, 'Answer numbers'.
 use Prim.Native.Nat.{ℕ}
 use Rattle.layout.specs.declared.refusal.Refusal.{Refusal}
 use Rattle.layout.specs.declared.refusal.Refusal.the-variants.{FileTooLong, PointerOutside, Misaligned, TableTooShort, BloomTooLong, BucketsTooLong, ItemsUneven, KeyNotUtf8, FragmentNotUtf8, ParentOutside, ParentsEndless, KeyNotFound, OtherKind, BufferTooShort, PastTheLast, KeyTooLong, NotContainer, TooManyItems, ArenaFull, TableUnknown, TableInItself, NestedTooDeep, TooManyTables, SeparatorOutside, MemoryBroken, EmptyKey, ImageTooLong, CheckBroken}

@@ -1,4 +1,4 @@
--- Opening a table, from document 01, 'Layout of a table' and 'Order'. Assumes nothing.
+-- Opening a table, from document 01, 'Layout of a table' and 'Order'.
 use Prim.Native.Nat.{ℕ, _+_, _*_, _-_, _/_, _%_, _≤_}
 use mathlib.Core.List.{List}
 use lib.ListN.{length}

@@ -1,5 +1,5 @@
 -- What a builder holds, and what each call answers and does, in the words and the order of document 01. A refusal changes nothing.
--- Refusal 29 is about memory and has no place here. Assumes nothing: these are definitions.
+-- Refusal 29 is about memory and has no place here.
 use Prim.Native.Nat.{ℕ, zero, suc, _+_, _<_}
 use mathlib.Core.Bool.{Bool, true, false, _&&_, not}
 use mathlib.Core.List.{List, [], _∷_, _++_}

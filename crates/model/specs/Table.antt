@@ -1,4 +1,4 @@
--- Tables of items, as document 01 has them under 'The builder'. Assumes nothing: these are definitions.
+-- Tables of items, as document 01 has them under 'The builder'.
 use Prim.Native.Nat.{ℕ, zero, suc, _+_, _<_}
 use mathlib.Core.Bool.{Bool, true, false}
 use mathlib.Core.List.{List, [], _∷_, _++_}

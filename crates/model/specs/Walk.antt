@@ -1,4 +1,4 @@
--- An insert's way along the prefixes of its key, from document 01, 'The builder'. Assumes nothing: these are definitions.
+-- An insert's way along the prefixes of its key, from document 01, 'The builder'.
 use Prim.Native.Nat.{ℕ, suc, _+_}
 use mathlib.Core.Bool.{Bool, _&&_}
 use mathlib.Core.List.{List, [], _∷_, _++_}

@@ -1,4 +1,4 @@
--- Inserts by hand: the definitions compute what document 01 says of "a/b" and of a container that is replaced. Assumes nothing.
+-- Inserts by hand: the definitions compute what document 01 says of "a/b" and of a container that is replaced.
 use Prim.Native.Nat.{ℕ}
 use mathlib.Core.Path.{_≡_, refl}
 use mathlib.Core.Bool.{true, false}

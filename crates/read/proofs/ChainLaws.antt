@@ -1,4 +1,4 @@
--- Laws about an item's key: what a step of its chain tells, one turn of the definition and its end. Assumes nothing.
+-- Laws about an item's key: what a step of its chain tells, one turn of the definition and its end.
 use Prim.Native.Nat.{ℕ, suc, _+_, _-_, _≤_, _<_}
 use mathlib.Core.Path.{_≡_, refl, sym, ap, _∙_}
 use mathlib.Core.List.{List}

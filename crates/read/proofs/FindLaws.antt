@@ -1,5 +1,5 @@
 -- Laws about finding an item, for every rule for a byte: the cases of the definition, one turn of the search and its end, and what the
--- search says of every position of the run. Assumes nothing.
+-- search says of every position of the run.
 use Prim.Native.Nat.{ℕ, zero, suc, _+_, _*_, _-_, _/_, _%_, _≤_, _<_}
 use mathlib.Core.Path.{_≡_, refl, ap, _∙_}
 use mathlib.Core.List.{List}

@@ -1,4 +1,4 @@
--- Laws about the listings: what a key's length says of the answer and of the buffer, and the search for the next value. Assumes nothing.
+-- Laws about the listings: what a key's length says of the answer and of the buffer, and the search for the next value.
 use Prim.Native.Nat.{ℕ, zero, suc, _+_, _-_, _≤_, _<_}
 use mathlib.Core.Path.{_≡_, refl, sym, ap, _∙_, subst}
 use mathlib.Core.Bool.{Bool, true, false}

@@ -1,5 +1,4 @@
 -- What a lookup or a value listing answers lies in the file: a predicate by cases on the answer, shown of the definitions test by test.
--- Assumes nothing.
 use Prim.Native.Nat.{ℕ, _≤_}
 use mathlib.Core.Path.{_≡_, refl}
 use mathlib.Core.List.{List}

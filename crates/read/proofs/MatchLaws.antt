@@ -1,5 +1,5 @@
 -- The loop over a chain decides what the definition says: a chain of one item more names a key just where the key ends in the item's
--- fragment and the parent's chain names the front. Assumes nothing.
+-- fragment and the parent's chain names the front.
 use Prim.Native.Nat.{ℕ, suc, _+_, _-_, _≤_, _<_}
 use mathlib.Core.Path.{_≡_, refl, sym, ap, _∙_, subst}
 use mathlib.Core.List.{List, [], _∷_, _++_}

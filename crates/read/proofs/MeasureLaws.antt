@@ -1,4 +1,4 @@
--- The loop that measures a key: the length of the present item's key and of what was passed is the whole key's length. Assumes nothing.
+-- The loop that measures a key: the length of the present item's key and of what was passed is the whole key's length.
 use Prim.Native.Nat.{ℕ, _+_, _*_, _-_, _≤_, _<_}
 use mathlib.Core.Path.{_≡_, refl, sym, ap, _∙_, subst}
 use mathlib.Core.List.{List, _++_}

@@ -1,4 +1,4 @@
--- What reading promises beside its equations, as a reader of document 01 would say it. Assumes nothing.
+-- What reading promises beside its equations, as a reader of document 01 would say it.
 use Prim.Native.Nat.{ℕ, zero, suc, _+_, _%_, _≤_, _<_}
 use mathlib.Core.Path.{_≡_, refl, sym, ap, _∙_, subst}
 use mathlib.Core.List.{List}

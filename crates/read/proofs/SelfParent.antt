@@ -1,5 +1,5 @@
 -- The file of 60 bytes whose one item has an empty name and is its own parent: it opens, listing it is refused with 11, and looking up
--- its name answers 12. Assumes nothing.
+-- its name answers 12.
 use Prim.Native.Nat.{ℕ}
 use mathlib.Core.Path.{_≡_, refl}
 use mathlib.Core.List.{List, [], _∷_, _++_}

@@ -1,4 +1,4 @@
--- What a lookup answers, traced back to the item that it found: by cases on the answer of each stage. Assumes nothing.
+-- What a lookup answers, traced back to the item that it found: by cases on the answer of each stage.
 use Prim.Native.Nat.{ℕ}
 use mathlib.Core.Path.{_≡_, refl}
 use mathlib.Core.List.{List}

@@ -1,5 +1,4 @@
 -- The loop that writes a measured key from its last fragment to its first: a fragment in its place leaves the key above it to write.
--- Assumes nothing.
 use Prim.Native.Nat.{ℕ, _+_, _-_, _≤_, _<_}
 use mathlib.Core.Path.{_≡_, refl, sym, ap, _∙_, subst}
 use mathlib.Core.List.{List, [], _++_}

@@ -1,5 +1,4 @@
 -- The number of document 01 that each answer stands for, 0 for a success, and the values that it carries, 0 where it has none.
--- Assumes nothing.
 use Prim.Native.Nat.{ℕ, _-_}
 use mathlib.Core.List.{List, []}
 use Rattle.words.specs.Store.{part}

@@ -1,5 +1,4 @@
 -- An item's key through its parents, from document 01, 'Lookup' and 'Order': one definition for lookup, listing and check.
--- Assumes nothing.
 use Prim.Native.Nat.{ℕ, zero, suc, _+_, _-_}
 use mathlib.Core.List.{List, _++_}
 use mathlib.Core.Bool.{Bool, false}

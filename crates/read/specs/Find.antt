@@ -1,4 +1,4 @@
--- Finding the item that a key names, from document 01, 'Lookup'. The rule for a byte of the hash is a parameter. Assumes nothing.
+-- Finding the item that a key names, from document 01, 'Lookup'. The rule for a byte of the hash is a parameter.
 use Prim.Native.Nat.{ℕ, zero, suc, _+_, _*_, _-_, _/_, _%_}
 use mathlib.Core.List.{List}
 use mathlib.Core.Bool.{Bool, true, false}

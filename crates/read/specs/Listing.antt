@@ -1,5 +1,5 @@
 -- Listing keys and values, from document 01, 'Lookup' and 'Order'. Key listing: opening, 15; then 2, 9, 10 from the item towards the
--- root, 11; then 14. Value listing: opening, 15, then 2 or 3. Assumes nothing.
+-- root, 11; then 14. Value listing: opening, 15, then 2 or 3.
 use Prim.Native.Nat.{ℕ, zero, suc, _+_, _-_}
 use mathlib.Core.List.{List}
 use lib.ListN.{length}

@@ -1,5 +1,5 @@
 -- Looking up a value or a nested table, from document 01, 'Order': opening, 8, 12, 13, then 2 or 3 of the value pointer, and for a
--- nested table 4 to 7. Assumes nothing.
+-- nested table 4 to 7.
 use Prim.Native.Nat.{ℕ}
 use mathlib.Core.List.{List}
 use lib.ListN.{length}

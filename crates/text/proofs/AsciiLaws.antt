@@ -1,4 +1,4 @@
--- Laws about texts of ASCII bytes: they are UTF-8, and so are their parts. Assumes nothing.
+-- Laws about texts of ASCII bytes: they are UTF-8, and so are their parts.
 use mathlib.Core.Path.{_≡_, refl, sym, ap, ap₂, _∙_}
 use mathlib.Core.Bool.{Bool, true, false, _&&_}
 use mathlib.Core.List.{List, [], _∷_, _++_}

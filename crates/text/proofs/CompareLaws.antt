@@ -1,4 +1,4 @@
--- Laws about the equality test of texts. Assumes nothing.
+-- Laws about the equality test of texts.
 use mathlib.Core.Path.{_≡_, refl, sym, ap, _∙_}
 use mathlib.Core.Bool.{Bool, true, false, _&&_}
 use mathlib.Core.List.{List, [], _∷_, _++_}

@@ -1,4 +1,4 @@
--- The laws of prefix ends. Assumes nothing.
+-- The laws of prefix ends.
 use Prim.Native.Nat.{ℕ, zero, suc, _+_, _-_, _≤_, _<_}
 use native.Mathlib.Numerals.{add-one}
 use native.Mathlib.Omega.{arith}

@@ -1,4 +1,4 @@
--- Laws about UTF-8 texts. Callers cite these and not the definitions' text. Assumes nothing.
+-- Laws about UTF-8 texts. Callers cite these and not the definitions' text.
 use mathlib.Core.Path.{_≡_, refl, sym, ap, _∙_}
 use mathlib.Core.Bool.{Bool, true, false, _&&_, and-false}
 use mathlib.Core.List.{List, [], _∷_, _++_}

@@ -1,5 +1,4 @@
 -- What tables ask of UTF-8: texts joined are a text, behind a whole text the rest is a text, and a text cut behind an ASCII byte is a text.
--- Assumes nothing.
 use mathlib.Core.Path.{_≡_, refl, sym, ap, _∙_}
 use mathlib.Core.Logic.{⊎-elim, _⊎_, inl, inr}
 use mathlib.Core.Bool.{Bool, true, false, _&&_, _||_}

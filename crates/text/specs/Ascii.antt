@@ -1,4 +1,4 @@
--- Texts of ASCII bytes. Assumes nothing.
+-- Texts of ASCII bytes.
 use Prim.Native.Nat.{ℕ}
 use mathlib.Core.Bool.{Bool, true, _&&_}
 use mathlib.Core.List.{List, [], _∷_}

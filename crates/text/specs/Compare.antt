@@ -1,4 +1,4 @@
--- Equality of texts, as a test. Assumes nothing.
+-- Equality of texts, as a test.
 use Prim.Native.Nat.{ℕ, _-_}
 use mathlib.Core.Bool.{Bool, true, false, _&&_}
 use mathlib.Core.List.{List, [], _∷_}

@@ -1,5 +1,5 @@
 -- The prefixes of a key that an insert walks: those that end at each separator, then the key itself (document 01, 'The builder').
--- No separator is the number 256, which no byte equals. Assumes nothing.
+-- No separator is the number 256, which no byte equals.
 use Prim.Native.Nat.{ℕ, suc}
 use mathlib.Core.List.{List, [], _∷_, map}
 use lib.ListN.{take, drop}

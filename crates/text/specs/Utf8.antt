@@ -1,4 +1,4 @@
--- UTF-8, from the grammar of RFC 3629, section 4. Assumes nothing.
+-- UTF-8, from the grammar of RFC 3629, section 4.
 use Prim.Native.Nat.{ℕ, zero, suc}
 use mathlib.Core.Bool.{Bool, true, false, _&&_, _||_}
 use mathlib.Core.List.{List, [], _∷_}

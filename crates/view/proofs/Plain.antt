@@ -1,4 +1,4 @@
--- What the views mean, in plain statements: a value's view is the bytes of its place, at its place; a nested view opens; a refusal's view is empty. Assumes nothing.
+-- What the views mean, in plain statements: a value's view is the bytes of its place, at its place; a nested view opens; a refusal's view is empty.
 use Prim.Native.Nat.{ℕ, _-_, _≤_}
 use mathlib.Core.Path.{_≡_, refl, sym, ap, subst, _∙_}
 use mathlib.Core.List.{List, []}

@@ -1,4 +1,4 @@
--- Going through views is asking at the pointer: a view of the whole file answers as the file does, and the empty view refuses. Assumes nothing.
+-- Going through views is asking at the pointer: a view of the whole file answers as the file does, and the empty view refuses.
 use Prim.Native.Nat.{ℕ, _+_}
 use mathlib.Core.Path.{_≡_, refl, sym, ap, subst, _∙_}
 use mathlib.Core.List.{List, []}

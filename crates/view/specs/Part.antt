@@ -1,4 +1,4 @@
--- Parts of a lent file. Assumes nothing.
+-- Parts of a lent file.
 use Prim.Native.Nat.{ℕ, _+_, _-_}
 use mathlib.Core.Path.{_≡_}
 use mathlib.Core.List.{List, []}

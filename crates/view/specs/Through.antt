@@ -1,4 +1,4 @@
--- A value in a nested table: the lookup of the table, and then that of the value at its pointer. Assumes nothing.
+-- A value in a nested table: the lookup of the table, and then that of the value at its pointer.
 use Prim.Native.Nat.{ℕ}
 use mathlib.Core.List.{List}
 use Rattle.words.specs.Hash.{plain}

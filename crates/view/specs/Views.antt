@@ -1,4 +1,4 @@
--- What each view says: the answer is the definition's, and what stands beside it is that part of the lent file. Assumes nothing.
+-- What each view says: the answer is the definition's, and what stands beside it is that part of the lent file.
 use Prim.Native.Nat.{ℕ}
 use mathlib.Core.Path.{_≡_}
 use mathlib.Core.List.{List}

@@ -1,4 +1,4 @@
--- Alignment: what the mask computes, and what callers use of `aligned`, for each of the three alignments. Assumes nothing.
+-- Alignment: what the mask computes, and what callers use of `aligned`, for each of the three alignments.
 use mathlib.Core.Path.{_≡_}
 use Prim.Native.Nat.{ℕ, _+_, _-_, _%_, _^_, _≤_, _<_}
 use native.Mathlib.Omega.{arith}

@@ -1,5 +1,4 @@
 -- Laws of a test of every number below a count and of some number below it, for the loops that compute them and for those who read them.
--- Assumes nothing.
 use Prim.Native.Nat.{ℕ, zero, suc, _+_, _<_}
 use mathlib.Core.Path.{_≡_, refl}
 use mathlib.Core.Bool.{Bool, true, false, _||_}

@@ -1,4 +1,4 @@
--- Laws about a choice by a test. Assumes nothing.
+-- Laws about a choice by a test.
 use mathlib.Core.Path.{_≡_, refl}
 use mathlib.Core.Bool.{Bool, true, false, _&&_}
 use Prim.Native.Nat.{ℕ}

@@ -1,4 +1,4 @@
--- Laws about little-endian fields, each once over the width. Callers cite these and not the definitions' text. Assumes nothing.
+-- Laws about little-endian fields, each once over the width. Callers cite these and not the definitions' text.
 use mathlib.Core.Path.{_≡_, refl, ap, _∙_}
 use mathlib.Core.List.{List, [], _∷_}
 use Prim.Native.Nat.{ℕ, zero, suc, _+_, _*_, _-_, _/_, _%_, _^_, _≤_, _<_}

@@ -1,4 +1,4 @@
--- Laws about the hash, for every rule for a byte. Assumes nothing.
+-- Laws about the hash, for every rule for a byte.
 use mathlib.Core.Path.{_≡_, refl, sym, ap, _∙_}
 use mathlib.Core.List.{List, [], _∷_, _++_}
 use Prim.Native.Nat.{ℕ, _+_, _-_, _*_, _^_, _≤_, _<_}

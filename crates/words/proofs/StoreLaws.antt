@@ -1,5 +1,5 @@
 -- The laws of a store: its length, what is read where it was made and elsewhere, stores joined and stores apart. Only reading what was
--- stored asks that it fits. Assumes nothing.
+-- stored asks that it fits.
 use mathlib.Core.Path.{_≡_, refl, sym, ap, _∙_}
 use mathlib.Core.List.{List, [], _∷_, _++_, append-assoc}
 use Prim.Native.Nat.{ℕ, zero, suc, _+_, _-_, _≤_, _<_}

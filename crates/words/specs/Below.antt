@@ -1,4 +1,4 @@
--- A test of every number below a count, and of some number below it. Assumes nothing.
+-- A test of every number below a count, and of some number below it.
 use Prim.Native.Nat.{ℕ, zero, suc}
 use mathlib.Core.Bool.{Bool, true, false, _&&_, _||_}
 

@@ -1,4 +1,4 @@
--- A choice by a test: the one form in which definitions branch. Assumes nothing.
+-- A choice by a test: the one form in which definitions branch.
 use mathlib.Core.Bool.{Bool, true, false}
 
 -- the first where the test holds, else the second. A row of refusals is a row of choices, in the document's order.

@@ -1,4 +1,4 @@
--- Little-endian numbers in a list of bytes, over the width. Assumes nothing.
+-- Little-endian numbers in a list of bytes, over the width.
 use Prim.Native.Nat.{ℕ, zero, suc, _+_, _*_, _/_, _%_}
 use mathlib.Core.List.{List, [], _∷_}
 use Rattle.words.specs.Store.{part}

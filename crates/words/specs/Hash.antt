@@ -1,5 +1,5 @@
 -- The hash of a key, from document 01, "Layout of a table". The rule for a byte is a parameter, so that laws are stated once for
--- every rule. Assumes nothing.
+-- every rule.
 use Prim.Native.Nat.{ℕ, _+_, _*_, _%_, _^_}
 use mathlib.Core.List.{List, [], _∷_}
 

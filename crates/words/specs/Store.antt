@@ -1,4 +1,4 @@
--- The one definition of a store, for bytes and for words alike, and of a part that is read. Assumes nothing.
+-- The one definition of a store, for bytes and for words alike, and of a part that is read.
 use Prim.Native.Nat.{ℕ, suc}
 use mathlib.Core.List.{List, [], _∷_}
 use lib.ListN.{take, drop, set, replicate}

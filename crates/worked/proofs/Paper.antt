@@ -1,4 +1,4 @@
--- P1 to P12: every line of the table holds, by computation. Assumes nothing.
+-- P1 to P12: every line of the table holds, by computation.
 use mathlib.Core.Path.{refl}
 use Rattle.words.specs.Choice.{pick}
 use Rattle.words.specs.Hash.{hashFrom, hashBy}

@@ -1,4 +1,4 @@
--- P1 to P12 of document 01, 'Worked numbers': the table. That every line of it holds is shown in proofs/Paper.antt. Assumes nothing.
+-- P1 to P12 of document 01, 'Worked numbers': the table. That every line of it holds is shown in proofs/Paper.antt.
 use Prim.Native.Nat.{ℕ}
 use mathlib.Core.Path.{_≡_}
 use mathlib.Core.List.{List, [], _∷_}

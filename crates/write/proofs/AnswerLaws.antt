@@ -1,4 +1,4 @@
--- What a write answers and lays, case by case. Assumes nothing.
+-- What a write answers and lays, case by case.
 use mathlib.Core.Path.{_≡_, refl, sym, ap, _∙_}
 use mathlib.Core.Bool.{Bool, true, false, _||_}
 use mathlib.Core.List.{List, _++_}
@@ -93,7 +93,7 @@ unfolding chunkSize
 chunk-is count = omega arith
 
 module _ (numbered ar before : List ℕ) (t : ℕ) where
-  -- the answer from the sheet
+  -- the answer from the numbered table
   abbrev pub FromNumbered : Written → List ℕ → Type 0
   FromNumbered r after = Given (fitAnswer numbered ar t (length before)) r (numberedImage numbered ar t) before after
 

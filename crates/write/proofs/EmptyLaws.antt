@@ -1,4 +1,4 @@
--- The search for an empty key. Assumes nothing.
+-- The search for an empty key.
 use mathlib.Core.Path.{_≡_, refl, sym, ap, _∙_}
 use mathlib.Core.Bool.{Bool, true, false, _&&_, _||_}
 use mathlib.Core.Logic.{_⊎_, ⊎-elim}

@@ -1,4 +1,4 @@
--- An item of a memory as its slot has it, and as the table that is meant has it. Assumes nothing.
+-- An item of a memory as its slot has it, and as the table that is meant has it.
 use mathlib.Core.Path.{_≡_, refl, sym, ap, _∙_}
 use mathlib.Core.Bool.{true, false}
 use mathlib.Core.Logic.{_⊎_, inl, inr, ⊎-elim}

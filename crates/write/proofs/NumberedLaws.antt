@@ -1,4 +1,4 @@
--- A sheet of a memory lays the image that the memory means. Assumes nothing.
+-- A numbered table of a memory lays the image that the memory means.
 use mathlib.Core.Path.{_≡_, refl, sym, ap, _∙_}
 use mathlib.Core.Logic.{_⊎_, inl, inr, ⊎-elim}
 use mathlib.Core.List.{List, _++_}

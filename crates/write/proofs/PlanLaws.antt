@@ -1,4 +1,4 @@
--- A sheet with its head, its child words and its slots is the sheet of the memory. Assumes nothing.
+-- A numbered table with its head, its child words and its slots is the numbered table of the memory.
 use mathlib.Core.Path.{_≡_, refl, sym, ap, _∙_}
 use mathlib.Core.Logic.{_⊎_, ⊎-elim}
 use mathlib.Core.List.{List}

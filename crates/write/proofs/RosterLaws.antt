@@ -1,4 +1,4 @@
--- The slots of a roster: every item has one of its own. Assumes nothing.
+-- The slots of a roster: every item has one of its own.
 use mathlib.Core.Path.{_≡_, refl, sym, ap, _∙_}
 use mathlib.Core.Bool.{Bool, true, false}
 use mathlib.Core.Logic.{_⊎_, inl, inr, ⊎-elim}

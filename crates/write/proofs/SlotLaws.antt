@@ -1,4 +1,4 @@
--- The words of a slot and of a sheet, as the code makes them. Assumes nothing.
+-- The words of a slot and of a numbered table, as the code makes them.
 use mathlib.Core.Path.{_≡_, refl, sym, ap, _∙_}
 use mathlib.Core.Bool.{Bool, true, false, not}
 use mathlib.Core.Logic.{_⊎_, ⊎-elim}

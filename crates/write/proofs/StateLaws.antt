@@ -1,4 +1,4 @@
--- What a memory that keeps the rules of a write says of each item, and the tables that it means, by their items. Assumes nothing.
+-- What a memory that keeps the rules of a write says of each item, and the tables that it means, by their items.
 use mathlib.Core.Path.{_≡_, refl, sym, ap, _∙_}
 use mathlib.Core.Bool.{Bool, true, false, _&&_, _||_, not}
 use mathlib.Core.Logic.{_⊎_, inl, inr, ⊎-elim}

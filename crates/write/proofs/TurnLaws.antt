@@ -1,4 +1,4 @@
--- One slot more of a sheet, and a sheet before its first. Assumes nothing.
+-- One slot more of a numbered table, and a numbered table before its first.
 use mathlib.Core.Path.{_≡_, refl, sym, ap, _∙_}
 use mathlib.Core.Logic.{_⊎_, ⊎-elim}
 use mathlib.Core.List.{List, [], _∷_}

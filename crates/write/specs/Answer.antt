@@ -1,4 +1,4 @@
--- What a write answers once the table is known, and from a sheet. Assumes nothing: these are definitions.
+-- What a write answers once the table is known, and from a numbered table.
 use Prim.Native.Nat.{ℕ, _+_}
 use mathlib.Core.List.{List}
 use lib.ListN.{length}

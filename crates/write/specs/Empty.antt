@@ -1,4 +1,4 @@
--- The search for an empty key, item by item. Assumes nothing: these are definitions.
+-- The search for an empty key, item by item.
 use Prim.Native.Nat.{ℕ}
 use mathlib.Core.Bool.{Bool, _&&_, _||_}
 use mathlib.Core.List.{List}

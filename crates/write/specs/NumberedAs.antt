@@ -1,5 +1,4 @@
--- The sheet of a builder's memory: what each of its words is, and that its tables are those that the memory means. Assumes nothing: these
--- are definitions.
+-- The numbered table of a builder's memory: what each of its words is, and that its tables are those that the memory means.
 use Prim.Native.Nat.{ℕ, zero, suc, _+_, _-_, _≤_, _<_, _^_}
 use mathlib.Core.Path.{_≡_}
 use mathlib.Core.Bool.{Bool, _&&_, not}
@@ -14,7 +13,7 @@ use Rattle.image.specs.Image.{planOf}
 use Rattle.write_bytes.specs.Numbered.{numberedTables, numberedSlots, slotsAt, childrenAt, numberedSize, slotWord, childWord, byKind, numberedPlan, NumberedFits, SlotFits}
 use Rattle.write_numbers.specs.Roster.{stateOf, firstSlot, itemIndex, bucketWord}
 
--- every table of the sheet agrees with the table that the memory means, whatever nested tables are laid as
+-- every table of the numbered table agrees with the table that the memory means, whatever nested tables are laid as
 pub record NumberedAs (ws ar numbered : List ℕ) : Type 0 where
   pub fits : NumberedFits numbered ar
   pub plans : (inner : ℕ → ℕ → List ℕ) (t : ℕ) → t < numberedTables
@@ -45,7 +44,7 @@ pub record Siblings (ws order firsts : List ℕ) : Type 0 where
   pub child : (i j : ℕ) → i < numberedSlots → j < length (childItems ws (i + 1) (itemTotal ws))
       → fromLast ws (getD order (getD firsts (i + 1) 0 + j) 0) ≡ getD (childItems ws (i + 1) (itemTotal ws)) j 0
 
--- ---- the words of a sheet
+-- ---- the words of a numbered table
 
 -- every word is 0
 abbrev pub Clear : List ℕ → Type 0

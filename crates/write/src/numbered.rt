@@ -1,4 +1,4 @@
-// The sheet of a builder's memory, from its roster.
+// The numbered table of a builder's memory, from its roster.
 use crate::children::order_siblings;
 use crate::children::put_children;
 use crate::slot::put_slot;
@@ -13,7 +13,7 @@ ghost use Rattle.write_bytes.specs.Numbered.{SlotFits};
 ghost use Rattle.write_numbers.specs.Roster.{Rostered};
 ghost use Rattle.write.specs.NumberedAs.{Clear, NumberedStart, NumberedSlots, Firsts, NumberedAs};
 
-// Puts the head, which is the roster's, into a clear sheet.
+// Puts the head, which is the roster's, into a clear numbered table.
 fn start_numbered(roster: &[usize], numbered: &mut [usize])
     requires { ⌜ (length (now roster) ≡ 3200) × (length (now numbered) ≡ 9344) × Clear (now numbered) ⌝ }
     ensures { λ _. ⌜ NumberedStart (now (roster .entry)) (now (numbered .exit)) ⌝ }
@@ -47,7 +47,7 @@ fn put_slots(
     }
 }
 
-// Fills a clear sheet: head, child words, slots.
+// Fills a clear numbered table: head, child words, slots.
 pub fn fill_numbered(words: &[usize], arena: &[u8], roster: &[usize], numbered: &mut [usize])
     requires { ⌜ fullyValid (now words) (now arena) ≡ true ⌝ }
     requires { ⌜ Rostered (now words) (now arena) (now roster) ⌝ }

@@ -52,7 +52,7 @@ fn lay_into(numbered: &[usize], arena: &[u8], table: usize, image: &mut [u8], si
     lay_image(numbered, arena, table, &mut image[..size]);
 }
 
-// Lays a table of a sheet, if its image is not too long.
+// Lays a table of a numbered table, if its image is not too long.
 fn write_if_fits(numbered: &[usize], arena: &[u8], table: usize, image: &mut [u8]) -> Written
     requires { ⌜ NumberedFits (now numbered) (now arena) ⌝ }
     requires { ⌜ table < numberedTables ⌝ }

@@ -1,4 +1,4 @@
--- The whole image: its length, and zeros and table laid one after the other. Assumes nothing.
+-- The whole image: its length, and zeros and table laid one after the other.
 use mathlib.Core.Path.{_≡_, ap, _∙_}
 use mathlib.Core.List.{List}
 use Prim.Native.Nat.{ℕ, _+_}

@@ -1,4 +1,4 @@
--- A slot of a sheet that fits: its value by kind, where its item ends, and its item laid. Assumes nothing.
+-- A slot of a numbered table that fits: its value by kind, where its item ends, and its item laid.
 use mathlib.Core.Path.{_≡_, sym, ap, _∙_}
 use mathlib.Core.Logic.{⊎-elim}
 use mathlib.Core.List.{List}
@@ -17,7 +17,7 @@ use Rattle.write_bytes.proofs.KindLaws.{kind-value, kind-table, kind-co
 use Rattle.write_bytes.proofs.SlotLaws.{cover-value, cover-table, cover-container, start-above, length-key}
 use Rattle.write_bytes.proofs.PutLaws.{plain-bytes, plain-children}
 
--- a slot of a sheet that fits
+-- a slot of a numbered table that fits
 pub record AtSlot (numbered arena : List ℕ) (s : ℕ) : Type 0 where
   pub fits : NumberedFits numbered arena
   pub inside : s < numberedSlots

@@ -1,4 +1,4 @@
--- The choice by kind, case by case. Assumes nothing.
+-- The choice by kind, case by case.
 use mathlib.Core.Path.{_≡_}
 use Prim.Native.Nat.{ℕ}
 use native.Mathlib.Omega.{arith}

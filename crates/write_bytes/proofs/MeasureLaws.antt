@@ -1,4 +1,4 @@
--- What a measure answers, case by case. Assumes nothing.
+-- What a measure answers, case by case.
 use mathlib.Core.Path.{_≡_}
 use mathlib.Core.Logic.{⊎-elim}
 use Prim.Native.Nat.{ℕ, _≤_, _<_}

@@ -1,4 +1,4 @@
--- What the small stores leave: words behind one another, a record in two halves, a fragment with its zeros. Assumes nothing.
+-- What the small stores leave: words behind one another, a record in two halves, a fragment with its zeros.
 use mathlib.Core.Path.{_≡_, sym, ap, _∙_}
 use mathlib.Core.List.{List, [], _∷_, _++_, append-assoc}
 use Prim.Native.Nat.{ℕ, _+_, _*_, _-_, _≤_, _<_}

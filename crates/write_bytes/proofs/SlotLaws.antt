@@ -1,4 +1,4 @@
--- What is laid of one slot: what its pointer covers, where its value starts, its lengths. Assumes nothing.
+-- What is laid of one slot: what its pointer covers, where its value starts, its lengths.
 use mathlib.Core.Path.{_≡_, ap, _∙_}
 use mathlib.Core.List.{List}
 use Prim.Native.Nat.{ℕ, _+_, _*_, _-_, _≤_}

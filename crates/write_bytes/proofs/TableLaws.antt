@@ -1,4 +1,4 @@
--- A table of a sheet: its plan by slots, the turns of the loop over its items, and the whole laid. Assumes nothing.
+-- A table of a numbered table: its plan by slots, the turns of the loop over its items, and the whole laid.
 use mathlib.Core.Path.{_≡_, refl, sym, ap, _∙_}
 use mathlib.Core.List.{List, [], _++_, append-assoc}
 use Prim.Native.Nat.{ℕ, suc, _+_, _*_, _-_, _≤_, _<_}
@@ -81,7 +81,7 @@ module _ (p : Plan) where
       put-then l at (start ++ records p base n) (payload p base n) (omega (arith, size)) a (h .image-is) in
       record { end-is = h .end-is ∙ sym (plan-end p at); image-is = b ∙ ap (putAt l at) (regroup p at) }
 
--- ---- a sheet's table as a plan, slot by slot
+-- ---- a numbered table's table as a plan, slot by slot
 
 module _ (inner : ℕ → ℕ → List ℕ) (numbered arena : List ℕ) (t : ℕ) where
   pub plan-count : numberedPlan inner numbered arena t .count ≡ slotCount numbered t

@@ -1,4 +1,4 @@
--- The turns of the loop over a table's items, in the code's own terms: what each may ask, and what it leaves. Assumes nothing.
+-- The turns of the loop over a table's items, in the code's own terms: what each may ask, and what it leaves.
 use mathlib.Core.Path.{_≡_, sym, ap, _∙_}
 use mathlib.Core.List.{List, _++_}
 use Prim.Native.Nat.{ℕ, _+_, _*_, _-_, _≤_, _<_, _^_}
@@ -27,7 +27,7 @@ pub record Turn (numbered arena : List ℕ) (d slot to end room : ℕ) : Type 0 
   pub apart : to + 24 ≤ end
   pub fits : end + length (slotItem (numberedBytes numbered arena (d - 1)) numbered arena slot end) ≤ room
 
--- a table of a sheet that fits, with some depth left, and the words that were read of it
+-- a table of a numbered table that fits, with some depth left, and the words that were read of it
 pub record AtTable (numbered arena : List ℕ) (t at d first count : ℕ) : Type 0 where
   pub fits : NumberedFits numbered arena
   pub known : t < numberedTables

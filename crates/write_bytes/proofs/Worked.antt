@@ -1,4 +1,4 @@
--- Sheets that give images of document 01, 'Worked numbers', and a nested table, byte by byte. Assumes nothing.
+-- Numbered tables that give images of document 01, 'Worked numbers', and a nested table, byte by byte.
 use Prim.Native.Nat.{ℕ}
 use mathlib.Core.Path.{_≡_, refl}
 use mathlib.Core.List.{List, [], _∷_, _++_}

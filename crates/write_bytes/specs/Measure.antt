@@ -1,4 +1,4 @@
--- What a measure answers, and an image after a write. Assumes nothing: these are definitions.
+-- What a measure answers, and an image after a write.
 use Prim.Native.Nat.{ℕ}
 use mathlib.Core.List.{List}
 use lib.Dec.{ltb}

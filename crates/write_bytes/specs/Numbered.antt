@@ -1,10 +1,9 @@
--- A sheet: what is to be laid, flat in words, each table's items in the order of their numbers; and the bytes that it means.
+-- A numbered table: what is to be laid, flat in words, each table's items in the order of their numbers; and the bytes that it means.
 --   2t, 2t + 1     table t (64 of them): its first slot, and its count of items, which stand in the slots behind one another
 --   128 + 8s       slot s (1,024 of them): hash, parent's number (4294967295: none), fragment start and size in the arena, kind,
 --                  then by kind: value start in the arena, guest, or first of its child words; value length, nothing, or count of its child words;
 --                  and the word of bucket (s - first slot)
 --   8320 + j       child words (1,024 of them): the numbers of the children, container by container
--- Assumes nothing: these are definitions.
 use Prim.Native.Nat.{ℕ, zero, suc, _+_, _*_, _≤_, _<_, _^_}
 use mathlib.Core.Path.{_≡_}
 use mathlib.Core.List.{List, [], _++_}
@@ -88,7 +87,7 @@ numberedBytes numbered arena (suc d) t at = planBytes (numberedPlan (λ u start.
 unfoldable pub numberedImage : List ℕ → List ℕ → ℕ → List ℕ
 numberedImage numbered arena root = zeros headerSize ++ numberedBytes numbered arena depth root headerSize
 
--- ---- a sheet that can be laid: every place lies where it should, and every number fits its field
+-- ---- a numbered table that can be laid: every place lies where it should, and every number fits its field
 
 pub record SlotFits (numbered arena : List ℕ) (s : ℕ) : Type 0 where
   pub hash : slotWord numbered s 0 < 2 ^ 32

@@ -1,4 +1,4 @@
--- What is laid of one slot of a sheet: its record, its fragment with the zeros behind it, its value. Assumes nothing: these are definitions.
+-- What is laid of one slot of a numbered table: its record, its fragment with the zeros behind it, its value.
 use Prim.Native.Nat.{ℕ, _+_, _*_, _-_, _≤_, _<_, _^_}
 use mathlib.Core.Path.{_≡_}
 use mathlib.Core.List.{List, [], _∷_, _++_}
@@ -46,7 +46,7 @@ slotItem inner numbered arena s at = slotKey numbered arena s at (slotStart numb
 
 -- ---- what the functions over one slot ask
 
--- it is a slot of a whole sheet
+-- it is a slot of a whole numbered table
 pub record SlotIn (numbered : List ℕ) (s : ℕ) : Type 0 where
   pub long : length numbered ≡ numberedSize
   pub inside : s < numberedSlots

@@ -1,4 +1,4 @@
-// A sheet measured, and laid as an image.
+// A numbered table measured, and laid as an image.
 pub mod measure;
 pub mod numbered;
 pub mod put;

@@ -1,4 +1,4 @@
-// The words of a sheet.
+// The words of a numbered table.
 ghost use mathlib.Core.Path.{_≡_};
 ghost use Prim.Native.Nat.{_+_, _*_, _<_};
 ghost use lib.ListN.{length};

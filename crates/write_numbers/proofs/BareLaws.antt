@@ -1,4 +1,4 @@
--- Laws of a table that has no item: a table past the last is one, and nothing is put for it. Assumes nothing.
+-- Laws of a table that has no item: a table past the last is one, and nothing is put for it.
 use Prim.Native.Nat.{ℕ, zero, suc, _+_, _≤_, _<_}
 use native.Mathlib.Omega.{arith}
 use mathlib.Core.Path.{_≡_, refl, sym, ap, _∙_}

@@ -1,4 +1,4 @@
--- Laws of the tables one behind the other: what is put for one table keeps what was put for those before it. Assumes nothing.
+-- Laws of the tables one behind the other: what is put for one table keeps what was put for those before it.
 use Prim.Native.Nat.{ℕ, zero, suc, _+_, _*_, _≤_, _<_}
 use native.Mathlib.Nat.{eq-or-lt-of-le, le-of-suc-le-suc}
 use native.Mathlib.Numerals.{add-one}

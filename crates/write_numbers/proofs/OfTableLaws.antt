@@ -1,4 +1,4 @@
--- Laws of the items of one table: each stands once, and the slots of all tables are no more than the items. Assumes nothing.
+-- Laws of the items of one table: each stands once, and the slots of all tables are no more than the items.
 use Prim.Native.Nat.{ℕ, zero, suc, _+_, _≤_, _<_}
 use native.Mathlib.Nat.{eq-or-lt-of-le, le-of-suc-le-suc}
 use native.Mathlib.Numerals.{add-one}

@@ -1,4 +1,4 @@
--- The roster is what was filled, its parts one behind the other. Assumes nothing.
+-- The roster is what was filled, its parts one behind the other.
 use Prim.Native.Nat.{ℕ, _+_, _*_, _≤_, _<_}
 use native.Mathlib.Omega.{arith}
 use mathlib.Core.Path.{_≡_, ap, _∙_}

@@ -1,4 +1,4 @@
--- Laws of the tables that the words mean: a table's members are its items in the words, its keys those in the arena. Assumes nothing.
+-- Laws of the tables that the words mean: a table's members are its items in the words, its keys those in the arena.
 use Prim.Native.Nat.{ℕ, zero, suc, _+_, _≤_, _<_}
 use native.Mathlib.Nat.{eq-or-lt-of-le, le-of-suc-le-suc}
 use native.Mathlib.Omega.{arith}

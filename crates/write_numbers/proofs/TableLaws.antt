@@ -1,4 +1,4 @@
--- Laws of one table's steps: collected, sorted, numbered. Assumes nothing.
+-- Laws of one table's steps: collected, sorted, numbered.
 use Prim.Native.Nat.{ℕ, _≤_}
 use native.Mathlib.Omega.{arith}
 use mathlib.Core.Path.{_≡_, sym, ap, _∙_}

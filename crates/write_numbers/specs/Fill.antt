@@ -1,5 +1,4 @@
 -- How a roster is filled, table by table: the items of a table among the first ones, the slots before a table, and what each step leaves.
--- Assumes nothing: these are definitions.
 use Prim.Native.Nat.{ℕ, zero, suc, _+_, _*_, _≤_, _<_}
 use mathlib.Core.Path.{_≡_}
 use mathlib.Core.Bool.{Bool}

@@ -3,7 +3,6 @@
 --   128 + s      the item in slot s (1,024 of them)
 --   1152 + i     the number of item i in its table (1,024 of them)
 --   2176 + s     the word of bucket (s - first slot) of the table that slot s is of (1,024 of them)
--- Assumes nothing: these are definitions.
 use Prim.Native.Nat.{ℕ, _+_, _*_, _≤_, _<_}
 use mathlib.Core.Path.{_≡_}
 use mathlib.Core.List.{List}

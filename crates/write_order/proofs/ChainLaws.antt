@@ -1,4 +1,4 @@
--- Laws of chains: places put at the front, chains taken apart, links that hold the mark again. Assumes nothing.
+-- Laws of chains: places put at the front, chains taken apart, links that hold the empty mark again.
 use mathlib.Core.Path.{_≡_, refl, sym, ap, _∙_}
 use mathlib.Core.Logic.{⊎-elim}
 use mathlib.Core.List.{List, [], _∷_, _++_}
@@ -73,7 +73,7 @@ module _ (hashes : List ℕ) where
       (λ n. rw (getD-set-other heads (bucketOf hashes k) b k 0 (λ q. n (sym q)))
       (chain-set links k (getD heads (bucketOf hashes k) 0) (getD heads b 0) (run hashes b k) (run-above hashes b k k (omega arith)) (c b l))))
 
--- ---- links that hold the mark
+-- ---- links that hold the empty mark
 
 pub empty-from : (links : List ℕ) → Empty links → EmptyFrom 0 links
 unfolding Empty EmptyFrom
@@ -83,12 +83,12 @@ pub empty-later : (k v : ℕ) (links : List ℕ) → EmptyFrom k links → Empty
 unfolding EmptyFrom
 empty-later k v links e i h l = getD-set-other links k i v 0 (λ q. omega arith) ∙ e i (omega arith) (rw length-set at l)
 
--- two lists of marks of one length
+-- two lists of empty marks of one length
 pub empty-same : (a b : List ℕ) → length a ≡ length b → Empty a → Empty b → a ≡ b
 unfolding Empty
 empty-same a b e p q = ext-getD 0 a b e (λ i l. p i l ∙ sym (q i (rw e at l)))
 
--- a fresh array of marks
+-- a fresh array of empty marks
 pub empty-fresh : (n : ℕ) → Empty (replicate n mark)
 unfolding Empty
 empty-fresh n i l = getD-replicate n i mark 0 (rw (length-replicate n mark) at l)

@@ -1,5 +1,5 @@
 -- Laws of the lists that the writer works with: they are the hashes, the items by number and the numbers of the table's definition, and
--- the turns of the loops that make them. Assumes nothing.
+-- the turns of the loops that make them.
 use mathlib.Core.Path.{_≡_, refl, sym, ap, _∙_}
 use mathlib.Core.Logic.{⊎-elim}
 use mathlib.Core.List.{List, [], _∷_, _++_, map}

@@ -1,4 +1,4 @@
--- Laws of tables by their keys alone, and of items whose records lie in the words. Assumes nothing.
+-- Laws of tables by their keys alone, and of items whose records lie in the words.
 use mathlib.Core.Path.{_≡_, refl, sym, ap, _∙_}
 use mathlib.Core.List.{List, []}
 use Prim.Native.Nat.{ℕ, _+_, _-_, _≤_, _<_}

@@ -1,4 +1,4 @@
--- Laws of merging: the turns of the loop that merges, and that two sorted lists merged are the sorted list of both. Assumes nothing.
+-- Laws of merging: the turns of the loop that merges, and that two sorted lists merged are the sorted list of both.
 use mathlib.Core.Path.{_≡_, refl, sym, ap, _∙_}
 use mathlib.Core.Bool.{Bool, true, false}
 use mathlib.Core.List.{List, [], _∷_, _++_, append-nil}

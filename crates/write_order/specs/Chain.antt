@@ -1,4 +1,4 @@
--- Chains of places through link words, and the bucket words in a list. Assumes nothing: these are definitions.
+-- Chains of places through link words, and the bucket words in a list.
 use mathlib.Core.Path.{_≡_}
 use Prim.Native.Nat.{ℕ, zero, suc, _+_, _<_, _≤_}
 use mathlib.Core.List.{List, [], _∷_, _++_}
@@ -7,7 +7,7 @@ use Rattle.words.specs.Store.{putAt}
 use Rattle.model.specs.Table.{times}
 use Rattle.image.specs.Index.{run, bucketStart}
 
--- the mark of a chain's end
+-- the empty mark of a chain's end
 abbrev pub mark : ℕ
 mark = 4294967295
 
@@ -19,15 +19,15 @@ startsBelow hashes (suc b) = startsBelow hashes b ++ (bucketStart hashes b ∷ [
 unfoldable pub starts : List ℕ → List ℕ
 starts hashes = startsBelow hashes (length hashes)
 
--- every word is the mark
+-- every word is the empty mark
 unfoldable pub Empty : List ℕ → Type 0
 Empty words = (i : ℕ) → i < length words → getD words i 0 ≡ mark
 
--- every word from n on is the mark
+-- every word from n on is the empty mark
 unfoldable pub EmptyFrom : ℕ → List ℕ → Type 0
 EmptyFrom n words = (i : ℕ) → n ≤ i → i < length words → getD words i 0 ≡ mark
 
--- from h, through the links, the places l and then the mark
+-- from h, through the links, the places l and then the empty mark
 unfoldable pub Chain : List ℕ → ℕ → List ℕ → Type 0
 Chain links h [] = h ≡ mark
 Chain links h (x ∷ l) = (h ≡ x) × (x < length links) × (x < mark) × Chain links (getD links x 0) l
@@ -36,7 +36,7 @@ Chain links h (x ∷ l) = (h ≡ x) × (x < length links) × (x < mark) × Chain
 unfoldable pub Chained : List ℕ → ℕ → List ℕ → List ℕ → Type 0
 Chained hashes k heads links = (b : ℕ) → b < length hashes → Chain links (getD heads b 0) (run hashes b k)
 
--- the links with the mark at each of the places l
+-- the links with the empty mark at each of the places l
 unfoldable pub cleared : List ℕ → List ℕ → List ℕ
 cleared links [] = links
 cleared links (x ∷ l) = cleared (set links x mark) l

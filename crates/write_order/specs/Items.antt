@@ -1,4 +1,4 @@
--- The hashes of items, the items of places, and the numbers of items, as lists. Assumes nothing: these are definitions.
+-- The hashes of items, the items of places, and the numbers of items, as lists.
 use Prim.Native.Nat.{ℕ, zero, suc, _<_}
 use mathlib.Core.List.{List, map}
 use lib.ListN.{length, getD, set}

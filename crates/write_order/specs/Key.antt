@@ -1,4 +1,4 @@
--- The keys of items, read from the builder's words and arena. Assumes nothing: these are definitions.
+-- The keys of items, read from the builder's words and arena.
 use Prim.Native.Nat.{ℕ, _+_, _*_, _≤_}
 use mathlib.Core.List.{List}
 use lib.ListN.{length, getD}

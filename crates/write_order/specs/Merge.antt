@@ -1,4 +1,4 @@
--- Two lists of items merged by their keys; of equal keys the left list's item goes first. Assumes nothing: these are definitions.
+-- Two lists of items merged by their keys; of equal keys the left list's item goes first.
 use Prim.Native.Nat.{ℕ}
 use mathlib.Core.Bool.{Bool, true, false}
 use mathlib.Core.List.{List, [], _∷_}

@@ -7,7 +7,7 @@ ghost use Rattle.words.specs.Store.{putAt};
 ghost use Rattle.image.specs.Index.{bucketOf, byBucket};
 ghost use Rattle.write_order.specs.Chain.{Chained, Ended, Drained, Empty, EmptyFrom, Rooms, starts};
 
-// The mark of a chain's end.
+// The empty mark of a chain's end.
 const EMPTY: usize = 0xFFFF_FFFF;
 
 // The bucket of a place.
@@ -75,7 +75,7 @@ fn index_all(
     }
 }
 
-// Numbers the items of one table. The links hold the mark before and after.
+// Numbers the items of one table. The links hold the empty mark before and after.
 pub fn index_by_bucket(
     hashes: &[usize],
     links: &mut [usize],

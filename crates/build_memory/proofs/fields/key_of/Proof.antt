@@ -1,4 +1,4 @@
--- `build_memory::fields::key_of` meets its contract: the part that the record's two words say. Assumes nothing.
+-- `build_memory::fields::key_of` meets its contract: the part that the record's two words say.
 use Rattle.build_memory.specs.Memory.{keyStart, keyOf}
 use Rattle.words.specs.Store.{part}
 use Prim.Native.Nat.{ℕ}

@@ -1,4 +1,4 @@
--- `build_memory::fields::part_of` meets its contract: nothing past the end, the rest, or a stretch. Assumes nothing.
+-- `build_memory::fields::part_of` meets its contract: nothing past the end, the rest, or a stretch.
 use Rattle.build_memory.proofs.MemoryLaws.{part-none, part-rest, part-mid}
 use borrow.Author.Needs.{needs}
 use Rattle.build_memory.proofs.fields.part_of.Statement.{statement}

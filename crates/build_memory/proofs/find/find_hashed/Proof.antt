@@ -1,4 +1,4 @@
--- `build_memory::find::find_hashed` meets its contract. The invariant: the search from the start is the search from here. Assumes nothing.
+-- `build_memory::find::find_hashed` meets its contract. The invariant: the search from the start is the search from here.
 use Rattle.build_memory.proofs.FindLaws.{chainFrom, find-start, find-hit, find-next, find-none}
 use Rattle.build_memory.specs.Find.{findKey}
 use Rattle.build_memory.specs.Memory.{itemTotal}

@@ -1,4 +1,4 @@
--- `build_memory::find::is_item` meets its contract, field by field. Assumes nothing.
+-- `build_memory::find::is_item` meets its contract, field by field.
 use Rattle.build_memory.proofs.FindLaws.{item-table, item-hash, item-size, item-bytes}
 use Rattle.text.specs.Compare.{sameBytes}
 use Prim.Native.Nat.{ℕ}

@@ -1,4 +1,4 @@
--- `build_memory::fresh::fill` meets its contract. The invariant: the first i words are written, and the rest is as it was. Assumes nothing.
+-- `build_memory::fresh::fill` meets its contract. The invariant: the first i words are written, and the rest is as it was.
 use Rattle.build_memory.proofs.MemoryLaws.{fill-turn, fill-end}
 use Rattle.build_memory.specs.Memory.{copies}
 use Rattle.words.proofs.StoreLaws.{copy-start}

@@ -1,4 +1,4 @@
--- `build_memory::fresh::fresh` meets its contract: 29, or the header, the heads and the links. Assumes nothing.
+-- `build_memory::fresh::fresh` meets its contract: 29, or the header, the heads and the links.
 use Rattle.build_memory.proofs.MemoryLaws.{fresh-refused, fresh-ready}
 use borrow.Author.Needs.{needs}
 use Rattle.build_memory.proofs.fresh.fresh.Statement.{statement}

@@ -1,4 +1,4 @@
--- `build_memory::fresh::put_header` meets its contract: five stores are one. Assumes nothing.
+-- `build_memory::fresh::put_header` meets its contract: five stores are one.
 use Rattle.words.specs.Store.{putAt}
 use mathlib.Core.Path.{refl}
 use lib.ListN.{length-set}

@@ -1,4 +1,4 @@
--- `build_memory::item::kind_of` meets its contract. Assumes nothing.
+-- `build_memory::item::kind_of` meets its contract.
 use Rattle.build_memory.specs.Item.{kindOf}
 use Rattle.words.specs.Choice.{pick}
 use borrow.Author.Tests.{eq-eqb, ne-eqb}

@@ -1,4 +1,4 @@
--- `build_memory::item::make_item` meets its contract. Assumes nothing.
+-- `build_memory::item::make_item` meets its contract.
 use Rattle.build_memory.proofs.ItemLaws.{item-made}
 use mathlib.Core.Path.{refl}
 use borrow.Author.Needs.{needs}

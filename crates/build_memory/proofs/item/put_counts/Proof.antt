@@ -1,4 +1,4 @@
--- `build_memory::item::put_counts` meets its contract: two stores are one. Assumes nothing.
+-- `build_memory::item::put_counts` meets its contract: two stores are one.
 use Rattle.build_memory.proofs.ItemLaws.{two-stores}
 use lib.ListN.{length-set}
 use native.Mathlib.Omega.{arith}

@@ -1,4 +1,4 @@
--- `build_memory::item::put_head` meets its contract. Assumes nothing.
+-- `build_memory::item::put_head` meets its contract.
 use Rattle.words.specs.Store.{putAt}
 use mathlib.Core.Path.{refl}
 use borrow.Author.Needs.{needs}

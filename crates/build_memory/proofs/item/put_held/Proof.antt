@@ -1,4 +1,4 @@
--- `build_memory::item::put_held` meets its contract: four stores are one. Assumes nothing.
+-- `build_memory::item::put_held` meets its contract: four stores are one.
 use Rattle.build_memory.proofs.ItemLaws.{four-stores}
 use lib.ListN.{length-set}
 use native.Mathlib.Omega.{arith}

@@ -1,4 +1,4 @@
--- `build_memory::item::put_spot` meets its contract: six stores are one. Assumes nothing.
+-- `build_memory::item::put_spot` meets its contract: six stores are one.
 use Rattle.build_memory.proofs.ItemLaws.{six-stores}
 use lib.ListN.{length-set}
 use native.Mathlib.Omega.{arith}

@@ -1,4 +1,4 @@
--- `build_memory::item::replace_item` meets its contract. Assumes nothing.
+-- `build_memory::item::replace_item` meets its contract.
 use Rattle.build_memory.proofs.ItemLaws.{item-replaced}
 use borrow.Author.Needs.{needs}
 use Rattle.build_memory.proofs.item.replace_item.Statement.{statement}

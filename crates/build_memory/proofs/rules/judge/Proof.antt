@@ -1,4 +1,4 @@
--- `build_memory::rules::judge` meets its contract, rule by rule. Assumes nothing.
+-- `build_memory::rules::judge` meets its contract, rule by rule.
 use Rattle.build_memory.proofs.MemoryLaws.{judge-short, judge-words, judge-room, judge-counts}
 use borrow.Author.Needs.{needs}
 use Rattle.build_memory.proofs.rules.judge.Statement.{statement}

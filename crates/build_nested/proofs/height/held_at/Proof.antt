@@ -1,4 +1,4 @@
--- `build_nested::height::held_at` meets its contract, test by test. Assumes nothing.
+-- `build_nested::height::held_at` meets its contract, test by test.
 use Rattle.build_nested.proofs.NestLaws.{held-other, held-kind, held-far, held-guest}
 use mathlib.Core.Path.{_∙_}
 use borrow.Author.Needs.{needs}

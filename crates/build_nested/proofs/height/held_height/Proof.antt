@@ -1,4 +1,4 @@
--- `build_nested::height::held_height` meets its contract. The invariant: `most` is the greatest height among the items passed. Assumes nothing.
+-- `build_nested::height::held_height` meets its contract. The invariant: `most` is the greatest height among the items passed.
 use Rattle.build_nested.proofs.NestLaws.{most-none, most-step}
 use Rattle.build_nested.specs.Nest.{heldAt, heldHeight}
 use Rattle.build_memory.specs.Memory.{itemTotal}

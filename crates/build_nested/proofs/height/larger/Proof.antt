@@ -1,4 +1,4 @@
--- `build_nested::height::larger` meets its contract. Assumes nothing.
+-- `build_nested::height::larger` meets its contract.
 use Rattle.words.specs.Choice.{pick}
 use borrow.Author.Tests.{lt-ltb, le-ltb}
 use Rattle.build_nested.proofs.height.larger.Statement.{statement}

@@ -1,4 +1,4 @@
--- `build_nested::insert::insert_nested` meets its contract: the insert, and the guest placed where it is accepted. Assumes nothing.
+-- `build_nested::insert::insert_nested` meets its contract: the insert, and the guest placed where it is accepted.
 use Rattle.build_nested.proofs.NestLaws.{accepted-low, nested-refused, nested-new, nested-old}
 use native.Mathlib.Omega.{arith}
 use borrow.Author.Needs.{needs}

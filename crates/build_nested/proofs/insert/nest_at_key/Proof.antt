@@ -1,4 +1,4 @@
--- `build_nested::insert::nest_at_key` meets its contract: 24, 24, 25, 8, 20, or on to the insert. Assumes nothing.
+-- `build_nested::insert::nest_at_key` meets its contract: 24, 24, 25, 8, 20, or on to the insert.
 use Rattle.build_nested.proofs.NestLaws.{table-unknown, guest-unknown, in-itself, two-tables}
 use Rattle.build_values.proofs.InsertLaws.{keyed-bad, keyed-long, keyed-good}
 use Rattle.build_tables.proofs.TableLaws.{free-standing-facts}

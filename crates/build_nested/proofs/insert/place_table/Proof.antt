@@ -1,4 +1,4 @@
--- `build_nested::insert::place_table` meets its contract: two stores are one. Assumes nothing.
+-- `build_nested::insert::place_table` meets its contract: two stores are one.
 use Rattle.build_nested.proofs.NestLaws.{placed-stores}
 use lib.ListN.{length-set}
 use native.Mathlib.Omega.{arith}

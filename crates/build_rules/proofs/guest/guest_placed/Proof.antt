@@ -1,4 +1,4 @@
--- `build_rules::guest::guest_placed` meets its contract. Assumes nothing.
+-- `build_rules::guest::guest_placed` meets its contract.
 use Rattle.build_rules.proofs.ValidLaws.{guest-unknown, guest-known}
 use borrow.Author.Needs.{needs}
 use Rattle.build_rules.proofs.guest.guest_placed.Statement.{statement}

@@ -1,4 +1,4 @@
--- `build_rules::guest::guest_valid` meets its contract. Assumes nothing.
+-- `build_rules::guest::guest_valid` meets its contract.
 use Rattle.build_rules.proofs.ValidLaws.{guest-none, guest-one}
 use mathlib.Core.Path.{_∙_}
 use borrow.Author.Needs.{needs}

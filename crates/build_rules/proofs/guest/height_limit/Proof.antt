@@ -1,4 +1,4 @@
--- `build_rules::guest::height_limit` meets its contract. Assumes nothing.
+-- `build_rules::guest::height_limit` meets its contract.
 use Rattle.build_rules.proofs.ValidLaws.{limit-loose, limit-placed}
 use mathlib.Core.Path.{sym, _∙_}
 use borrow.Author.Needs.{needs}

@@ -1,4 +1,4 @@
--- `build_rules::item::begun_by` meets its contract. Assumes nothing.
+-- `build_rules::item::begun_by` meets its contract.
 use Rattle.build_rules.proofs.ValidLaws.{begun-long, begun-short}
 use lib.ListN.{length}
 use lib.Seq.{length-take-le}

@@ -1,4 +1,4 @@
--- `build_rules::item::key_valid` meets its contract. Assumes nothing.
+-- `build_rules::item::key_valid` meets its contract.
 use Rattle.build_rules.proofs.ValidLaws.{key-is}
 use borrow.Author.Needs.{needs}
 use Rattle.build_rules.proofs.item.key_valid.Statement.{statement}

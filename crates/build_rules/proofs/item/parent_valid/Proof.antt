@@ -1,4 +1,4 @@
--- `build_rules::item::parent_valid` meets its contract, refusal by refusal. Assumes nothing.
+-- `build_rules::item::parent_valid` meets its contract, refusal by refusal.
 use Rattle.build_rules.proofs.ValidLaws.{parent-none, parent-late, parent-else, parent-begins}
 use mathlib.Core.Path.{sym, _∙_}
 use borrow.Author.Needs.{needs}

@@ -1,4 +1,4 @@
--- `build_rules::item::ranges_valid` meets its contract. Assumes nothing.
+-- `build_rules::item::ranges_valid` meets its contract.
 use Rattle.build_rules.proofs.ValidLaws.{ranges-is}
 use borrow.Author.Needs.{needs}
 use Rattle.build_rules.proofs.item.ranges_valid.Statement.{statement}

@@ -1,4 +1,4 @@
--- `build_rules::item::value_within` meets its contract. Assumes nothing.
+-- `build_rules::item::value_within` meets its contract.
 use Rattle.build_rules.proofs.ValidLaws.{value-none, value-one}
 use mathlib.Core.Path.{_∙_}
 use borrow.Author.Needs.{needs}

@@ -1,4 +1,4 @@
--- `build_rules::judge::item_valid` meets its contract. Assumes nothing.
+-- `build_rules::judge::item_valid` meets its contract.
 use Rattle.build_rules.proofs.ValidLaws.{ranges-table, item-out-of-range, item-is}
 use borrow.Author.Tests.{not-true, not-false}
 use native.Mathlib.Omega.{arith}

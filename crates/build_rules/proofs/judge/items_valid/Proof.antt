@@ -1,4 +1,4 @@
--- `build_rules::judge::items_valid` meets its contract. The invariant: the items that were passed keep the rules. Assumes nothing.
+-- `build_rules::judge::items_valid` meets its contract. The invariant: the items that were passed keep the rules.
 use Rattle.build_rules.specs.Valid.{itemValid}
 use Rattle.build_memory.specs.Memory.{itemTotal}
 use Rattle.words.proofs.BelowLaws.{all-fails, all-turn}

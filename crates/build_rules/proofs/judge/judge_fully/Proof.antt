@@ -1,4 +1,4 @@
--- `build_rules::judge::judge_fully` meets its contract, rule by rule. Assumes nothing.
+-- `build_rules::judge::judge_fully` meets its contract, rule by rule.
 use Rattle.build_rules.proofs.ValidLaws.{guests-few, whole-invalid, whole-items, whole-twice, whole-links}
 use Rattle.build_memory.proofs.MemoryLaws.{valid-facts}
 use borrow.Author.Tests.{not-true, not-false}

@@ -1,4 +1,4 @@
--- `build_rules::judge::links_empty` meets its contract. The invariant: the links that were passed are empty. Assumes nothing.
+-- `build_rules::judge::links_empty` meets its contract. The invariant: the links that were passed are empty.
 use Rattle.build_rules.specs.Valid.{linkEmpty}
 use Rattle.build_memory.specs.Memory.{links}
 use Rattle.words.proofs.BelowLaws.{all-fails, all-turn}

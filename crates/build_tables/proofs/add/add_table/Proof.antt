@@ -1,4 +1,4 @@
--- `build_tables::add::add_table` meets its contract: 27, or a row for the table and one table more. Assumes nothing.
+-- `build_tables::add::add_table` meets its contract: 27, or a row for the table and one table more.
 use Rattle.build_tables.proofs.TableLaws.{tables-many, table-added}
 use lib.ListN.{length-set}
 use native.Mathlib.Omega.{arith}

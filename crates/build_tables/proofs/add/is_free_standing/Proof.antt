@@ -1,4 +1,4 @@
--- `build_tables::add::is_free_standing` meets its contract. Assumes nothing.
+-- `build_tables::add::is_free_standing` meets its contract.
 use Rattle.build_tables.proofs.TableLaws.{free-standing-unknown, free-standing-known}
 use borrow.Author.Needs.{needs}
 use Rattle.build_tables.proofs.add.is_free_standing.Statement.{statement}

@@ -1,4 +1,4 @@
--- `build_tables::add::new_table` meets its contract: 29, 28, or what adding the table gives. Assumes nothing.
+-- `build_tables::add::new_table` meets its contract: 29, 28, or what adding the table gives.
 use Rattle.build_tables.proofs.TableLaws.{table-invalid, table-outside, table-inside}
 use Rattle.build_memory.proofs.MemoryLaws.{valid-facts}
 use borrow.Author.Tests.{not-true, not-false}

@@ -1,4 +1,4 @@
--- `build_tables::add::separator_word` meets its contract, by the separator's length. Assumes nothing.
+-- `build_tables::add::separator_word` meets its contract, by the separator's length.
 use Rattle.build_tables.proofs.TableLaws.{separator-none, separator-long, separator-low, separator-high}
 use borrow.Author.Needs.{needs}
 use Rattle.build_tables.proofs.add.separator_word.Statement.{statement}

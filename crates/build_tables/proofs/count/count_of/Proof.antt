@@ -1,4 +1,4 @@
--- `build_tables::count::count_of` meets its contract. The invariant: the count is that of the items passed. Assumes nothing.
+-- `build_tables::count::count_of` meets its contract. The invariant: the count is that of the items passed.
 use Rattle.build_tables.proofs.TableLaws.{count-none, count-pass, count-one}
 use Rattle.build_tables.specs.Table.{countOf}
 use Rattle.build_memory.specs.Memory.{itemTotal}

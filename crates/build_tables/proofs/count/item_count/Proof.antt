@@ -1,4 +1,4 @@
--- `build_tables::count::item_count` meets its contract: 29, 24, or the count. Assumes nothing.
+-- `build_tables::count::item_count` meets its contract: 29, 24, or the count.
 use Rattle.build_tables.proofs.TableLaws.{count-invalid, count-unknown, count-known}
 use Rattle.build_tables.specs.Table.{countOf}
 use Rattle.build_memory.proofs.MemoryLaws.{valid-facts}

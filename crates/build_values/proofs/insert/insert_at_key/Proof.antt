@@ -1,4 +1,4 @@
--- `build_values::insert::insert_at_key` meets its contract: 24, 8, 20, or on to the way. Assumes nothing.
+-- `build_values::insert::insert_at_key` meets its contract: 24, 8, 20, or on to the way.
 use Rattle.build_values.proofs.InsertLaws.{keyed-bad, keyed-long, keyed-good, valid-unknown, valid-known}
 use Rattle.build_tables.proofs.TableLaws.{free-standing-facts}
 use borrow.Author.Tests.{not-true, not-false}

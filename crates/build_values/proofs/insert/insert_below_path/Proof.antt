@@ -1,4 +1,4 @@
--- `build_values::insert::insert_below_path` meets its contract: 21, 26, or on along the way. Assumes nothing.
+-- `build_values::insert::insert_below_path` meets its contract: 21, 26, or on along the way.
 use Rattle.build_values.proofs.InsertLaws.{way-is, way-blocked, way-deep, way-along}
 use borrow.Author.Tests.{not-true, not-false}
 use mathlib.Core.Path.{_∙_}

@@ -1,4 +1,4 @@
--- `build_values::insert::insert_new` meets its contract: 22, 23, or what is missing is made. Assumes nothing.
+-- `build_values::insert::insert_new` meets its contract: 22, 23, or what is missing is made.
 use Rattle.build_values.proofs.InsertLaws.{new-many, new-full, new-made}
 use native.Mathlib.Omega.{arith}
 use borrow.Author.Needs.{needs}

@@ -1,4 +1,4 @@
--- `build_values::insert::insert_or_replace` meets its contract. Assumes nothing.
+-- `build_values::insert::insert_or_replace` meets its contract.
 use Rattle.build_values.proofs.InsertLaws.{along-old, along-new}
 use Rattle.words.specs.Hash.{plain}
 use Rattle.words.proofs.HashLaws.{hash-whole}

@@ -1,5 +1,5 @@
 -- `build_values::insert::make_containers` meets its contract. The invariant: the containers from the start are the containers from here, the counts grow as the
--- ends are passed, and the hash is that of the key up to here. Assumes nothing.
+-- ends are passed, and the hash is that of the key up to here.
 use Rattle.build_values.proofs.WalkLaws.{further, last, make-end, make-more}
 use Rattle.build_values.specs.Insert.{containers}
 use Rattle.build_values.specs.Walk.{sum}

@@ -1,4 +1,4 @@
--- `build_values::insert::overwrite_item` meets its contract: 23, or the item written again. Assumes nothing.
+-- `build_values::insert::overwrite_item` meets its contract: 23, or the item written again.
 use Rattle.build_values.proofs.InsertLaws.{old-full, old-written}
 use native.Mathlib.Omega.{arith}
 use borrow.Author.Needs.{needs}

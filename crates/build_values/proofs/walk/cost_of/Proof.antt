@@ -1,4 +1,4 @@
--- `build_values::walk::cost_of` meets its contract. The invariant: what is counted and what is left make the whole. Assumes nothing.
+-- `build_values::walk::cost_of` meets its contract. The invariant: what is counted and what is left make the whole.
 use Rattle.build_values.proofs.WalkLaws.{further, last}
 use Rattle.build_values.specs.Walk.{sum}
 use Rattle.model.specs.Builder.{longestKey}

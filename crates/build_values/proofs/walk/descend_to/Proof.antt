@@ -1,5 +1,5 @@
 -- `build_values::walk::descend_to` meets its contract. The invariant: the way from the start is the way from here, and the hash is that of the key
--- up to here. Assumes nothing.
+-- up to here.
 use Rattle.build_values.proofs.WalkLaws.{further, walked-is, walk-end, walk-miss, walk-block, walk-pass}
 use Rattle.build_values.specs.Walk.{descend}
 use Rattle.model.specs.Builder.{mostItems}

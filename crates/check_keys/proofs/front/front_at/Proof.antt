@@ -1,4 +1,4 @@
--- `check_keys::front::front_at` meets its contract: it is the definition, field by field. Assumes nothing.
+-- `check_keys::front::front_at` meets its contract: it is the definition, field by field.
 use Rattle.check_keys.specs.Front.{frontAt}
 use borrow.Author.Needs.{needs}
 use Rattle.check_keys.proofs.front.front_at.Statement.{statement}

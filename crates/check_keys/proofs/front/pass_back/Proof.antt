@@ -1,4 +1,4 @@
--- `check_keys::front::pass_back` meets its contract: the invariant is `Passing`, and the measure is the steps and the bytes left. Assumes nothing.
+-- `check_keys::front::pass_back` meets its contract: the invariant is `Passing`, and the measure is the steps and the bytes left.
 use mathlib.Core.Path.{subst}
 use native.Mathlib.Omega.{arith}
 use Prim.Native.Nat.{_+_}

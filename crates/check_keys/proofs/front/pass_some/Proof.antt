@@ -1,4 +1,4 @@
--- `check_keys::front::pass_some` meets its contract: each return is one law of a turn. Assumes nothing.
+-- `check_keys::front::pass_some` meets its contract: each return is one law of a turn.
 use mathlib.Core.Path.{sym, _∙_}
 use native.Mathlib.Omega.{arith}
 use Rattle.check_keys.proofs.PassLaws.{smaller-fits, some-raised, some-passed, some-differs}

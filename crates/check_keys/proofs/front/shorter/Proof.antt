@@ -1,4 +1,4 @@
--- `check_keys::front::shorter` meets its contract: it is the definition. Assumes nothing.
+-- `check_keys::front::shorter` meets its contract: it is the definition.
 use borrow.Author.Tests.{lt-ltb, le-ltb}
 use Rattle.words.specs.Choice.{pick}
 use Rattle.check_keys.specs.Front.{smaller}

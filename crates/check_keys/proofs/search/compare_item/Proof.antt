@@ -1,4 +1,4 @@
--- `check_keys::search::compare_item` meets its contract: each return is one law of an item. Assumes nothing.
+-- `check_keys::search::compare_item` meets its contract: each return is one law of an item.
 use mathlib.Core.Path.{sym, _∙_, subst}
 use Rattle.check_keys.specs.Front.{BackPassed}
 use Rattle.check_keys.proofs.SameLaws.{same-refused, same-outside, root-over, up-over, ended-differs}

@@ -1,4 +1,4 @@
--- `check_keys::search::find_joined` meets its contract: each return is a case of the definition, with the hash at hand. Assumes nothing.
+-- `check_keys::search::find_joined` meets its contract: each return is a case of the definition, with the hash at hand.
 use mathlib.Core.Path.{sym, _∙_}
 use native.Mathlib.Omega.{arith}
 use Prim.Native.Nat.{_<_}

@@ -1,4 +1,4 @@
--- `check_keys::search::first_same` meets its contract: what the search has still to say from here is what it had to say from the start. Assumes nothing.
+-- `check_keys::search::first_same` meets its contract: what the search has still to say from here is what it had to say from the start.
 use mathlib.Core.Path.{_≡_, sym, _∙_}
 use Prim.Native.Nat.{_-_}
 use borrow.Author.Tests.{le-leb, lt-leb}

@@ -1,4 +1,4 @@
--- `check_keys::search::joined_matches` meets its contract: each return is a case of the definition. Assumes nothing.
+-- `check_keys::search::joined_matches` meets its contract: each return is a case of the definition.
 use mathlib.Core.Path.{_∙_}
 use Rattle.words.specs.Hash.{plain}
 use Rattle.read.proofs.FindLaws.{other-hash, same-hash}

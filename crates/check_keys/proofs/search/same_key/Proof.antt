@@ -1,4 +1,4 @@
--- `check_keys::search::same_key` meets its contract: the invariant is `Comparing`, and the measure is the steps left. Assumes nothing.
+-- `check_keys::search::same_key` meets its contract: the invariant is `Comparing`, and the measure is the steps left.
 use mathlib.Core.Path.{subst}
 use Rattle.read.specs.Chain.{keyOf}
 use Rattle.check_keys.specs.Key.{bytesOf}

@@ -1,4 +1,4 @@
--- `check_keys::tally::finished` meets its contract: the remainder of the product has no bearing. Assumes nothing.
+-- `check_keys::tally::finished` meets its contract: the remainder of the product has no bearing.
 use Rattle.check_keys.proofs.TallyLaws.{finish-is}
 use borrow.Author.Needs.{needs}
 use Rattle.check_keys.proofs.tally.finished.Statement.{statement}

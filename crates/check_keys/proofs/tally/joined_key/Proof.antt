@@ -1,4 +1,4 @@
--- `check_keys::tally::joined_key` meets its contract: the invariant is `Tallying`, and the measure is the steps left. Assumes nothing.
+-- `check_keys::tally::joined_key` meets its contract: the invariant is `Tallying`, and the measure is the steps left.
 use mathlib.Core.Path.{_≡_, refl, sym, ap, _∙_, subst}
 use native.Mathlib.Omega.{arith}
 use Prim.Native.Nat.{ℕ}

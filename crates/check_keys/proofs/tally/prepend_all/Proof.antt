@@ -1,4 +1,4 @@
--- `check_keys::tally::prepend_all` meets its contract: the invariant says that the bytes from `i` on are in the tally. Assumes nothing.
+-- `check_keys::tally::prepend_all` meets its contract: the invariant says that the bytes from `i` on are in the tally.
 use mathlib.Core.Path.{_≡_, _∙_}
 use native.Mathlib.Omega.{arith}
 use Prim.Native.Nat.{_≤_}

@@ -1,4 +1,4 @@
--- `check_keys::tally::prepend_byte` meets its contract: the remainder of the product has no bearing. Assumes nothing.
+-- `check_keys::tally::prepend_byte` meets its contract: the remainder of the product has no bearing.
 use Rattle.words.specs.Hash.{plain}
 use Rattle.check_keys.proofs.TallyLaws.{before-is}
 use borrow.Author.Needs.{needs}

@@ -1,4 +1,4 @@
--- `check_table::bits::has_bit` meets its contract: the mask leaves the bit. Assumes nothing.
+-- `check_table::bits::has_bit` meets its contract: the mask leaves the bit.
 use mathlib.Core.Path.{ap}
 use Prim.Native.Nat.{ℕ, _/_, _%_, _^_}
 use lib.Dec.{eqb}

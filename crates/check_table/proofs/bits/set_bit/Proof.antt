@@ -1,4 +1,4 @@
--- `check_table::bits::set_bit` meets its contract: the shift is exact. Assumes nothing.
+-- `check_table::bits::set_bit` meets its contract: the shift is exact.
 use mathlib.Core.Path.{_≡_, ap, _∙_}
 use Prim.Native.Nat.{ℕ, _*_, _/_, _%_, _^_}
 use native.Mathlib.Omega.{arith}

@@ -1,4 +1,4 @@
--- `check_table::check::broken_rule` meets its contract: each return is a rule of the cascade; the survey stopped where rule 5 is broken first. Assumes nothing.
+-- `check_table::check::broken_rule` meets its contract: each return is a rule of the cascade; the survey stopped where rule 5 is broken first.
 use mathlib.Core.Path.{sym, _∙_}
 use borrow.Author.Tests.{not-true, not-false}
 use Rattle.words.specs.Hash.{plain}

@@ -1,4 +1,4 @@
--- `check_table::check::check_surveyed` meets its contract: what the search has still to say from here is what it had to say from the start. Assumes nothing.
+-- `check_table::check::check_surveyed` meets its contract: what the search has still to say from here is what it had to say from the start.
 use mathlib.Core.Path.{_≡_, refl, sym, _∙_}
 use Prim.Native.Nat.{_-_, _≤_}
 use borrow.Author.Tests.{eq-eqb, ne-eqb}

@@ -1,4 +1,4 @@
--- `check_table::check::check_table` meets its contract: each arm is a case of the definition. Assumes nothing.
+-- `check_table::check::check_table` meets its contract: each arm is a case of the definition.
 use mathlib.Core.Path.{sym, ap, _∙_}
 use Rattle.layout.proofs.OpenLaws.{opened-in-file}
 use Rattle.words.specs.Hash.{plain}

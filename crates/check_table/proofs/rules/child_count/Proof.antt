@@ -1,4 +1,4 @@
--- `check_table::rules::child_count` meets its contract: it is the definition. Assumes nothing.
+-- `check_table::rules::child_count` meets its contract: it is the definition.
 use native.Mathlib.Omega.{arith}
 use Rattle.check_table.specs.Rules.{childCount}
 use borrow.Author.Needs.{needs}

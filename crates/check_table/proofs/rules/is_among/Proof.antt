@@ -1,4 +1,4 @@
--- `check_table::rules::is_among` meets its contract: the invariant says that none of the first `k` is the index. Assumes nothing.
+-- `check_table::rules::is_among` meets its contract: the invariant says that none of the first `k` is the index.
 use mathlib.Core.Path.{_≡_, refl, sym, _∙_}
 use native.Mathlib.Omega.{arith}
 use Prim.Native.Nat.{_≤_, _-_}

@@ -1,4 +1,4 @@
--- `check_table::rules::key_rule` meets its contract: each return is a case of the definition. Assumes nothing.
+-- `check_table::rules::key_rule` meets its contract: each return is a case of the definition.
 use mathlib.Core.Path.{sym, _∙_}
 use Rattle.words.specs.Hash.{plain}
 use Rattle.check_keys.proofs.KeyLaws.{joined-sized, joined-hashed}

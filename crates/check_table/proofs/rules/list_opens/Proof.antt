@@ -1,4 +1,4 @@
--- `check_table::rules::list_opens` meets its contract: each arm is a case of the definition. Assumes nothing.
+-- `check_table::rules::list_opens` meets its contract: each arm is a case of the definition.
 use mathlib.Core.Path.{sym, _∙_}
 use Rattle.layout.proofs.OpenLaws.{pointer-inside}
 use Rattle.check_table.proofs.RuleLaws.{list-refused, list-inside}

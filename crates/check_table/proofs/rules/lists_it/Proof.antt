@@ -1,4 +1,4 @@
--- `check_table::rules::lists_it` meets its contract: each return is a case of the definition. Assumes nothing.
+-- `check_table::rules::lists_it` meets its contract: each return is a case of the definition.
 use mathlib.Core.Path.{sym, _∙_}
 use native.Mathlib.Omega.{arith}
 use borrow.Author.Tests.{not-true, not-false}

@@ -1,4 +1,4 @@
--- `check_table::rules::nested_opens` meets its contract: each arm is a case of the definition. Assumes nothing.
+-- `check_table::rules::nested_opens` meets its contract: each arm is a case of the definition.
 use mathlib.Core.Path.{sym, ap, _∙_}
 use Rattle.check_table.specs.Rules.{isTable}
 use borrow.Author.Needs.{needs}

@@ -1,4 +1,4 @@
--- `check_table::rules::value_inside` meets its contract: each arm is a case of the definition. Assumes nothing.
+-- `check_table::rules::value_inside` meets its contract: each arm is a case of the definition.
 use mathlib.Core.Path.{sym, _∙_}
 use Rattle.check_table.specs.Rules.{isInside}
 use borrow.Author.Needs.{needs}

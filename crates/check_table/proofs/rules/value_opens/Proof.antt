@@ -1,4 +1,4 @@
--- `check_table::rules::value_opens` meets its contract: each return is a case of the definition. Assumes nothing.
+-- `check_table::rules::value_opens` meets its contract: each return is a case of the definition.
 use borrow.Author.Tests.{eq-eqb, ne-eqb}
 use Rattle.words.specs.Choice.{pick}
 use Rattle.check_table.specs.Rules.{valueOpens}

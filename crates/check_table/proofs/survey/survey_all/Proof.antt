@@ -1,4 +1,4 @@
--- `check_table::survey::survey_all` meets its contract: the invariant is `Surveyed`. Assumes nothing.
+-- `check_table::survey::survey_all` meets its contract: the invariant is `Surveyed`.
 use mathlib.Core.Path.{_≡_, refl, sym, _∙_, subst}
 use native.Mathlib.Omega.{arith}
 use Prim.Native.Nat.{_≤_, _-_}

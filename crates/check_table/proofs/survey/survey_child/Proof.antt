@@ -1,4 +1,4 @@
--- `check_table::survey::survey_child` meets its contract: each return is a case of the definition. Assumes nothing.
+-- `check_table::survey::survey_child` meets its contract: each return is a case of the definition.
 use mathlib.Core.Path.{refl, sym, _∙_}
 use Rattle.words.specs.Choice.{pick}
 use Rattle.check_table.specs.Survey.{afterChild}

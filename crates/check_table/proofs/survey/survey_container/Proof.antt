@@ -1,4 +1,4 @@
--- `check_table::survey::survey_container` meets its contract: an item that is no container, or breaks rule 4, lists nothing. Assumes nothing.
+-- `check_table::survey::survey_container` meets its contract: an item that is no container, or breaks rule 4, lists nothing.
 use mathlib.Core.Path.{sym, _∙_}
 use native.Mathlib.Omega.{arith}
 use borrow.Author.Tests.{not-true, not-false}

@@ -1,4 +1,4 @@
--- `gvdb::building::gvdb_fresh` meets its contract: the fresh start's answer as its number. Assumes nothing.
+-- `gvdb::building::gvdb_fresh` meets its contract: the fresh start's answer as its number.
 use mathlib.Core.Path.{ap}
 use Rattle.build_memory.specs.Answer.{startedNumber}
 use Rattle.gvdb.specs.Building.{told}

@@ -1,4 +1,4 @@
--- `gvdb::building::gvdb_insert_table` meets its contract: the insert's answer as numbers, and its memory. Assumes nothing.
+-- `gvdb::building::gvdb_insert_table` meets its contract: the insert's answer as numbers, and its memory.
 use mathlib.Core.Path.{ap}
 use Rattle.gvdb.specs.Building.{told, insertedAnswer}
 use borrow.Author.Needs.{needs}

@@ -1,4 +1,4 @@
--- `gvdb::building::gvdb_item_count` meets its contract: the count's answer as numbers. Assumes nothing.
+-- `gvdb::building::gvdb_item_count` meets its contract: the count's answer as numbers.
 use mathlib.Core.Path.{sym, ap, _∙_}
 use Rattle.build_tables.specs.Answer.{countedNumber, countedItems}
 use Rattle.gvdb.specs.Building.{countedAnswer}

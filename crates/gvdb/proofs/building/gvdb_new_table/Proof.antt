@@ -1,4 +1,4 @@
--- `gvdb::building::gvdb_new_table` meets its contract: the answer as numbers. Assumes nothing.
+-- `gvdb::building::gvdb_new_table` meets its contract: the answer as numbers.
 use mathlib.Core.Path.{ap}
 use Rattle.build_tables.specs.Answer.{addedNumber, addedTable}
 use Rattle.gvdb.specs.Building.{told, addedAnswer}

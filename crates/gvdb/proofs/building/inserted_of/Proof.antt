@@ -1,4 +1,4 @@
--- `gvdb::building::inserted_of` meets its contract: each arm by the variant that it matched. Assumes nothing.
+-- `gvdb::building::inserted_of` meets its contract: each arm by the variant that it matched.
 use mathlib.Core.Path.{sym, ap}
 use Rattle.build_values.specs.Answer.{insertedNumber, insertedKind}
 use Rattle.gvdb.specs.Building.{insertedAnswer}

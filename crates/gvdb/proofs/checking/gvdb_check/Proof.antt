@@ -1,4 +1,4 @@
--- `gvdb::checking::gvdb_check` meets its contract: the check's answer as numbers. Assumes nothing.
+-- `gvdb::checking::gvdb_check` meets its contract: the check's answer as numbers.
 use mathlib.Core.Path.{sym, ap, _∙_}
 use Rattle.check_table.specs.Answer.{checkedNumber, checkedRule, checkedItem}
 use Rattle.gvdb.specs.Checking.{checkedAnswer}

@@ -1,4 +1,4 @@
--- `gvdb::reading::gvdb_get` meets its contract: the lookup's answer as numbers. Assumes nothing.
+-- `gvdb::reading::gvdb_get` meets its contract: the lookup's answer as numbers.
 use mathlib.Core.Path.{ap, _∙_}
 use Rattle.gvdb.specs.Reading.{lookedAnswer}
 use borrow.Author.Needs.{needs}

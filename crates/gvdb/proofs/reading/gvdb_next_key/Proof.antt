@@ -1,4 +1,4 @@
--- `gvdb::reading::gvdb_next_key` meets its contract: the listing's answer as numbers, and its buffer. Assumes nothing.
+-- `gvdb::reading::gvdb_next_key` meets its contract: the listing's answer as numbers, and its buffer.
 use mathlib.Core.Path.{sym, ap, _∙_}
 use Rattle.gvdb.specs.Reading.{listedAnswer}
 use borrow.Author.Needs.{needs}

@@ -1,4 +1,4 @@
--- `gvdb::reading::gvdb_next_value` meets its contract: the listing's answer as numbers. Assumes nothing.
+-- `gvdb::reading::gvdb_next_value` meets its contract: the listing's answer as numbers.
 use mathlib.Core.Path.{sym, ap, _∙_}
 use Rattle.gvdb.specs.Reading.{valuedAnswer}
 use borrow.Author.Needs.{needs}

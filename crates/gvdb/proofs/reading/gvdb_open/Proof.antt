@@ -1,4 +1,4 @@
--- `gvdb::reading::gvdb_open` meets its contract: the counts of a table that opened are small (`opened-in-file`). Assumes nothing.
+-- `gvdb::reading::gvdb_open` meets its contract: the counts of a table that opened are small (`opened-in-file`).
 use mathlib.Core.Path.{sym, ap, _∙_}
 use native.Mathlib.Omega.{arith}
 use Rattle.layout.proofs.OpenLaws.{opened-in-file}

@@ -1,4 +1,4 @@
--- `gvdb::reading::place_of` meets its contract: each arm by the variant that it matched. Assumes nothing.
+-- `gvdb::reading::place_of` meets its contract: each arm by the variant that it matched.
 use mathlib.Core.Path.{sym, ap}
 use Rattle.gvdb.specs.Reading.{lookedAnswer}
 use borrow.Author.Needs.{needs}

@@ -1,4 +1,4 @@
--- `gvdb::writing::gvdb_write` meets its contract: the write's answer as numbers, and its buffer. Assumes nothing.
+-- `gvdb::writing::gvdb_write` meets its contract: the write's answer as numbers, and its buffer.
 use mathlib.Core.Path.{sym, ap, _∙_}
 use Rattle.gvdb.specs.Writing.{writtenAnswer}
 use borrow.Author.Needs.{needs}

@@ -1,4 +1,4 @@
--- `layout::item::item_at` meets its contract: each field by the read that gave it. Assumes nothing.
+-- `layout::item::item_at` meets its contract: each field by the read that gave it.
 use Rattle.layout.specs.Item.{itemAt}
 use borrow.Author.Needs.{needs}
 use Rattle.layout.proofs.item.item_at.Statement.{statement}

@@ -1,4 +1,4 @@
--- `layout::pointer::open_pointer` meets its contract: each return by the tests that led there. Assumes nothing.
+-- `layout::pointer::open_pointer` meets its contract: each return by the tests that led there.
 use native.Mathlib.Omega.{arith}
 use borrow.Author.Tests.{lt-ltb, le-ltb, eq-eqb, ne-eqb}
 use Rattle.words.specs.Choice.{pick}

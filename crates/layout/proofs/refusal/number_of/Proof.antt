@@ -1,4 +1,4 @@
--- `layout::refusal::number_of` meets its contract: each arm by the variant that it matched. Assumes nothing.
+-- `layout::refusal::number_of` meets its contract: each arm by the variant that it matched.
 use mathlib.Core.Path.{sym, ap}
 use Rattle.layout.specs.Refusal.{number}
 use borrow.Author.Needs.{needs}

@@ -1,4 +1,4 @@
--- `layout::table::open_table` meets its contract: 1, the refusal of the pointer, or what the bytes inside it open as. Assumes nothing.
+-- `layout::table::open_table` meets its contract: 1, the refusal of the pointer, or what the bytes inside it open as.
 use mathlib.Core.Path.{sym, _∙_}
 use borrow.Author.Tests.{lt-ltb, le-ltb}
 use Rattle.words.specs.Choice.{pick}

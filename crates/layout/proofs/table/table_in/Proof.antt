@@ -1,4 +1,4 @@
--- `layout::table::table_in` meets its contract: each return by the tests that led there, over the two words of the head. Assumes nothing.
+-- `layout::table::table_in` meets its contract: each return by the tests that led there, over the two words of the head.
 use mathlib.Core.Path.{ap, _∙_}
 use borrow.Author.Tests.{lt-ltb, le-ltb, eq-eqb, ne-eqb}
 use Rattle.words.specs.Choice.{pick}

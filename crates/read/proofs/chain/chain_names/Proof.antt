@@ -1,5 +1,4 @@
 -- `read::chain::chain_names` meets its contract: the invariant is `Climbing`, and the measure is the steps left.
--- Assumes nothing.
 use mathlib.Core.Path.{sym, _∙_}
 use borrow.Author.Needs.{needs}
 use lib.Seq.{length-take-le}

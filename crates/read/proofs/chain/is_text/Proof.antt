@@ -1,4 +1,4 @@
--- `read::chain::is_text` meets its contract: ASCII is UTF-8. Assumes nothing.
+-- `read::chain::is_text` meets its contract: ASCII is UTF-8.
 use mathlib.Core.Path.{sym}
 use Rattle.text.proofs.AsciiLaws.{ascii-utf8}
 use borrow.Author.Needs.{needs}

@@ -1,4 +1,4 @@
--- `read::chain::match_fragment` meets its contract: each return by the tests that led there. Assumes nothing.
+-- `read::chain::match_fragment` meets its contract: each return by the tests that led there.
 use mathlib.Core.Path.{sym, _∙_}
 use borrow.Author.Tests.{not-true, not-false}
 use Rattle.text.proofs.CompareLaws.{ends-split}

@@ -1,5 +1,4 @@
 -- `read::chain::match_item` meets its contract: the pointer refuses, or the fragment lies in the file and says it.
--- Assumes nothing.
 use mathlib.Core.Path.{sym, _∙_}
 use Rattle.layout.proofs.OpenLaws.{pointer-inside}
 use Rattle.read.proofs.MatchLaws.{match-refused, match-inside}

@@ -1,5 +1,4 @@
 -- `read::chain::parent_of` meets its contract: each return is a case of the definition.
--- Assumes nothing.
 use borrow.Author.Needs.{needs}
 use borrow.Author.Tests.{lt-ltb, le-ltb, eq-eqb, ne-eqb}
 use Rattle.words.specs.Choice.{pick}

@@ -1,4 +1,4 @@
--- `read::listing::key_at` meets its contract: a key's length decides the answer and what is written. Assumes nothing.
+-- `read::listing::key_at` meets its contract: a key's length decides the answer and what is written.
 use mathlib.Core.Path.{sym, _∙_}
 use borrow.Author.Needs.{needs}
 use Rattle.read.proofs.ListingLaws.{told-past, told-refused, told-long, told-key}

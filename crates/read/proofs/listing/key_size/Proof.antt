@@ -1,5 +1,4 @@
 -- `read::listing::key_size` meets its contract: the invariant is `Measuring`, and the measure is the steps left.
--- Assumes nothing.
 use mathlib.Core.Path.{_≡_, refl, sym, _∙_}
 use borrow.Author.Needs.{needs}
 use Rattle.read.proofs.MeasureLaws.{Measuring, measure-start, measure-over, measure-refused, measure-root, measure-up}

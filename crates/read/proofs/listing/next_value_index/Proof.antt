@@ -1,4 +1,4 @@
--- `read::listing::next_value_index` meets its contract: the next value from here is the next value from the start. Assumes nothing.
+-- `read::listing::next_value_index` meets its contract: the next value from here is the next value from the start.
 use Prim.Native.Nat.{_-_}
 use mathlib.Core.Path.{_≡_, sym, _∙_}
 use borrow.Author.Needs.{needs}

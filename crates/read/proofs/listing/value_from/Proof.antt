@@ -1,4 +1,4 @@
--- `read::listing::value_from` meets its contract: each return is a case of the definition, with the pointer widened. Assumes nothing.
+-- `read::listing::value_from` meets its contract: each return is a case of the definition, with the pointer widened.
 use mathlib.Core.Path.{sym, _∙_}
 use borrow.Author.Needs.{needs}
 use borrow.Author.Tests.{le-leb, lt-leb}

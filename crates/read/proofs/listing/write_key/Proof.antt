@@ -1,4 +1,4 @@
--- `read::listing::write_key` meets its contract: the invariant is `Writing`, and the measure is the steps left. Assumes nothing.
+-- `read::listing::write_key` meets its contract: the invariant is `Writing`, and the measure is the steps left.
 use mathlib.Core.Path.{_≡_, refl, sym, subst, _∙_}
 use borrow.Author.Needs.{needs}
 use Rattle.read.proofs.WriteLaws.{Writing, write-start, write-over, write-inside, write-fits, write-room, write-root, write-refused, write-up}

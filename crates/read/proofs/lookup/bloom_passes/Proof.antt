@@ -1,5 +1,4 @@
 -- `read::lookup::bloom_passes` meets its contract: a remainder by the number of bloom words is below it, so its word lies in the file.
--- Assumes nothing.
 use Prim.Native.Nat.{_<_, _/_}
 use mathlib.Core.Path.{_∙_}
 use native.Mathlib.Omega.{arith}

@@ -1,4 +1,4 @@
--- `read::lookup::find_item` meets its contract: each return is a case of the definition, with the key's hash at hand. Assumes nothing.
+-- `read::lookup::find_item` meets its contract: each return is a case of the definition, with the key's hash at hand.
 use Prim.Native.Nat.{_<_}
 use mathlib.Core.Path.{sym, _∙_}
 use native.Mathlib.Omega.{arith}

@@ -1,5 +1,4 @@
 -- `read::lookup::first_of` meets its contract: what the search has still to say from here is what it had to say from the start.
--- Assumes nothing.
 use Prim.Native.Nat.{_-_}
 use mathlib.Core.Path.{_≡_, sym, _∙_}
 use borrow.Author.Needs.{needs}

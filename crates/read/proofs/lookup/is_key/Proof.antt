@@ -1,4 +1,4 @@
--- `read::lookup::is_key` meets its contract: ASCII is UTF-8. Assumes nothing.
+-- `read::lookup::is_key` meets its contract: ASCII is UTF-8.
 use mathlib.Core.Path.{sym, _∙_}
 use borrow.Author.Needs.{needs}
 use Rattle.text.proofs.AsciiLaws.{ascii-utf8}

@@ -1,4 +1,4 @@
--- `read::lookup::item_matches` meets its contract: the hash at hand is the key's. Assumes nothing.
+-- `read::lookup::item_matches` meets its contract: the hash at hand is the key's.
 use mathlib.Core.Path.{_∙_}
 use borrow.Author.Needs.{needs}
 use Rattle.words.specs.Hash.{plain}

@@ -1,4 +1,4 @@
--- `read::lookup::lookup_in` meets its contract: what is found is an item of the table. Assumes nothing.
+-- `read::lookup::lookup_in` meets its contract: what is found is an item of the table.
 use mathlib.Core.Path.{sym, ap, _∙_, subst}
 use borrow.Author.Needs.{needs}
 use Rattle.words.specs.Choice.{pick}

@@ -1,4 +1,4 @@
--- `read::lookup::lookup_value` meets its contract: each arm is a case of the definition. Assumes nothing.
+-- `read::lookup::lookup_value` meets its contract: each arm is a case of the definition.
 use mathlib.Core.Path.{sym, _∙_}
 use borrow.Author.Needs.{needs}
 use Rattle.read.specs.Lookup.{lookupValue, atItem}

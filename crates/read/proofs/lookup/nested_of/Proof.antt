@@ -1,4 +1,4 @@
--- `read::lookup::nested_of` meets its contract: each return is a case of the definition. Assumes nothing.
+-- `read::lookup::nested_of` meets its contract: each return is a case of the definition.
 use mathlib.Core.Path.{sym, _∙_}
 use borrow.Author.Needs.{needs}
 use borrow.Author.Tests.{eq-eqb, ne-eqb}

@@ -1,4 +1,4 @@
--- `read::lookup::run_of` meets its contract: the next bucket's word stands four bytes behind this one's. Assumes nothing.
+-- `read::lookup::run_of` meets its contract: the next bucket's word stands four bytes behind this one's.
 use Prim.Native.Nat.{_+_, _*_}
 use mathlib.Core.Path.{_≡_, _∙_}
 use native.Mathlib.Omega.{arith}

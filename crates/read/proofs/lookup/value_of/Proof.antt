@@ -1,4 +1,4 @@
--- `read::lookup::value_of` meets its contract: each return is a case of the definition, with the pointer widened. Assumes nothing.
+-- `read::lookup::value_of` meets its contract: each return is a case of the definition, with the pointer widened.
 use mathlib.Core.Path.{sym, _∙_}
 use borrow.Author.Needs.{needs}
 use borrow.Author.Tests.{eq-eqb, ne-eqb}

@@ -1,4 +1,4 @@
--- `replay::walk::walk` is safe and ends: every turn goes a record's size on, which is more than 0 and stays in the list. Assumes nothing.
+-- `replay::walk::walk` is safe and ends: every turn goes a record's size on, which is more than 0 and stays in the list.
 use Prim.Native.Nat.{_≤_, _-_}
 use mathlib.Core.Path.{_≡_}
 use lib.ListN.{length}

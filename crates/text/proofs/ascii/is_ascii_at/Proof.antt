@@ -1,5 +1,4 @@
 -- `text::ascii::is_ascii_at` meets its contract: the bits of the mask are the highest of each byte (`eight-ascii`).
--- Assumes nothing.
 use mathlib.Core.Path.{ap, _∙_}
 use Prim.Native.Nat.{ℕ, _<_}
 use native.Mathlib.Omega.{arith}

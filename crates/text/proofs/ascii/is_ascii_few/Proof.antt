@@ -1,5 +1,4 @@
 -- `text::ascii::is_ascii_few` meets its contract. The invariant: the text is ASCII just where what is left of it is.
--- Assumes nothing.
 use mathlib.Core.Path.{_≡_, refl, sym, _∙_}
 use Prim.Native.Nat.{_-_, _≤_}
 use native.Mathlib.Omega.{arith}

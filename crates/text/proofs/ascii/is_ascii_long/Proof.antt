@@ -1,5 +1,4 @@
 -- `text::ascii::is_ascii_long` meets its contract. The invariant: the text is ASCII up to i.
--- Assumes nothing.
 use mathlib.Core.Path.{_≡_, sym, _∙_}
 use mathlib.Core.Bool.{true}
 use Prim.Native.Nat.{_-_, _≤_}

@@ -1,5 +1,4 @@
 -- `text::compare::same_bytes` meets its contract, by that of the function for its length.
--- Assumes nothing.
 use mathlib.Core.Path.{sym}
 use Rattle.text.proofs.CompareLaws.{same-lengths}
 use borrow.Author.Needs.{needs}

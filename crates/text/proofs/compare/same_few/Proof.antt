@@ -1,5 +1,4 @@
 -- `text::compare::same_few` meets its contract: two halves, no byte or one.
--- Assumes nothing.
 use mathlib.Core.Path.{sym}
 use native.Mathlib.Omega.{arith}
 use Rattle.text.proofs.CompareLaws.{same-none, same-one}

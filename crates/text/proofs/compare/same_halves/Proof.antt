@@ -1,5 +1,4 @@
 -- `text::compare::same_halves` meets its contract: two stretches cover the texts (`same-two`).
--- Assumes nothing.
 use Prim.Native.Nat.{ℕ, _-_, _<_}
 use native.Mathlib.Omega.{arith}
 use lib.ListN.{length, getD}

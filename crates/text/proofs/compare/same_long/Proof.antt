@@ -1,5 +1,4 @@
 -- `text::compare::same_long` meets its contract. The invariant: the texts are equal up to i.
--- Assumes nothing.
 use mathlib.Core.Path.{_≡_, refl, sym, _∙_}
 use Prim.Native.Nat.{ℕ, _-_, _≤_, _<_}
 use native.Mathlib.Omega.{arith}

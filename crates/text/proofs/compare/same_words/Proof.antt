@@ -1,5 +1,4 @@
 -- `text::compare::same_words` meets its contract: two stretches cover the texts (`same-two`).
--- Assumes nothing.
 use Prim.Native.Nat.{ℕ, _-_, _<_}
 use native.Mathlib.Omega.{arith}
 use lib.ListN.{length, getD}

@@ -1,4 +1,4 @@
--- `text::prefix::next_end` meets its contract. The invariant: no separator stands from `from` up to i. Assumes nothing.
+-- `text::prefix::next_end` meets its contract. The invariant: no separator stands from `from` up to i.
 use Rattle.text.proofs.PrefixLaws.{next-here, next-later, next-end}
 use Rattle.text.specs.Prefix.{nextEnd}
 use lib.ListN.{length}

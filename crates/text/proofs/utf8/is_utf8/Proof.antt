@@ -1,4 +1,4 @@
--- `text::utf8::is_utf8` meets its contract: ASCII, or good to the end. Assumes nothing.
+-- `text::utf8::is_utf8` meets its contract: ASCII, or good to the end.
 use mathlib.Core.Path.{sym, ap, _∙_}
 use Prim.Native.Nat.{ℕ}
 use lib.ListN.{length}

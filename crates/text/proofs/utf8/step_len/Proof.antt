@@ -1,5 +1,5 @@
 -- `text::utf8::step_len` meets its contract: an ASCII byte is one character (`step-one`), else the four bytes are the first of what is left
--- (`step-at`). Assumes nothing.
+-- (`step-at`).
 use Rattle.text.proofs.Utf8Laws.{step-at, step-one}
 use borrow.Author.Needs.{needs}
 use Rattle.text.proofs.utf8.step_len.Statement.{statement}

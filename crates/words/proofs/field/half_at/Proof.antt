@@ -1,5 +1,4 @@
 -- `words::field::half_at` meets its contract: the two bytes are the field, byte by byte (`half-bytes`).
--- Assumes nothing.
 use native.Mathlib.Omega.{arith}
 use Rattle.words.proofs.FieldLaws.{half-bytes}
 use borrow.Author.Needs.{needs}

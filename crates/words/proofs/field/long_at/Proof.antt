@@ -1,5 +1,4 @@
 -- `words::field::long_at` meets its contract: a field of eight bytes is two of four (`long-words`).
--- Assumes nothing.
 use native.Mathlib.Omega.{arith}
 use Rattle.words.proofs.FieldLaws.{long-words}
 use borrow.Author.Needs.{needs}

@@ -1,5 +1,4 @@
 -- `words::field::put_half` meets its contract: two stores are the one store of the definition (`two-stores`).
--- Assumes nothing.
 use native.Mathlib.Omega.{arith}
 use lib.ListN.{length-set}
 use Rattle.words.proofs.FieldLaws.{two-stores}

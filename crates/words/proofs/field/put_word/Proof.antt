@@ -1,5 +1,4 @@
 -- `words::field::put_word` meets its contract: four stores are the one store of the definition (`four-stores`).
--- Assumes nothing.
 use native.Mathlib.Omega.{arith}
 use lib.ListN.{length-set}
 use Rattle.words.proofs.FieldLaws.{four-stores}

@@ -1,5 +1,4 @@
 -- `words::field::word_at` meets its contract: the four bytes are the field, byte by byte (`word-bytes`).
--- Assumes nothing.
 use native.Mathlib.Omega.{arith}
 use Rattle.words.proofs.FieldLaws.{word-bytes}
 use borrow.Author.Needs.{needs}

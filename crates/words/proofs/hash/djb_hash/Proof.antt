@@ -1,4 +1,4 @@
--- `words::hash::djb_hash` meets its contract: the hash goes on from 5381. Assumes nothing.
+-- `words::hash::djb_hash` meets its contract: the hash goes on from 5381.
 use Rattle.words.specs.Hash.{hashBy}
 use borrow.Author.Needs.{needs}
 use Rattle.words.proofs.hash.djb_hash.Statement.{statement}

@@ -1,5 +1,4 @@
 -- `words::hash::hash_on` meets its contract. The loop's invariant: the hash is what goes on from `value` over the bytes left.
--- Assumes nothing.
 use mathlib.Core.Path.{_≡_, refl, sym, ap, _∙_}
 use Prim.Native.Nat.{ℕ, _+_, _-_, _≤_}
 use native.Mathlib.Omega.{arith}

@@ -1,5 +1,4 @@
 -- `words::store::put_bytes` meets its contract. The invariant: the first j bytes are copied, and the rest is as it was.
--- Assumes nothing.
 use mathlib.Core.Path.{_≡_, refl, _∙_}
 use Prim.Native.Nat.{_-_, _≤_}
 use native.Mathlib.Omega.{arith}

@@ -1,4 +1,4 @@
--- `worked::laid::long_key` is safe: the part lies in the key. Assumes nothing.
+-- `worked::laid::long_key` is safe: the part lies in the key.
 use mathlib.Core.Path.{sym}
 use native.Mathlib.Omega.{arith}
 use lib.Seq.{length-take-le}

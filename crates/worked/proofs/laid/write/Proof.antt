@@ -1,4 +1,4 @@
--- `worked::laid::write` is safe: the part lies in the buffer. Assumes nothing.
+-- `worked::laid::write` is safe: the part lies in the buffer.
 use mathlib.Core.Path.{sym}
 use native.Mathlib.Omega.{arith}
 use lib.Seq.{length-take-le}

@@ -1,4 +1,4 @@
--- `worked::say::bytes` is safe and ends: i grows to the length. Assumes nothing.
+-- `worked::say::bytes` is safe and ends: i grows to the length.
 use Prim.Native.Nat.{_≤_, _-_}
 use lib.ListN.{length}
 use borrow.Author.Needs.{needs}

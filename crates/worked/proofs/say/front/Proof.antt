@@ -1,4 +1,4 @@
--- `worked::say::front` is safe: the part lies in the slice. Assumes nothing.
+-- `worked::say::front` is safe: the part lies in the slice.
 use mathlib.Core.Path.{sym}
 use native.Mathlib.Omega.{arith}
 use lib.Seq.{length-take-le}

@@ -1,4 +1,4 @@
--- `worked::small::alignments` is safe and ends. Assumes nothing.
+-- `worked::small::alignments` is safe and ends.
 use Prim.Native.Nat.{_≤_, _-_}
 use borrow.Author.Needs.{needs}
 use Rattle.worked.proofs.small.alignments.Statement.{statement}

@@ -1,4 +1,4 @@
--- `worked::small::walk` is safe and ends: while the end of the prefix is not that of the key, the next one lies further on (`next-rises`). Assumes nothing.
+-- `worked::small::walk` is safe and ends: while the end of the prefix is not that of the key, the next one lies further on (`next-rises`).
 use Prim.Native.Nat.{_≤_, _<_, _-_}
 use native.Mathlib.Omega.{arith}
 use mathlib.Core.Path.{sym}

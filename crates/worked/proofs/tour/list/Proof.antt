@@ -1,4 +1,4 @@
--- `worked::tour::list` is safe and ends. Assumes nothing.
+-- `worked::tour::list` is safe and ends.
 use Prim.Native.Nat.{_≤_, _-_}
 use borrow.Author.Needs.{needs}
 use Rattle.worked.proofs.tour.list.Statement.{statement}

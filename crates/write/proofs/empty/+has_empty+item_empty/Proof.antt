@@ -1,5 +1,5 @@
 -- The cycle of `write::empty::has_empty` and `write::empty::item_empty` meets both contracts. The measure is twice the depth left, and one
--- more for an item. The invariant of the loop: no item passed has an empty key. Assumes nothing.
+-- more for an item. The invariant of the loop: no item passed has an empty key.
 use mathlib.Core.Path.{_≡_, sym, _∙_}
 use mathlib.Core.Bool.{false}
 use native.Mathlib.Omega.{arith}

@@ -1,4 +1,4 @@
--- `write::slot::is_child` meets its contract, test by test. Assumes nothing.
+-- `write::slot::is_child` meets its contract, test by test.
 use Rattle.write.proofs.SlotLaws.{child-none, child-own}
 use borrow.Author.Needs.{needs}
 use Rattle.write.proofs.slot.is_child.Statement.{statement}

@@ -1,4 +1,4 @@
--- `write::slot::parent_word` meets its contract: a child has a parent. Assumes nothing.
+-- `write::slot::parent_word` meets its contract: a child has a parent.
 use native.Mathlib.Omega.{arith}
 use Rattle.write.proofs.SlotLaws.{word-none, word-own, child-some, turned-on, turned-off}
 use borrow.Author.Needs.{needs}

@@ -1,4 +1,4 @@
--- `write::slot::put_back` meets its contract. Assumes nothing.
+-- `write::slot::put_back` meets its contract.
 use mathlib.Core.Path.{_∙_}
 use Rattle.write.proofs.TurnLaws.{back-made}
 use borrow.Author.Needs.{needs}

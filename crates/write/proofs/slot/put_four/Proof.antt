@@ -1,4 +1,4 @@
--- `write::slot::put_four` meets its contract: four stores are the one store of the definition. Assumes nothing.
+-- `write::slot::put_four` meets its contract: four stores are the one store of the definition.
 use native.Mathlib.Omega.{arith}
 use lib.ListN.{length-set}
 use Rattle.write.proofs.SlotLaws.{four-put}

@@ -1,4 +1,4 @@
--- `write::slot::put_slot` meets its contract: four words and four more. Assumes nothing.
+-- `write::slot::put_slot` meets its contract: four words and four more.
 use mathlib.Core.Path.{ap, _∙_}
 use Prim.Native.Nat.{ℕ, _+_, _*_}
 use native.Mathlib.Omega.{arith}

@@ -1,4 +1,4 @@
--- `write::slot::size_of` meets its contract, kind by kind. Assumes nothing.
+-- `write::slot::size_of` meets its contract, kind by kind.
 use Rattle.write.proofs.SlotLaws.{size-value, size-guest, size-child}
 use borrow.Author.Needs.{needs}
 use Rattle.write.proofs.slot.size_of.Statement.{statement}

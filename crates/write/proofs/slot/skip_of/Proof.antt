@@ -1,4 +1,4 @@
--- `write::slot::skip_of` meets its contract: a child has a parent. Assumes nothing.
+-- `write::slot::skip_of` meets its contract: a child has a parent.
 use native.Mathlib.Omega.{arith}
 use Rattle.write.proofs.SlotLaws.{skip-none, skip-own, child-some, turned-on, turned-off}
 use borrow.Author.Needs.{needs}

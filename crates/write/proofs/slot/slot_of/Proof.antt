@@ -1,4 +1,4 @@
--- `write::slot::slot_of` meets its contract. Assumes nothing.
+-- `write::slot::slot_of` meets its contract.
 use mathlib.Core.Path.{_≡_}
 use Prim.Native.Nat.{_+_, _*_}
 use native.Mathlib.Omega.{arith}

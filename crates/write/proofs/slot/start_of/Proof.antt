@@ -1,4 +1,4 @@
--- `write::slot::start_of` meets its contract, kind by kind. Assumes nothing.
+-- `write::slot::start_of` meets its contract, kind by kind.
 use Rattle.write.proofs.SlotLaws.{start-value, start-guest, start-child}
 use borrow.Author.Needs.{needs}
 use Rattle.write.proofs.slot.start_of.Statement.{statement}

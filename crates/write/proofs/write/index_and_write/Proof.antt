@@ -1,4 +1,4 @@
--- `write::write::index_and_write` meets its contract: the roster leaves the words as they were, and the rest only reads them. Assumes nothing.
+-- `write::write::index_and_write` meets its contract: the roster leaves the words as they were, and the rest only reads them.
 use borrow.Author.Needs.{needs}
 use Rattle.write.proofs.write.index_and_write.Statement.{statement}
 use Rattle.write.proofs.write.index_and_write.Tie as tie

@@ -1,4 +1,4 @@
--- `write::write::is_free_standing` meets its contract, test by test. Assumes nothing.
+-- `write::write::is_free_standing` meets its contract, test by test.
 use Rattle.write.proofs.AnswerLaws.{free-unknown, free-known}
 use borrow.Author.Needs.{needs}
 use Rattle.write.proofs.write.is_free_standing.Statement.{statement}

@@ -1,4 +1,4 @@
--- `write::write::lay_into` meets its contract: what is laid into the front is laid into the whole. Assumes nothing.
+-- `write::write::lay_into` meets its contract: what is laid into the front is laid into the whole.
 use mathlib.Core.Path.{sym}
 use native.Mathlib.Omega.{arith}
 use lib.Seq.{length-take-le}

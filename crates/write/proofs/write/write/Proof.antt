@@ -1,4 +1,4 @@
--- `write::write::write` meets its contract, answer by answer, in the document's order. Assumes nothing.
+-- `write::write::write` meets its contract, answer by answer, in the document's order.
 use Rattle.write.specs.Write.{freeStanding}
 use mathlib.Core.Path.{refl, ap, _∙_}
 use Prim.Native.Nat.{_<_}

@@ -1,4 +1,4 @@
--- `write::write::write_if_fits` meets its contract, answer by answer. Assumes nothing.
+-- `write::write::write_if_fits` meets its contract, answer by answer.
 use mathlib.Core.Path.{sym, _∙_}
 use native.Mathlib.Omega.{arith}
 use Rattle.write_bytes.proofs.MeasureLaws.{end-is, long-is}

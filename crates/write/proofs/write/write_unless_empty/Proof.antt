@@ -1,4 +1,4 @@
--- `write::write::write_unless_empty` meets its contract: the sheet's image is the one that the memory means. Assumes nothing.
+-- `write::write::write_unless_empty` meets its contract: the numbered table's image is the one that the memory means.
 use Prim.Native.Nat.{ℕ}
 use mathlib.Core.Path.{sym, _∙_}
 use lib.ListN.{length-replicate, getD-replicate}

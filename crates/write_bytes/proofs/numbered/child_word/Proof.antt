@@ -1,4 +1,4 @@
--- `write_bytes::numbered::child_word` meets its contract: it reads the word that the definition names. Assumes nothing.
+-- `write_bytes::numbered::child_word` meets its contract: it reads the word that the definition names.
 use borrow.Author.Needs.{needs}
 use Rattle.write_bytes.specs.Numbered.{childWord}
 use Rattle.write_bytes.proofs.numbered.child_word.Statement.{statement}

@@ -1,4 +1,4 @@
--- `write_bytes::numbered::slot_word` meets its contract: it reads the word that the definition names. Assumes nothing.
+-- `write_bytes::numbered::slot_word` meets its contract: it reads the word that the definition names.
 use borrow.Author.Needs.{needs}
 use Rattle.write_bytes.specs.Numbered.{slotWord}
 use Rattle.write_bytes.proofs.numbered.slot_word.Statement.{statement}

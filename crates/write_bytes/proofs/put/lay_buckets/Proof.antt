@@ -1,4 +1,4 @@
--- `write_bytes::put::lay_buckets` meets its contract. The invariant: the first b words are laid, and the rest is as it was. Assumes nothing.
+-- `write_bytes::put::lay_buckets` meets its contract. The invariant: the first b words are laid, and the rest is as it was.
 use mathlib.Core.Path.{_≡_, refl, ap, _∙_}
 use Prim.Native.Nat.{_+_, _-_, _≤_}
 use native.Mathlib.Omega.{arith}

@@ -1,4 +1,4 @@
--- `write_bytes::put::lay_front` meets its contract. Assumes nothing.
+-- `write_bytes::put::lay_front` meets its contract.
 use mathlib.Core.Path.{sym, ap}
 use Prim.Native.Nat.{ℕ, _+_}
 use native.Mathlib.Omega.{arith}

@@ -1,4 +1,4 @@
--- `write_bytes::put::lay_head` meets its contract. Assumes nothing.
+-- `write_bytes::put::lay_head` meets its contract.
 use borrow.Author.Needs.{needs}
 use Rattle.write_bytes.proofs.PutLaws.{put-head}
 use Rattle.write_bytes.proofs.put.lay_head.Statement.{statement}

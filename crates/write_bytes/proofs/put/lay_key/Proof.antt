@@ -1,4 +1,4 @@
--- `write_bytes::put::lay_key` meets its contract. Assumes nothing.
+-- `write_bytes::put::lay_key` meets its contract.
 use mathlib.Core.Path.{_≡_}
 use Prim.Native.Nat.{_+_}
 use native.Mathlib.Omega.{arith}

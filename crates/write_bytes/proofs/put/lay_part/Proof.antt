@@ -1,4 +1,4 @@
--- `write_bytes::put::lay_part` meets its contract. Assumes nothing.
+-- `write_bytes::put::lay_part` meets its contract.
 use mathlib.Core.Path.{_≡_, ap, _∙_}
 use Prim.Native.Nat.{ℕ, _+_, _-_}
 use native.Mathlib.Omega.{arith}

@@ -1,4 +1,4 @@
--- `write_bytes::put::lay_plain` meets its contract, for bytes and for children. Assumes nothing.
+-- `write_bytes::put::lay_plain` meets its contract, for bytes and for children.
 use mathlib.Core.Path.{_≡_, sym, _∙_}
 use Prim.Native.Nat.{_+_}
 use native.Mathlib.Omega.{arith}

@@ -1,4 +1,4 @@
--- `write_bytes::put::lay_record` meets its contract: two halves of three words. Assumes nothing.
+-- `write_bytes::put::lay_record` meets its contract: two halves of three words.
 use mathlib.Core.Path.{ap}
 use Prim.Native.Nat.{ℕ, _+_}
 use borrow.Author.Needs.{needs}

@@ -1,4 +1,4 @@
--- `write_bytes::put::lay_three` meets its contract. Assumes nothing.
+-- `write_bytes::put::lay_three` meets its contract.
 use borrow.Author.Needs.{needs}
 use Rattle.write_bytes.proofs.PutLaws.{put-three}
 use Rattle.write_bytes.proofs.put.lay_three.Statement.{statement}

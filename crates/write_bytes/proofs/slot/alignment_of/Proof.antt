@@ -1,4 +1,4 @@
--- `write_bytes::slot::alignment_of` meets its contract. Assumes nothing.
+-- `write_bytes::slot::alignment_of` meets its contract.
 use mathlib.Core.Path.{sym}
 use Rattle.write_bytes.proofs.KindLaws.{kind-value, kind-rest}
 use Rattle.write_bytes.proofs.slot.alignment_of.Statement.{statement}

@@ -1,4 +1,4 @@
--- `write_bytes::slot::cover` meets its contract, kind by kind. Assumes nothing.
+-- `write_bytes::slot::cover` meets its contract, kind by kind.
 use mathlib.Core.Path.{_≡_, sym, ap, _∙_}
 use Prim.Native.Nat.{ℕ, _+_, _*_, _≤_}
 use native.Mathlib.Omega.{arith}

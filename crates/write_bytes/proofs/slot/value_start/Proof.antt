@@ -1,4 +1,4 @@
--- `write_bytes::slot::value_start` meets its contract. Assumes nothing.
+-- `write_bytes::slot::value_start` meets its contract.
 use mathlib.Core.Path.{ap, _∙_}
 use Prim.Native.Nat.{ℕ, _+_}
 use borrow.Author.Needs.{needs}

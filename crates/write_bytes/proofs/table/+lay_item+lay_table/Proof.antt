@@ -1,5 +1,5 @@
 -- The cycle of `write_bytes::table::lay_table` and `write_bytes::table::lay_item` meets both contracts. The measure is twice the depth left, and one more for an item.
--- The invariant of the loop: the records, fragments and values of the first k items are laid. Assumes nothing.
+-- The invariant of the loop: the records, fragments and values of the first k items are laid.
 use mathlib.Core.Path.{_≡_, refl, sym, _∙_}
 use Prim.Native.Nat.{ℕ, _+_, _-_, _≤_, _<_}
 use native.Mathlib.Omega.{arith}

@@ -1,4 +1,4 @@
--- `write_bytes::whole::lay_image` meets its contract. Assumes nothing.
+-- `write_bytes::whole::lay_image` meets its contract.
 use native.Mathlib.Omega.{arith}
 use borrow.Author.Needs.{needs}
 use Rattle.write_bytes.proofs.ImageLaws.{length-image, image-laid}

@@ -1,4 +1,4 @@
--- `write_bytes::whole::measure` meets its contract. Assumes nothing.
+-- `write_bytes::whole::measure` meets its contract.
 use mathlib.Core.Path.{sym, ap, _∙_}
 use borrow.Author.Needs.{needs}
 use Rattle.write_bytes.specs.Measure.{measured}

@@ -1,4 +1,4 @@
--- `write_numbers::collect::collect` meets its contract. The invariant: the items of the table among the first i are stored. Assumes nothing.
+-- `write_numbers::collect::collect` meets its contract. The invariant: the items of the table among the first i are stored.
 use mathlib.Core.Path.{_≡_, refl, sym, ap, _∙_}
 use Prim.Native.Nat.{ℕ, _-_, _≤_}
 use native.Mathlib.Omega.{arith}

@@ -1,4 +1,4 @@
--- `write_numbers::collect::has_items` meets its contract. The invariant: no item among the first k is in the table. Assumes nothing.
+-- `write_numbers::collect::has_items` meets its contract. The invariant: no item among the first k is in the table.
 use mathlib.Core.Path.{_≡_, sym, _∙_}
 use mathlib.Core.Bool.{false}
 use Prim.Native.Nat.{_-_, _≤_}

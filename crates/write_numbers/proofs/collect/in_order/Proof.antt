@@ -1,4 +1,4 @@
--- `write_numbers::collect::in_order` meets its contract: the items are collected, then sorted. Assumes nothing.
+-- `write_numbers::collect::in_order` meets its contract: the items are collected, then sorted.
 use native.Mathlib.Omega.{arith}
 use Rattle.write_numbers.proofs.TableLaws.{collected-few, collected-long, collected-known, collected-order}
 use borrow.Author.Needs.{needs}

@@ -1,4 +1,4 @@
--- `write_numbers::collect::sort_first` meets its contract: the part that is lent is sorted. Assumes nothing.
+-- `write_numbers::collect::sort_first` meets its contract: the part that is lent is sorted.
 use mathlib.Core.Path.{_≡_, sym, _∙_}
 use native.Mathlib.Omega.{arith}
 use lib.ListN.{length, drop}

@@ -1,4 +1,4 @@
--- `write_numbers::fill::copy_first` meets its contract. The invariant: the first j words are copied. Assumes nothing.
+-- `write_numbers::fill::copy_first` meets its contract. The invariant: the first j words are copied.
 use mathlib.Core.Path.{_≡_, refl, _∙_}
 use Prim.Native.Nat.{_-_, _≤_}
 use native.Mathlib.Omega.{arith}

@@ -1,4 +1,4 @@
--- `write_numbers::fill::fill` meets its contract. The invariant: the tables before t are filled, and the words are as they were. Assumes nothing.
+-- `write_numbers::fill::fill` meets its contract. The invariant: the tables before t are filled, and the words are as they were.
 use mathlib.Core.Path.{_≡_, refl, sym, ap, _∙_}
 use Prim.Native.Nat.{_-_, _≤_}
 use native.Mathlib.Omega.{arith}

@@ -1,4 +1,4 @@
--- `write_numbers::fill::put_table` meets its contract: nothing is put for a table that has no item. Assumes nothing.
+-- `write_numbers::fill::put_table` meets its contract: nothing is put for a table that has no item.
 use mathlib.Core.Path.{refl, sym, _∙_}
 use borrow.Author.Tests.{not-true}
 use Rattle.write_numbers.proofs.BareLaws.{put-bare}

@@ -1,4 +1,4 @@
--- `write_numbers::fill::roster_all` meets its contract: the parts filled, then copied one behind the other. Assumes nothing.
+-- `write_numbers::fill::roster_all` meets its contract: the parts filled, then copied one behind the other.
 use mathlib.Core.Path.{refl}
 use Rattle.write_numbers.proofs.RosterLaws.{whole-judged, rostered}
 use borrow.Author.Needs.{needs}

@@ -1,4 +1,4 @@
--- `write_numbers::table::index_links` meets its contract: the links that are lent hold the empty mark, and come back so. Assumes nothing.
+-- `write_numbers::table::index_links` meets its contract: the links that are lent hold the empty mark, and come back so.
 use mathlib.Core.Path.{ap, _∙_}
 use native.Mathlib.Omega.{arith}
 use borrow.Rule.Slice.PartMut.{putMid, put-same}

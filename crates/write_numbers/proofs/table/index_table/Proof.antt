@@ -1,4 +1,4 @@
--- `write_numbers::table::index_table` meets its contract: the items in order, their places by number, and the items there. Assumes nothing.
+-- `write_numbers::table::index_table` meets its contract: the items in order, their places by number, and the items there.
 use mathlib.Core.Path.{sym}
 use native.Mathlib.Omega.{arith}
 use lib.ListN.{replicate}

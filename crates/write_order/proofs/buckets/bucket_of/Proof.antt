@@ -1,4 +1,4 @@
--- `write_order::buckets::bucket_of` meets its contract. Assumes nothing.
+-- `write_order::buckets::bucket_of` meets its contract.
 use mathlib.Core.Path.{refl}
 use native.Mathlib.Nat.{mod-lt}
 use native.Mathlib.Omega.{arith}

@@ -1,5 +1,5 @@
 -- `write_order::buckets::drain_chain` meets its contract. The invariant: the chain is split into the places passed, which are in `order` and whose
--- links are cleared, and the rest, which is still chained. Assumes nothing.
+-- links are cleared, and the rest, which is still chained.
 use mathlib.Core.Path.{_≡_, refl, sym, ap, _∙_}
 use mathlib.Core.List.{List, [], _∷_, _++_, append-assoc, append-nil}
 use Prim.Native.Nat.{ℕ, _+_, _-_, _≤_, _<_}
@@ -61,7 +61,7 @@ module _ {links₀ order₀ : List ℕ} {head at : ℕ} {links order : List ℕ}
   turn : Draining links₀ order₀ head at links order p end → (p ≡ mark → ⊥) → Turn links₀ order₀ head at links order p end
   turn s n = turn-at (s .done) (s .rest) (s .whole) (s .chained) (s .once) (s .end-is) (s .order-is) (s .links-is) (s .fits) (s .links-long) (s .order-long) n
 
-  -- at the mark nothing is left
+  -- at the empty mark nothing is left
   drained : Draining links₀ order₀ head at links order p end → p ≡ mark → Drained links₀ links order₀ order head at end
   unfolding Drained Chain
   drained s e l c =

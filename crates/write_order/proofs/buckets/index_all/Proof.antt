@@ -1,5 +1,5 @@
 -- `write_order::buckets::index_all` meets its contract. The invariant: the buckets before b are numbered and their links cleared, and the chains of
--- the others stand. Assumes nothing.
+-- the others stand.
 use mathlib.Core.Path.{_≡_, refl, sym, ap, _∙_}
 use mathlib.Core.Logic.{⊎-elim}
 use mathlib.Core.List.{List}
@@ -57,7 +57,7 @@ module _ {hashes heads links₀ order₀ firsts₀ links order firsts : List ℕ
     fits = omega (arith, start-fits hashes b, s .end-is, s .order-long);
   }
 
-  -- what holds the mark once this bucket is cleared too
+  -- what holds the empty mark once this bucket is cleared too
   cleared-next : length hashes ≤ length links₀ → (i : ℕ) → i < length links → (i < length hashes → bucketOf hashes i < b + 1)
       → getD (cleared links (run hashes b (length hashes))) i 0 ≡ mark
   cleared-next room i l h =

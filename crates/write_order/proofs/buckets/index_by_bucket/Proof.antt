@@ -1,4 +1,4 @@
--- `write_order::buckets::index_by_bucket` meets its contract: a fresh head for each bucket, the chains built, and taken apart again. Assumes nothing.
+-- `write_order::buckets::index_by_bucket` meets its contract: a fresh head for each bucket, the chains built, and taken apart again.
 use mathlib.Core.Path.{_∙_}
 use native.Mathlib.Omega.{arith}
 use borrow.Author.Needs.{needs}

@@ -1,4 +1,4 @@
--- `write_order::items::hash_all` meets its contract. The invariant: the hashes of the first k items are stored. Assumes nothing.
+-- `write_order::items::hash_all` meets its contract. The invariant: the hashes of the first k items are stored.
 use mathlib.Core.Path.{_≡_, refl, _∙_}
 use Prim.Native.Nat.{_-_, _≤_}
 use native.Mathlib.Omega.{arith}

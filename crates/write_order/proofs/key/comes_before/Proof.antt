@@ -1,4 +1,4 @@
--- `write_order::key::comes_before` meets its contract. Assumes nothing.
+-- `write_order::key::comes_before` meets its contract.
 use mathlib.Core.Path.{_∙_}
 use borrow.Author.Needs.{needs}
 use Rattle.write_order.proofs.key.comes_before.Statement.{statement}

@@ -1,4 +1,4 @@
--- `write_order::key::hash_of` meets its contract. Assumes nothing.
+-- `write_order::key::hash_of` meets its contract.
 use mathlib.Core.Path.{refl}
 use Rattle.write_order.specs.Key.{hashAt}
 use borrow.Author.Needs.{needs}

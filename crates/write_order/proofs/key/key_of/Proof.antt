@@ -1,4 +1,4 @@
--- `write_order::key::key_of` meets its contract. Assumes nothing.
+-- `write_order::key::key_of` meets its contract.
 use Rattle.write_order.specs.Key.{keyAt}
 use borrow.Author.Needs.{needs}
 use Rattle.write_order.proofs.key.key_of.Statement.{statement}

@@ -1,5 +1,5 @@
 -- `write_order::sort::sort` and the two that sort a half of it meet their contracts. The measure is twice the length that is sorted, and one more
--- for a half. Assumes nothing.
+-- for a half.
 use mathlib.Core.Path.{_≡_, sym, ap, _∙_}
 use Prim.Native.Nat.{ℕ, _+_, _-_, _/_, _≤_, _<_}
 use native.Mathlib.Omega.{arith}

@@ -1,4 +1,4 @@
--- `write_order::sort::copy_over` meets its contract. The invariant: the first i words are copied, and the rest is as it was. Assumes nothing.
+-- `write_order::sort::copy_over` meets its contract. The invariant: the first i words are copied, and the rest is as it was.
 use mathlib.Core.Path.{_≡_, refl, sym, ap, _∙_}
 use mathlib.Core.List.{List, _++_, append-nil}
 use Prim.Native.Nat.{ℕ, suc, _+_, _-_, _≤_, _<_}

@@ -1,5 +1,5 @@
 -- `write_order::sort::merge` meets its contract. The invariant: what is in `out`, and the merge of what is left of the two runs, make the whole
--- merge. Assumes nothing.
+-- merge.
 use mathlib.Core.Path.{_≡_, refl, sym, ap, _∙_}
 use mathlib.Core.Bool.{true, false}
 use mathlib.Core.List.{List, [], _∷_, _++_, append-assoc, append-nil}

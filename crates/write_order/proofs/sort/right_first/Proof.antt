@@ -1,4 +1,4 @@
--- `write_order::sort::right_first` meets its contract: the right run has ended, the left one has, or both have an item. Assumes nothing.
+-- `write_order::sort::right_first` meets its contract: the right run has ended, the left one has, or both have an item.
 use mathlib.Core.Path.{_≡_, sym, _∙_}
 use Prim.Native.Nat.{_<_}
 use native.Mathlib.Omega.{arith}

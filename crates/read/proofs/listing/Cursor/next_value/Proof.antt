@@ -1,4 +1,4 @@
--- `read::listing::Cursor::next_value` meets its contract: a table that opens lies in the file. Assumes nothing.
+-- `read::listing::Cursor::next_value` meets its contract: a table that opens lies in the file.
 use mathlib.Core.Path.{sym, _∙_}
 use borrow.Author.Needs.{needs}
 use Rattle.layout.proofs.OpenLaws.{opened-in-file}

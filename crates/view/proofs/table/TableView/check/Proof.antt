@@ -1,6 +1,5 @@
 -- `view::table::TableView::check` meets its contract: a walk of its MIR.
 -- All that the proof knows of a callee is that it meets its contract. What holds references is Copy and is had twice; what is plain is made anew from its relation.
--- Assumes nothing.
 use mathlib.Core.Path.{_≡_, refl}
 use mathlib.Core.List.{[], _∷_}
 use lib.Dec.{T as Holds}

@@ -1,6 +1,5 @@
 -- `view::table::TableView::next_key` meets its contract: a walk of its MIR. The buffer is lent on to the callee for good: the callee's last list is the buffer's at exit.
 -- All that the proof knows of a callee is that it meets its contract. What holds references is Copy and is had twice; what is plain is made anew from its relation.
--- Assumes nothing.
 use mathlib.Core.Path.{_≡_, refl}
 use Prim.Native.Nat.{ℕ}
 use mathlib.Core.List.{List, [], _∷_}
