@@ -51,7 +51,11 @@ impl Args {
             return Ok(());
         }
         let Some(&valued) = spec.valued.iter().find(|valued| valued.as_bytes() == option) else {
-            return Err(Failure::usage(format!("unknown option {} (a key that begins with - stands behind --)", name(word))));
+            let hint = match near(option, spec.flags.iter().chain(spec.valued).copied()) {
+                Some(near) => format!("; is {near} meant?"),
+                None => " (a key that begins with - stands behind --)".to_string(),
+            };
+            return Err(Failure::usage(format!("unknown option {}{hint}", name(word))));
         };
         if !REPEATED.contains(&valued) && self.value(valued).is_some() {
             return Err(Failure::usage(format!("{valued} is given twice")));
@@ -96,6 +100,29 @@ impl Args {
     }
 }
 
+/// The known word that was most likely meant by another: one that it begins, or that is a slip or two away.
+pub fn near(word: &[u8], known: impl Iterator<Item = &'static str>) -> Option<&'static str> {
+    let begins = |known: &str| word.len() > 3 && known.as_bytes().starts_with(word);
+    let slips = |known: &str| if begins(known) { 1 } else { slips(word, known.as_bytes()) };
+    let likely = |slips: usize| slips <= 2 && word.len() > 2 && slips * 2 <= word.len();
+    known.map(|known| (slips(known), known)).filter(|(slips, _)| likely(*slips)).min().map(|(_, known)| known)
+}
+
+/// How many letters are changed, left out or put in between two words. Two that are swapped count as two.
+fn slips(a: &[u8], b: &[u8]) -> usize {
+    let mut row: Vec<usize> = (0..=b.len()).collect();
+    for (i, from) in a.iter().enumerate() {
+        let mut corner = row[0];
+        row[0] = i + 1;
+        for (j, to) in b.iter().enumerate() {
+            let changed = corner + usize::from(from != to);
+            corner = row[j + 1];
+            row[j + 1] = changed.min(row[j] + 1).min(corner + 1);
+        }
+    }
+    row[b.len()]
+}
+
 /// `--name=word` in two.
 fn split(word: &OsStr) -> (&[u8], Option<OsString>) {
     let bytes = word.as_bytes();
@@ -124,6 +151,13 @@ mod tests {
     }
 
     #[test]
+    fn slips_are_counted() {
+        for (a, b, count) in [("", "", 0), ("", "ab", 2), ("check", "chek", 1), ("merge", "mrege", 2), ("list", "tree", 4), ("get", "got", 1)] {
+            assert_eq!((slips(a.as_bytes(), b.as_bytes()), slips(b.as_bytes(), a.as_bytes())), (count, count), "{a} {b}");
+        }
+    }
+
+    #[test]
     fn bad_usage_is_named() {
         for (line, said) in [
             ("", "FILE is missing"),
@@ -132,6 +166,10 @@ mod tests {
             ("a -o b -o c", "-o is given twice"),
             ("a --json=1", "--json takes no word"),
             ("a --nope", "unknown option --nope (a key that begins with - stands behind --)"),
+            ("a --jsno", "unknown option --jsno; is --json meant?"),
+            ("a -json", "unknown option -json; is --json meant?"),
+            ("a --tab=b", "unknown option --tab=b; is --table meant?"),
+            ("a -k", "unknown option -k (a key that begins with - stands behind --)"),
         ] {
             assert_eq!(parse(line).err().as_deref(), Some(said), "{line}");
         }

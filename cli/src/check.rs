@@ -1,61 +1,98 @@
 //! `gvdb check`: every table of a file, nested ones too.
 
 use crate::args::Args;
-use crate::failure::{Failure, NO};
+use crate::failure::{name, Failure, NO};
 use crate::json::Json;
 use crate::out::{self, Colour, Out};
 use crate::source::{Source, Walk};
 use crate::text;
-use gvdb::{Item, Table, Unsound};
+use gvdb::{Refusal, Table, Unsound};
 use std::ffi::OsStr;
+use std::io::Write;
 
 /// What the check says of one table.
-pub struct Verdict {
+struct Verdict {
     /// The keys of the tables on the way to it; none for the root.
     path: Vec<String>,
     items: usize,
     broken: Option<Broken>,
 }
 
-struct Broken {
+/// A rule that a table breaks.
+pub struct Broken {
     unsound: Unsound,
     /// The item's key, or why it does not read.
-    key: Result<String, gvdb::Refusal>,
+    key: Result<String, Refusal>,
 }
 
 pub fn run(args: &Args, out: &mut Out) -> Result<u8, Failure> {
     let mut status = 0;
     let mut files = Vec::new();
     for file in args.words() {
-        let checked = Checked::of(file);
-        status = status.max(checked.status());
-        match args.flag("--json") {
-            true => files.push(checked.json(file)),
-            false => checked.print(out)?,
+        let mut checked = Checked::default();
+        if args.flag("--json") {
+            checked.file(file, &mut |_, _| Ok(()))?;
+            files.push(checked.json(file));
+        } else {
+            checked.file(file, &mut |source, verdict| verdict.print(source, out))?;
+            checked.failure.iter().for_each(|failure| out::say(&failure.line));
         }
+        status = status.max(checked.status());
     }
     if args.flag("--json") {
-        out.line(Json::List(files).to_string())?;
+        Json::List(files).print(out)?;
     }
     Ok(status)
 }
 
+/// Is told each verdict as it comes.
+type Tell<'t> = &'t mut dyn FnMut(&Source, &Verdict) -> Result<(), Failure>;
+
 /// A file's tables, as far as they could be walked, and what ended the walk early.
+#[derive(Default)]
 struct Checked {
-    source: Option<Source>,
+    order: Option<&'static str>,
     tables: Vec<Verdict>,
     failure: Option<Failure>,
 }
 
 impl Checked {
-    fn of(file: &OsStr) -> Checked {
+    /// Checks a file. Only what `tell` says ends it early; what is wrong with the file is kept.
+    fn file(&mut self, file: &OsStr, tell: Tell) -> Result<(), Failure> {
         let source = match Source::read(file) {
             Ok(source) => source,
-            Err(failure) => return Checked { source: None, tables: Vec::new(), failure: Some(failure) },
+            Err(failure) => return self.ended(failure),
         };
-        let mut tables = Vec::new();
-        let failure = source.root().and_then(|root| visit(&source, root, &mut Vec::new(), &mut source.walk(), &mut tables)).err();
-        Checked { source: Some(source), tables, failure }
+        self.order = Some(source.header.order.name());
+        match source.root() {
+            Ok(root) => self.table(&source, root, &mut Vec::new(), &mut source.walk(), tell),
+            Err(failure) => self.ended(failure),
+        }
+    }
+
+    fn ended(&mut self, failure: Failure) -> Result<(), Failure> {
+        self.failure = Some(failure);
+        Ok(())
+    }
+
+    /// Checks a table and those nested in it: each before those it holds.
+    fn table(&mut self, source: &Source, table: Table, path: &mut Vec<String>, walk: &mut Walk, tell: Tell) -> Result<(), Failure> {
+        if let Err(failure) = walk.enter(&table, path) {
+            return self.ended(failure);
+        }
+        out::progress(source.bytes.len(), || format!("{}: {}: checking {}", source.name, table_name(path), text::count(table.len(), "item")));
+        let verdict = Verdict { path: path.clone(), items: table.len(), broken: Broken::of(&table) };
+        tell(source, &verdict)?;
+        self.tables.push(verdict);
+        for (key, nested) in table.tables() {
+            path.push(key);
+            self.table(source, nested, path, walk, tell)?;
+            path.pop();
+            if self.failure.is_some() {
+                break;
+            }
+        }
+        Ok(())
     }
 
     fn status(&self) -> u8 {
@@ -63,61 +100,40 @@ impl Checked {
         self.failure.as_ref().map_or(0, |failure| failure.status).max(if broken { NO } else { 0 })
     }
 
-    fn print(&self, out: &mut Out) -> Result<(), Failure> {
-        for table in &self.tables {
-            let name = self.source.as_ref().map_or("", |source| &source.name);
-            let said = match &table.broken {
-                None => format!("{}, {}", out.paint(Colour::Green, "sound"), text::count(table.items, "item")),
-                Some(broken) => out.paint(Colour::Red, "not sound") + ", " + &broken.sentence(),
-            };
-            out.line(format!("{name}: {}: {said}", table_name(&table.path)))?;
-        }
-        if let Some(failure) = &self.failure {
-            out::say(&failure.line);
-        }
-        Ok(())
-    }
-
     fn json(&self, file: &OsStr) -> Json {
-        let order = self.source.as_ref().map_or(Json::Null, |source| Json::text(source.header.order.name()));
-        let refusal = self
-            .failure
-            .as_ref()
-            .map_or(Json::Null, |failure| Json::Object(vec![("number", Json::number(failure.number)), ("line", Json::text(&failure.line))]));
+        let refusal = |failure: &Failure| Json::Object(vec![("number", Json::number(failure.number)), ("line", Json::text(&failure.line))]);
         Json::Object(vec![
-            ("file", Json::text(file.to_string_lossy())),
+            ("file", Json::text(name(file))),
             ("sound", Json::Bool(self.status() == 0)),
             ("status", Json::Number(self.status().into())),
-            ("byte_order", order),
+            ("byte_order", self.order.map_or(Json::Null, Json::text)),
             ("tables", Json::List(self.tables.iter().map(Verdict::json).collect())),
-            ("failure", refusal),
+            ("failure", self.failure.as_ref().map_or(Json::Null, refusal)),
         ])
     }
 }
 
-/// Checks a table and those nested in it: each before those it holds.
-fn visit(source: &Source, table: Table, path: &mut Vec<String>, walk: &mut Walk, verdicts: &mut Vec<Verdict>) -> Result<(), Failure> {
-    walk.enter(&table, path)?;
-    out::progress(source.bytes.len(), || format!("{}: {}: checking {}", source.name, table_name(path), text::count(table.len(), "item")));
-    let broken = table.check().err().map(|unsound| Broken { unsound, key: table.key_at(unsound.item) });
-    verdicts.push(Verdict { path: path.clone(), items: table.len(), broken });
-    for entry in table.entries() {
-        if let (Ok(key), Ok(Item::Table(nested))) = (entry.key, entry.item) {
-            path.push(key);
-            visit(source, nested, path, walk, verdicts)?;
-            path.pop();
-        }
+impl Verdict {
+    /// The table's line, which is out before the next table is begun.
+    fn print(&self, source: &Source, out: &mut Out) -> Result<(), Failure> {
+        let said = match &self.broken {
+            None => format!("{}, {}", out.paint(Colour::Green, "sound"), text::count(self.items, "item")),
+            Some(broken) => format!("{}: {} {}", out.paint(Colour::Red, "not sound"), broken.words(), broken.numbers()),
+        };
+        out.line(format!("{}: {}: {said}", source.name, table_name(&self.path)))?;
+        Ok(out.stdout.flush()?)
     }
-    Ok(())
+
+    fn json(&self) -> Json {
+        let mut fields = vec![("path", Json::texts(&self.path)), ("items", Json::Number(self.items)), ("sound", Json::Bool(self.broken.is_none()))];
+        fields.extend(self.broken.iter().flat_map(Broken::json));
+        Json::Object(fields)
+    }
 }
 
 /// Whether a table passes, as a failure that names what is broken.
 pub fn sound(name: &str, table: &Table, path: &[String]) -> Result<(), Failure> {
-    table.check().map_err(|unsound| {
-        let broken = Broken { unsound, key: table.key_at(unsound.item) };
-        let line = format!("{name}: {}: not sound, {}", table_name(path), broken.sentence());
-        Failure { number: Some(gvdb::Refusal::CheckBroken.number()), ..Failure::no(line) }
-    })
+    Broken::of(table).map_or(Ok(()), |broken| Err(broken.failure(name, path, "gvdb list FILE shows what reads")))
 }
 
 fn table_name(path: &[String]) -> String {
@@ -128,26 +144,38 @@ fn table_name(path: &[String]) -> String {
 }
 
 impl Broken {
-    fn sentence(&self) -> String {
-        let Unsound { rule, item } = self.unsound;
-        let meaning = self.unsound.meaning();
+    /// The first rule that a table breaks, if it breaks one.
+    pub fn of(table: &Table) -> Option<Broken> {
+        let unsound = table.check().err()?;
+        Some(Broken { unsound, key: table.key_at(unsound.item) })
+    }
+
+    /// Where a table breaks what, and what to do or to know, as a failure.
+    pub fn failure(&self, name: &str, path: &[String], hint: &str) -> Failure {
+        let line = format!("{name}: {}: not sound: {}; {hint} {}", table_name(path), self.words(), self.numbers());
+        Failure { number: Some(Refusal::CheckBroken.number()), ..Failure::no(line) }
+    }
+
+    fn words(&self) -> String {
+        let (item, meaning) = (self.unsound.item, self.unsound.meaning());
         match &self.key {
-            Ok(key) => format!("rule {rule} is broken by item {item}, key {}: {meaning}", text::cut(&text::quoted(key))),
-            Err(refusal) => format!("rule {rule} is broken by item {item}: {meaning} ({refusal})"),
+            Ok(key) => format!("item {item}, key {}: {meaning}", text::cut(&text::quoted(key))),
+            Err(refusal) => format!("item {item}: {meaning}: {}", refusal.sentence()),
         }
     }
-}
 
-impl Verdict {
-    fn json(&self) -> Json {
-        let mut fields = vec![("path", Json::texts(&self.path)), ("items", Json::Number(self.items)), ("sound", Json::Bool(self.broken.is_none()))];
-        if let Some(Broken { unsound, key }) = &self.broken {
-            fields.push(("rule", Json::Number(unsound.rule as usize)));
-            fields.push(("item", Json::Number(unsound.item)));
-            fields.push(("key", key.as_ref().map_or(Json::Null, Json::text)));
-            fields.push(("key_refusal", Json::number(key.as_ref().err().map(|refusal| refusal.number()))));
-            fields.push(("meaning", Json::text(unsound.meaning())));
-        }
-        Json::Object(fields)
+    fn numbers(&self) -> String {
+        let refusal = self.key.as_ref().err().map_or(String::new(), |refusal| format!(", refusal {}", refusal.number()));
+        format!("(rule {}{refusal})", self.unsound.rule)
+    }
+
+    pub fn json(&self) -> Vec<(&'static str, Json)> {
+        vec![
+            ("rule", Json::Number(self.unsound.rule as usize)),
+            ("item", Json::Number(self.unsound.item)),
+            ("key", self.key.as_ref().map_or(Json::Null, Json::text)),
+            ("key_refusal", Json::number(self.key.as_ref().err().map(|refusal| refusal.number()))),
+            ("meaning", Json::text(self.unsound.meaning())),
+        ]
     }
 }

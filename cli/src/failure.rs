@@ -3,9 +3,10 @@
 use gvdb::Refusal;
 use std::ffi::OsStr;
 use std::io;
+use std::os::unix::ffi::OsStrExt;
 use std::path::Path;
 
-use crate::text;
+use crate::{advice, text};
 
 /// The answer is no: not sound, no such key, a conflict, a refusal of the builder.
 pub const NO: u8 = 1;
@@ -46,7 +47,15 @@ impl Failure {
     /// A refusal, with what was refused before it.
     pub fn refused(status: u8, what: &str, told: impl Into<Told>) -> Failure {
         let Told { number, sentence } = told.into();
-        Failure { status, line: format!("{what}: refusal {number}: {sentence}"), number: Some(number) }
+        match advice::of(number) {
+            "" => Failure::told(status, what, number, sentence),
+            advice => Failure::told(status, what, number, &format!("{sentence}; {advice}")),
+        }
+    }
+
+    /// What was refused, why and what to do in words, and the number last.
+    pub fn told(status: u8, what: &str, number: u32, words: &str) -> Failure {
+        Failure { status, line: format!("{what}: {words} ({number})"), number: Some(number) }
     }
 
     /// A file or folder that the system does not let us read or write.
@@ -65,7 +74,7 @@ impl From<io::Error> for Failure {
     }
 }
 
-/// The name of a file as it is printed: on one line.
+/// The name of a file as it is printed: on one line, and so that it can be told back.
 pub fn name(path: &OsStr) -> String {
-    text::shown(&path.to_string_lossy())
+    text::escaped_bytes(path.as_bytes())
 }

@@ -13,8 +13,12 @@ gvdb: checks, lists, merges, dumps and builds GVDB files
     gvdb COMMAND --help              more, with an example
     gvdb --version
 
-Exit status: 0 done; 1 the answer is no (not sound, no such key, a conflict, a refusal);
-2 bad usage, or something cannot be read or written.
+Where a file is read, - is standard input. Keys are given as `gvdb list` prints them: a
+backslash is \\\\, a tab \\t, a newline \\n, a return \\r, and a byte of any other control
+character, or of one that is not seen, \\xHH. File names are printed so too.
+
+Exit status: 0 done; 1 the answer is no (not sound, no such key, a conflict, a
+refusal); 2 bad usage, or something cannot be read or written.
 ";
 
 pub const CHECK: &str = "\
@@ -23,8 +27,8 @@ gvdb check FILE... [--json]
 Checks each table of each file, nested ones too, against six rules: (1) the key of each
 item reads, (2) a lookup of it finds the item, (3) its kind is known, (4) its value opens,
 (5) a container's children are there, name it and stand once, (6) the parent of an item is
-a container that lists it. Of a table that is not sound the first broken rule is told.
-Exit status: 0 all sound, 1 one is not, 2 one cannot be read.
+a container that lists it. Of a table that is not sound the first broken rule is told, as
+soon as it is found. Exit status: 0 all sound, 1 one is not, 2 one cannot be read.
 
     --json    one list, with an object for each file
 
@@ -32,23 +36,28 @@ Exit status: 0 all sound, 1 one is not, 2 one cannot be read.
 ";
 
 pub const LIST: &str = "\
-gvdb list FILE [PREFIX] [--values] [--table KEY]... [--json]
+gvdb list FILE [PREFIX] [--values] [--table KEY]... [--no-check] [--json]
 
 Lists the keys of the root table that start with PREFIX, in ascending order. The size is
 in bytes for a value, in items for a table, and for a container in items right below it.
-Control characters and backslashes are escaped as by `gvdb dump`.
+A key is printed so that it can be given back, here and to `gvdb get`: see gvdb --help.
+A table that is not sound is listed as lookups answer, and it is said.
 
     --values      hex of values of at most 32 bytes, behind a TAB
     --table KEY   the nested table at KEY instead; again for one in that
-    --json        one object
+    --no-check    do not ask whether the table is sound; that can take long
+    --json        one object, with every byte of each value
 
     gvdb list anna.gvdb /parcel/12/ --values
 ";
 
 pub const TREE: &str = "\
-gvdb tree FILE
+gvdb tree FILE [--json]
 
-Draws the containers and nested tables of a file, with the size of each value.
+Draws the containers and nested tables of a file, with the size of each value. Exit status
+1 where a table is not sound: it is drawn as far as it reads, and it is said.
+
+    --json    one object; what is below an item is in its list `below`
 
     gvdb tree anna.gvdb
 ";
@@ -57,6 +66,7 @@ pub const GET: &str = "\
 gvdb get FILE KEY [--table KEY]... [--hex | --raw]
 
 Writes the value at KEY: its bytes as they are to a pipe or a file, hex to a terminal.
+Keys are given as `gvdb list` prints them.
 
     --table KEY   look in the nested table at KEY; again for one in that
     --hex, --raw  hex, or the bytes, wherever it goes

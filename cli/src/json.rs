@@ -1,6 +1,10 @@
 //! JSON, written from a value, so that it is always whole.
 
+use crate::failure::Failure;
+use crate::out::Out;
+use crate::text::is_unseen;
 use std::fmt::{self, Display, Formatter, Write};
+use std::io::Write as _;
 
 pub enum Json {
     Null,
@@ -18,6 +22,11 @@ impl Json {
 
     pub fn texts<'a>(texts: impl IntoIterator<Item = &'a String>) -> Json {
         Json::List(texts.into_iter().map(Json::text).collect())
+    }
+
+    /// The value on one line of standard output.
+    pub fn print(&self, out: &mut Out) -> Result<(), Failure> {
+        Ok(writeln!(out.stdout, "{self}")?)
     }
 
     pub fn number(number: Option<u32>) -> Json {
@@ -50,14 +59,18 @@ impl Display for Json {
     }
 }
 
-/// A string of any characters. Control characters, those from 127 to 159 too, are written by their number.
+/// A string of any characters. Those that are not seen are written by their number.
 fn string(f: &mut Formatter<'_>, text: &str) -> fmt::Result {
     f.write_char('"')?;
     for c in text.chars() {
         match c {
             '"' => f.write_str("\\\"")?,
             '\\' => f.write_str("\\\\")?,
-            c if c.is_control() => write!(f, "\\u{:04x}", c as u32)?,
+            c if is_unseen(c) => {
+                for unit in c.encode_utf16(&mut [0; 2]) {
+                    write!(f, "\\u{unit:04x}")?;
+                }
+            }
             c => f.write_char(c)?,
         }
     }
@@ -71,9 +84,9 @@ mod tests {
     #[test]
     fn strings_and_nests() {
         let json = Json::Object(vec![
-            ("a", Json::text("tab\t quote\" back\\ nul\0 del\u{7f} é")),
+            ("a", Json::text("tab\t quote\" back\\ nul\0 del\u{7f} turn\u{202e} tag\u{e0041} é")),
             ("b", Json::List(vec![Json::Null, Json::Bool(true), Json::Number(7), Json::List(vec![])])),
         ]);
-        assert_eq!(json.to_string(), r#"{"a":"tab\u0009 quote\" back\\ nul\u0000 del\u007f é","b":[null,true,7,[]]}"#);
+        assert_eq!(json.to_string(), r#"{"a":"tab\u0009 quote\" back\\ nul\u0000 del\u007f turn\u202e tag\udb40\udc41 é","b":[null,true,7,[]]}"#);
     }
 }

@@ -1,14 +1,14 @@
 //! `gvdb list`: the keys of one table, with kind and size; and `gvdb get`: one value.
 
 use crate::args::Args;
-use crate::failure::{Failure, Told, NO};
+use crate::check::Broken;
+use crate::failure::{name, Failure};
 use crate::json::Json;
 use crate::out::{self, Colour, Out};
-use crate::source::Source;
-use crate::{check, text};
-use gvdb::{Entry, Item};
+use crate::source::{not_found, Source, Walk};
+use crate::text;
+use gvdb::{Entry, Item, Refusal};
 use std::io::Write;
-use std::os::unix::ffi::OsStrExt;
 
 /// Values of so many bytes are shown by `--values`.
 const SHORT: usize = 32;
@@ -21,21 +21,20 @@ struct Row<'a> {
 }
 
 pub fn run(args: &Args, out: &mut Out) -> Result<u8, Failure> {
+    let prefix = args.words().get(1).map_or(Ok(Vec::new()), |prefix| text::given(prefix))?;
     let source = Source::read(&args.words()[0])?;
-    let table = source.table(args.values("--table"))?;
-    let path: Vec<String> = args.values("--table").map(|key| key.to_string_lossy().into_owned()).collect();
-    if let Err(failure) = check::sound(&source.name, &table, &path) {
-        out::say(format!("{} (kinds are as lookups answer)", failure.line));
+    let (table, path) = source.table(args.values("--table"))?;
+    if let Some(broken) = Some(&table).filter(|_| !args.flag("--no-check")).and_then(Broken::of) {
+        out::say(broken.failure(&source.name, &path, "it is listed as lookups answer").line);
     }
-    let prefix = args.words().get(1).map_or(&b""[..], |prefix| prefix.as_bytes());
-    let mut rows = rows(source.walk().entries(&table)?);
-    rows.retain(|row| prefix.is_empty() || row.entry.key.as_ref().is_ok_and(|key| key.as_bytes().starts_with(prefix)));
+    let mut walk = source.walk();
+    let mut rows = rows(walk.entries(&table)?);
+    rows.retain(|row| prefix.is_empty() || row.entry.key.as_ref().is_ok_and(|key| key.as_bytes().starts_with(&prefix)));
     if args.flag("--json") {
-        let items = rows.iter().map(|row| row.json(args.flag("--values"))).collect();
+        let items = rows.iter().map(|row| row.json(&mut walk)).collect::<Result<_, _>>()?;
         let order = Json::text(source.header.order.name());
-        let fields =
-            vec![("file", Json::text(source.path.to_string_lossy())), ("byte_order", order), ("table", Json::texts(&path)), ("items", Json::List(items))];
-        out.line(Json::Object(fields).to_string())?;
+        let file = Json::text(name(source.path.as_os_str()));
+        Json::Object(vec![("file", file), ("byte_order", order), ("table", Json::texts(&path)), ("items", Json::List(items))]).print(out)?;
         return Ok(0);
     }
     for row in &rows {
@@ -64,63 +63,82 @@ fn rows(entries: Vec<Entry>) -> Vec<Row> {
 }
 
 impl Row<'_> {
-    /// Kind and size: bytes of a value, items of a table, items right below a container.
-    fn kind(&self) -> Result<(&'static str, usize), Told> {
+    /// The bytes of a value, the items of a table, the items right below a container.
+    fn size(&self) -> Option<usize> {
         match &self.entry.item {
-            Ok(Item::Value(bytes)) => Ok(("value", bytes.len())),
-            Ok(Item::Table(nested)) => Ok(("table", nested.len())),
-            Ok(Item::Container) => Ok(("container", self.below)),
-            Err(refusal) => Err((*refusal).into()),
-        }
-    }
-
-    fn short_value(&self) -> Option<String> {
-        match self.entry.item {
-            Ok(Item::Value(bytes)) if bytes.len() <= SHORT => Some(text::hex(bytes)),
-            _ => None,
+            Ok(Item::Value(bytes)) => Some(bytes.len()),
+            Ok(Item::Table(nested)) => Some(nested.len()),
+            Ok(Item::Container) => Some(self.below),
+            Err(_) => None,
         }
     }
 
     fn line(&self, out: &Out, values: bool) -> String {
         let key = match &self.entry.key {
             Ok(key) => text::escaped(key),
-            Err(refusal) => out.paint(Colour::Red, &format!("(item {}: {refusal})", self.entry.index)),
+            Err(refusal) => out.paint(Colour::Red, &unread(self.entry.index, *refusal)),
         };
-        let kind = match self.kind() {
-            Ok((kind, size)) => {
-                let colour = if kind == "value" { Colour::Green } else { Colour::Blue };
-                format!("{} {:>8}", out.paint(colour, &format!("{kind:<9}")), text::grouped(size))
+        let kind = match &self.entry.item {
+            Ok(item) => {
+                let colour = if matches!(item, Item::Value(_)) { Colour::Green } else { Colour::Blue };
+                format!("{} {:>8}", out.paint(colour, &format!("{:<9}", kind(item))), text::grouped(self.size().unwrap_or(0)))
             }
-            Err(told) => out.paint(Colour::Red, &format!("refused {:>10}", told.number)),
+            Err(refusal) => out.paint(Colour::Red, &format!("refused {:>10}", format!("({})", refusal.number()))),
         };
-        match self.short_value().filter(|_| values) {
-            Some(hex) => format!("{kind}  {key}\t{hex}"),
-            None => format!("{kind}  {key}"),
+        match self.entry.item {
+            Ok(Item::Value(bytes)) if values && bytes.len() <= SHORT => format!("{kind}  {key}\t{}", text::hex(bytes)),
+            _ => format!("{kind}  {key}"),
         }
     }
 
-    fn json(&self, values: bool) -> Json {
-        let mut fields = vec![("index", Json::Number(self.entry.index))];
-        match &self.entry.key {
-            Ok(key) => fields.push(("key", Json::text(key))),
-            Err(refusal) => fields.extend([("key", Json::Null), ("key_refusal", Json::number(Some(refusal.number())))]),
+    fn json(&self, walk: &mut Walk) -> Result<Json, Failure> {
+        let mut fields = item_json(&self.entry);
+        fields.extend(self.size().map(|size| ("size", Json::Number(size))));
+        if let Ok(Item::Value(bytes)) = self.entry.item {
+            walk.value(bytes)?;
+            fields.push(("value", Json::Text(text::hex(bytes))));
         }
-        match self.kind() {
-            Ok((kind, size)) => fields.extend([("kind", Json::text(kind)), ("size", Json::Number(size))]),
-            Err(told) => fields.extend([("kind", Json::Null), ("refusal", Json::number(Some(told.number))), ("sentence", Json::text(told.sentence))]),
-        }
-        fields.extend(self.short_value().filter(|_| values).map(|hex| ("value", Json::Text(hex))));
-        Json::Object(fields)
+        Ok(Json::Object(fields))
     }
+}
+
+/// Index, key and kind of an item; in place of what does not read, why.
+pub fn item_json(entry: &Entry) -> Vec<(&'static str, Json)> {
+    let mut fields = vec![("index", Json::Number(entry.index))];
+    match &entry.key {
+        Ok(key) => fields.push(("key", Json::text(key))),
+        Err(refusal) => fields.extend([("key", Json::Null), ("key_refusal", Json::number(Some(refusal.number())))]),
+    }
+    match &entry.item {
+        Ok(item) => fields.push(("kind", Json::text(kind(item)))),
+        Err(refusal) => {
+            let number = Json::number(Some(refusal.number()));
+            fields.extend([("kind", Json::Null), ("refusal", number), ("sentence", Json::text(refusal.sentence()))]);
+        }
+    }
+    fields
+}
+
+fn kind(item: &Item) -> &'static str {
+    match item {
+        Item::Value(_) => "value",
+        Item::Table(_) => "table",
+        Item::Container => "container",
+    }
+}
+
+/// What stands in place of a key that does not read.
+pub fn unread(index: usize, refusal: Refusal) -> String {
+    format!("item {index}, whose key does not read: {} ({})", refusal.sentence(), refusal.number())
 }
 
 /// `gvdb get`: the value's bytes, as they are to a pipe or file, in hex to a terminal.
 pub fn get(args: &Args, out: &mut Out) -> Result<u8, Failure> {
+    let key = text::given(&args.words()[1])?;
     let source = Source::read(&args.words()[0])?;
-    let table = source.table(args.values("--table"))?;
-    let key = &args.words()[1];
-    let what = || format!("{}: key {}", source.name, text::quoted(&key.to_string_lossy()));
-    let value = table.get(key.as_bytes()).map_err(|refusal| Failure::refused(NO, &what(), refusal))?;
+    let (table, _) = source.table(args.values("--table"))?;
+    let what = format!("{}: key {}", source.name, text::quoted_bytes(&key));
+    let value = table.get(&key).map_err(|refusal| not_found(&what, &table, &key, refusal))?;
     if args.flag("--hex") || (out.is_terminal() && !args.flag("--raw")) {
         out.line(text::hex(value))?;
     } else {

@@ -1,5 +1,6 @@
 //! The command line `gvdb`: a thin program over the crate. Each command is a module; this one picks it and ends with its status.
 
+mod advice;
 mod args;
 mod check;
 mod content;
@@ -35,10 +36,10 @@ const COMMANDS: &[Command] = &[
     Command {
         name: "list",
         help: help::LIST,
-        spec: Spec { flags: &["--json", "--values"], valued: &["--table"], words: &["FILE", "[PREFIX]"] },
+        spec: Spec { flags: &["--json", "--values", "--no-check"], valued: &["--table"], words: &["FILE", "[PREFIX]"] },
         run: list::run,
     },
-    Command { name: "tree", help: help::TREE, spec: Spec { flags: &[], valued: &[], words: &["FILE"] }, run: tree::run },
+    Command { name: "tree", help: help::TREE, spec: Spec { flags: &["--json"], valued: &[], words: &["FILE"] }, run: tree::run },
     Command { name: "get", help: help::GET, spec: Spec { flags: &["--hex", "--raw"], valued: &["--table"], words: &["FILE", "KEY"] }, run: list::get },
     Command {
         name: "merge",
@@ -80,10 +81,10 @@ fn run(words: Vec<OsString>, out: &mut Out) -> Result<u8, Failure> {
     let rest: Vec<OsString> = words.collect();
     match first.to_str() {
         Some("--version" | "-V") => return out.line(concat!("gvdb ", env!("CARGO_PKG_VERSION"))).map(|()| 0),
-        Some("--help" | "-h" | "help") => return said(out, rest.first().and_then(|word| command(word)).map_or(help::USAGE, |command| command.help)),
+        Some("--help" | "-h" | "help") => return said(out, rest.first().map_or(Ok(help::USAGE), |word| command(word).map(|command| command.help))?),
         _ => {}
     }
-    let command = command(&first).ok_or_else(|| Failure::usage(format!("no command {} (see gvdb --help)", name(&first))))?;
+    let command = command(&first)?;
     if rest.iter().take_while(|word| *word != "--").any(|word| word == "--help" || word == "-h") {
         return said(out, command.help);
     }
@@ -92,8 +93,12 @@ fn run(words: Vec<OsString>, out: &mut Out) -> Result<u8, Failure> {
     (command.run)(&args, out)
 }
 
-fn command(word: &OsString) -> Option<&'static Command> {
-    COMMANDS.iter().find(|command| word == command.name)
+fn command(word: &OsString) -> Result<&'static Command, Failure> {
+    COMMANDS.iter().find(|command| word == command.name).ok_or_else(|| {
+        let near = args::near(word.as_encoded_bytes(), COMMANDS.iter().map(|command| command.name));
+        let hint = near.map_or(String::new(), |near| format!("; is {near} meant?"));
+        Failure::usage(format!("no command {}{hint} (see gvdb --help)", name(word)))
+    })
 }
 
 fn said(out: &mut Out, text: &str) -> Result<u8, Failure> {

@@ -1,7 +1,7 @@
 //! What a merge tells: every key that stands in both files, and what was dropped.
 
 use crate::content::{self, Content, Node, Place};
-use crate::failure::Failure;
+use crate::failure::{name, Failure};
 use crate::header::ByteOrder;
 use crate::json::Json;
 use crate::out::{Colour, Out};
@@ -73,7 +73,7 @@ type Line = (&'static str, Option<Colour>, String);
 
 impl<'a> Report<'a> {
     pub fn new(own: &Source, other: &Source, out: &Path, keep: Option<Side>, separator: Option<u8>, order: ByteOrder) -> Report<'a> {
-        let [own, other, out] = [own.path.as_path(), &other.path, out].map(|path| path.to_string_lossy().into_owned());
+        let [own, other, out] = [own.path.as_path(), &other.path, out].map(|path| name(path.as_os_str()));
         Report { own, other, out, keep, separator, order, both: Vec::new(), only_own: 0, only_other: 0, values: None, unmade: Vec::new() }
     }
 

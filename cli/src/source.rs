@@ -1,14 +1,14 @@
 //! Files that are read, and the walk over their tables.
 
-use crate::failure::{name, Failure, UNREADABLE};
+use crate::failure::{name, Failure, NO, UNREADABLE};
 use crate::header::{self, Header};
 use crate::{out, text};
-use gvdb::{Entry, Table, MAX_FILE};
+use gvdb::{Entry, Refusal, Table, MAX_FILE};
 use std::ffi::OsStr;
 use std::fs::File;
-use std::io::Read;
-use std::os::unix::ffi::OsStrExt;
-use std::path::{Path, PathBuf};
+use std::io::{self, Read};
+use std::path::PathBuf;
+use std::sync::atomic::{AtomicBool, Ordering};
 
 /// Tables nested deeper than this are not walked.
 pub const DEEPEST: usize = 64;
@@ -16,6 +16,9 @@ pub const DEEPEST: usize = 64;
 const KEY_BYTES: usize = 256 << 20;
 /// The values of one file that are taken, in bytes. Values that do not overlap are no longer than the file.
 const VALUE_BYTES: usize = 64 << 20;
+
+/// Whether standard input was read. Who asks for it twice would get nothing the second time.
+static INPUT_TAKEN: AtomicBool = AtomicBool::new(false);
 
 /// A file with its header, read.
 pub struct Source {
@@ -27,14 +30,19 @@ pub struct Source {
 }
 
 impl Source {
+    /// The file at a path, or standard input for `-`.
     pub fn read(path: &OsStr) -> Result<Source, Failure> {
-        let name = name(path);
-        let path = Path::new(path);
+        let input = path == "-";
+        let name = if input { "standard input".to_string() } else { name(path) };
+        if input && INPUT_TAKEN.swap(true, Ordering::Relaxed) {
+            return Err(Failure::usage("standard input (-) can be read once; give a file's name for the other"));
+        }
+        let failed = |error| Failure::usage(format!("{name}: {error}"));
         let mut bytes = Vec::new();
-        let file = File::open(path).map_err(|error| Failure::system(path, error))?;
-        file.take(MAX_FILE as u64 + 1).read_to_end(&mut bytes).map_err(|error| Failure::system(path, error))?;
+        let mut from: Box<dyn Read> = if input { Box::new(io::stdin()) } else { Box::new(File::open(path).map_err(failed)?) };
+        from.by_ref().take(MAX_FILE as u64 + 1).read_to_end(&mut bytes).map_err(failed)?;
         out::progress(bytes.len(), || format!("{name}: {} read", text::count(bytes.len(), "byte")));
-        Ok(Source { path: path.to_path_buf(), ..Source::of(&name, bytes)? })
+        Ok(Source { path: PathBuf::from(path), ..Source::of(&name, bytes)? })
     }
 
     /// Bytes that are read as a file of this name.
@@ -48,19 +56,36 @@ impl Source {
         Table::open(&self.bytes, root.start, root.end).map_err(|refusal| Failure::refused(UNREADABLE, &format!("{}: root table", self.name), refusal))
     }
 
-    /// The table that is reached from the root by the keys of nested ones.
-    pub fn table<'a>(&self, keys: impl Iterator<Item = &'a OsStr>) -> Result<Table<'_>, Failure> {
+    /// The table that is reached from the root by the keys of nested ones, given as `gvdb list` prints them; and those keys.
+    pub fn table<'a>(&self, words: impl Iterator<Item = &'a OsStr>) -> Result<(Table<'_>, Vec<String>), Failure> {
         let mut table = self.root()?;
-        for key in keys {
-            let what = || format!("{}: table {}", self.name, text::quoted(&key.to_string_lossy()));
-            table = table.get_table(key.as_bytes()).map_err(|refusal| Failure::refused(crate::failure::NO, &what(), refusal))?;
+        let mut path = Vec::new();
+        for word in words {
+            let key = text::given(word)?;
+            let what = format!("{}: table {}", self.name, text::quoted_bytes(&key));
+            table = table.get_table(&key).map_err(|refusal| not_found(&what, &table, &key, refusal))?;
+            path.push(String::from_utf8_lossy(&key).into_owned());
         }
-        Ok(table)
+        Ok((table, path))
     }
 
     pub fn walk(&self) -> Walk {
         Walk { name: self.name.clone(), table_bytes: self.bytes.len(), key_bytes: KEY_BYTES, value_bytes: VALUE_BYTES }
     }
+}
+
+/// Why a lookup is refused. Where something else stands under the key, it is said what that is and how to see it.
+pub fn not_found(what: &str, table: &Table, key: &[u8], refusal: Refusal) -> Failure {
+    if refusal != Refusal::OtherKind {
+        return Failure::refused(NO, what, refusal);
+    }
+    let there = match (table.get(key), table.get_table(key)) {
+        (Ok(_), _) => "it is a value; gvdb get FILE KEY writes it",
+        (_, Ok(_)) => "it is a table; gvdb list FILE --table KEY shows what it holds",
+        _ if table.check().is_ok() => "it is a container; gvdb list FILE KEY shows what is below",
+        _ => "it is of another kind, in a table that is not sound; gvdb check FILE says what is broken",
+    };
+    Failure::told(NO, what, refusal.number(), there)
 }
 
 /// Bounds a walk over the tables of a file. Tables that do not overlap take no more bytes than the file, so a walk that takes more has met one

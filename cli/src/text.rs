@@ -1,17 +1,41 @@
-//! Keys and bytes as text: escapes, hex, quotes.
+//! Keys, file names and bytes as text: escapes, hex, quotes.
 
+use crate::failure::Failure;
+use std::ffi::OsStr;
 use std::fmt::Write;
+use std::os::unix::ffi::OsStrExt;
 
-/// A key on one line and without control characters: `\\`, `\t`, `\n`, `\r`, and `\xHH` for each byte of any other.
+/// A key on one line, with nothing in it that is not seen: `\\`, `\t`, `\n`, `\r`, and `\xHH` for each byte of any other unseen character.
 pub fn escaped(key: &str) -> String {
     let mut out = String::with_capacity(key.len());
     for c in key.chars() {
         match c {
             '\\' => out.push_str("\\\\"),
-            _ => control(&mut out, c),
+            _ => seen(&mut out, c),
         }
     }
     out
+}
+
+/// Bytes that may be no text, as a file name has them: what is UTF-8 is escaped as a key is, and each other byte is `\xHH`.
+pub fn escaped_bytes(bytes: &[u8]) -> String {
+    let mut out = String::with_capacity(bytes.len());
+    let mut rest = bytes;
+    while !rest.is_empty() {
+        let good = std::str::from_utf8(rest).map_or_else(|error| error.valid_up_to(), str::len);
+        out.push_str(&escaped(std::str::from_utf8(&rest[..good]).unwrap_or_default()));
+        if let Some(bad) = rest.get(good) {
+            let _ = write!(out, "\\x{bad:02x}");
+        }
+        rest = rest.get(good + 1..).unwrap_or_default();
+    }
+    out
+}
+
+/// The key that a word of the command line means: it is given as `gvdb list` prints it.
+pub fn given(word: &OsStr) -> Result<Vec<u8>, Failure> {
+    let wrong = |why| Failure::usage(format!("key {}: {why}; give it as gvdb list prints it, a backslash as \\\\", shown(&word.to_string_lossy())));
+    unescaped(word.as_bytes()).map_err(wrong)
 }
 
 /// The bytes that an escaped key means, or what is wrong with it.
@@ -24,7 +48,7 @@ pub fn unescaped(field: &[u8]) -> Result<Vec<u8>, &'static str> {
             continue;
         }
         out.push(match bytes.next() {
-            Some(b'\\') => b'\\',
+            Some(quoted @ (b'\\' | b'"')) => *quoted,
             Some(b't') => b'\t',
             Some(b'n') => b'\n',
             Some(b'r') => b'\r',
@@ -32,7 +56,7 @@ pub fn unescaped(field: &[u8]) -> Result<Vec<u8>, &'static str> {
                 (Some(high), Some(low)) => high * 16 + low,
                 _ => return Err("\\x wants two hex digits"),
             },
-            _ => return Err("a backslash stands before one of \\ t n r x"),
+            _ => return Err("a backslash stands before one of \\ \" t n r x"),
         });
     }
     Ok(out)
@@ -40,17 +64,12 @@ pub fn unescaped(field: &[u8]) -> Result<Vec<u8>, &'static str> {
 
 /// A key in quotes, for a sentence or a report.
 pub fn quoted(key: &str) -> String {
-    let mut out = String::with_capacity(key.len() + 2);
-    out.push('"');
-    for c in key.chars() {
-        match c {
-            '\\' => out.push_str("\\\\"),
-            '"' => out.push_str("\\\""),
-            _ => control(&mut out, c),
-        }
-    }
-    out.push('"');
-    out
+    quoted_bytes(key.as_bytes())
+}
+
+/// A key that was given, and may be no text.
+pub fn quoted_bytes(key: &[u8]) -> String {
+    format!("\"{}\"", escaped_bytes(key).replace('"', "\\\""))
 }
 
 /// The keys of nested tables and a key in the last of them.
@@ -58,10 +77,10 @@ pub fn path(tables: &[String], key: &str) -> String {
     tables.iter().map(String::as_str).chain([key]).map(quoted).collect::<Vec<_>>().join(" > ")
 }
 
-/// A text that is not a key, with its control characters escaped.
+/// A text that is not a key, with what is not seen escaped.
 pub fn shown(text: &str) -> String {
     let mut out = String::with_capacity(text.len());
-    text.chars().for_each(|c| control(&mut out, c));
+    text.chars().for_each(|c| seen(&mut out, c));
     out
 }
 
@@ -73,18 +92,28 @@ pub fn cut(text: &str) -> String {
     }
 }
 
-fn control(out: &mut String, c: char) {
+fn seen(out: &mut String, c: char) {
     match c {
         '\t' => out.push_str("\\t"),
         '\n' => out.push_str("\\n"),
         '\r' => out.push_str("\\r"),
-        c if c.is_control() => {
+        c if is_unseen(c) => {
             for byte in c.encode_utf8(&mut [0; 4]).bytes() {
                 let _ = write!(out, "\\x{byte:02x}");
             }
         }
         c => out.push(c),
     }
+}
+
+/// Whether a character is a control character, ends a line, turns the direction of what stands around it, or takes no room: with one of these a key
+/// could look like another. Unicode's Cc, Zl, Zp and Default_Ignorable_Code_Point, and the marks of annotations.
+pub fn is_unseen(c: char) -> bool {
+    c.is_control()
+        || matches!(c,
+            '\u{AD}' | '\u{34F}' | '\u{61C}' | '\u{115F}'..='\u{1160}' | '\u{17B4}'..='\u{17B5}' | '\u{180B}'..='\u{180F}' | '\u{200B}'..='\u{200F}'
+            | '\u{2028}'..='\u{202E}' | '\u{2060}'..='\u{206F}' | '\u{3164}' | '\u{FE00}'..='\u{FE0F}' | '\u{FEFF}' | '\u{FFA0}' | '\u{FFF0}'..='\u{FFFB}'
+            | '\u{1BCA0}'..='\u{1BCA3}' | '\u{1D173}'..='\u{1D17A}' | '\u{E0000}'..='\u{E0FFF}')
 }
 
 pub fn hex(bytes: &[u8]) -> String {
@@ -133,9 +162,14 @@ mod tests {
 
     #[test]
     fn every_key_comes_back() {
-        for key in ["", "a/b", "tab\tnewline\nreturn\rback\\slash", "nul\0 bell\x07 del\x7f csi\u{9b}", "é \"quoted\" 木"] {
+        for key in ["", "a/b", "tab\tnewline\nreturn\rback\\slash", "nul\0 bell\x07 del\x7f csi\u{9b}", "é \"quoted\" 木", "\u{202e}\u{feff}\u{e0041}"] {
             assert_eq!(unescaped(escaped(key).as_bytes()).unwrap(), key.as_bytes());
-            assert!(!escaped(key).chars().any(char::is_control));
+            assert_eq!(unescaped(quoted(key)[1..].strip_suffix('"').unwrap().as_bytes()).unwrap(), key.as_bytes());
+            assert_eq!(escaped_bytes(key.as_bytes()), escaped(key));
+            assert!(!escaped(key).chars().any(is_unseen));
+        }
+        for bytes in [&b"\xff"[..], b"a\xe6\x9c", b"\xe6\x9c\xa8\xe9b\\", b"\xed\xa0\x80"] {
+            assert_eq!(unescaped(escaped_bytes(bytes).as_bytes()).unwrap(), bytes);
         }
         assert_eq!(escaped("\u{9b}\t\\"), "\\xc2\\x9b\\t\\\\");
         for bad in ["\\", "\\q", "\\x", "\\x1", "\\xg0"] {

@@ -102,9 +102,7 @@ fn values_that_overlap() {
 
 #[test]
 fn what_is_no_file() {
-    for (path, said) in
-        [("/dev/null", "refusal 16"), ("/dev/zero", "refusal 1: "), ("/", "Is a directory"), ("", "No such file"), ("/nowhere/at/all", "No such file")]
-    {
+    for (path, said) in [("/dev/null", "(16)"), ("/dev/zero", "(1)"), ("/", "Is a directory"), ("", "No such file"), ("/nowhere/at/all", "No such file")] {
         for command in ["check", "list", "tree", "dump"] {
             let ran = gvdb([command, path]).ends(2);
             assert!(ran.stderr.lines().last().unwrap().contains(said), "{}", ran.stderr);

@@ -116,9 +116,12 @@ impl Reader<'_> {
                 '"' => return text,
                 '\\' => match self.take() {
                     'u' => {
-                        let (digits, rest) = self.rest.split_at(4);
-                        self.rest = rest;
-                        text.push(char::from_u32(u32::from_str_radix(digits, 16).expect("hex")).expect("no half of a pair is printed"));
+                        let mut units = vec![self.unit()];
+                        if (0xD800..0xDC00).contains(&units[0]) {
+                            assert_eq!((self.take(), self.take()), ('\\', 'u'), "half of a pair");
+                            units.push(self.unit());
+                        }
+                        text += &String::from_utf16(&units).expect("a pair");
                     }
                     c @ ('"' | '\\') => text.push(c),
                     c => panic!("\\{c}"),
@@ -129,5 +132,11 @@ impl Reader<'_> {
                 }
             }
         }
+    }
+
+    fn unit(&mut self) -> u16 {
+        let (digits, rest) = self.rest.split_at(4);
+        self.rest = rest;
+        u16::from_str_radix(digits, 16).expect("hex")
     }
 }

@@ -1,8 +1,10 @@
 //! The command line from outside, as processes. Built and run by tests/cli/run, which names the program and gvdb-rs by GVDB, ROOT, REAL and ORACLE.
 
+mod checking;
 mod damage;
 mod harness;
 mod json;
+mod keys;
 mod lines;
 mod merge;
 mod model;

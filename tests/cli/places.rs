@@ -69,7 +69,7 @@ fn a_file_that_is_there_is_replaced_whole() {
     fs::write(&place, "old").unwrap();
     fs::set_permissions(&place, fs::Permissions::from_mode(0o640)).unwrap();
     // what is refused leaves it alone
-    gvdb_fed([OsStr::new("build"), OsStr::new("-o"), place.as_os_str()], b"\t01\n").ends(1).says("refusal 30");
+    gvdb_fed([OsStr::new("build"), OsStr::new("-o"), place.as_os_str()], b"\t01\n").ends(1).says("(30)");
     assert_eq!(fs::read(&place).unwrap(), b"old");
     symlink("out.gvdb", folder.join("link")).unwrap();
     build_at(&folder.join("link")).ends(0);

@@ -13,12 +13,12 @@ fn check_of_small_files() {
         ("gvdbrs-test1.gvdb", 0, "root table: sound, 1 item\n"),
         ("gvdbrs-test2.gvdb", 0, "table \"table\": sound, 1 item\n"),
         ("gvdbrs-test3.gresource", 0, "root table: sound, 12 items\n"),
-        ("rule_1.gvdb", 1, "rule 1 is broken by item 0: its key does not read (refusal 2: "),
-        ("rule_2.gvdb", 1, "rule 2 is broken by item 0, key \"\": a lookup of its key does not find it\n"),
-        ("rule_3.gvdb", 1, "rule 3 is broken by item 0, key \"\": its kind is none of value, table and container\n"),
-        ("rule_4.gvdb", 1, "rule 4 is broken by item 0, key \"\": its value does not open"),
-        ("rule_5.gvdb", 1, "rule 5 is broken by item 0, key \"\": a child that it lists"),
-        ("rule_6.gvdb", 1, "rule 6 is broken by item 1, key \"a\": its parent is not a container"),
+        ("rule_1.gvdb", 1, "not sound: item 0: its key does not read: a pointer starts above its end, or ends past the file (rule 1, refusal 2)\n"),
+        ("rule_2.gvdb", 1, "not sound: item 0, key \"\": a lookup of its key does not find it (rule 2)\n"),
+        ("rule_3.gvdb", 1, "not sound: item 0, key \"\": its kind is none of value, table and container (rule 3)\n"),
+        ("rule_4.gvdb", 1, "not sound: item 0, key \"\": its value does not open"),
+        ("rule_5.gvdb", 1, "not sound: item 0, key \"\": a child that it lists"),
+        ("rule_6.gvdb", 1, "not sound: item 1, key \"a\": its parent is not a container"),
         ("nested.gvdb", 1, "table \"a\": sound, 1 item\n"),
     ] {
         let ran = gvdb(["check".as_ref(), worked(name).as_os_str()]).ends(status).prints(said);
@@ -38,10 +38,10 @@ fn check_of_real_files() {
         let (name, found) = line.split_once(": ").unwrap();
         let ran = gvdb(["check".as_ref(), real.join(name).as_os_str()]);
         if found == "no header" {
-            ran.ends(2).says(": refusal 1");
+            ran.ends(2).says("no GVDB file (1");
         } else if let Some((_, broken)) = found.split_once("; rule ") {
             let (rule, item) = broken.split_once(" broken by item ").unwrap();
-            ran.ends(1).prints(&format!("rule {rule} is broken by item {item}, key "));
+            ran.ends(1).prints(&format!("not sound: item {item}, key ")).prints(&format!("(rule {rule})\n"));
         } else {
             let tables = found.strip_prefix("tables ").and_then(|found| found.split_once(',')).unwrap().0;
             let ran = ran.ends(0);
@@ -70,10 +70,12 @@ value           59  /gvdb/rs/test/test.css
     assert_eq!(ran.text(), lines);
     let nested = gvdb(["list".as_ref(), worked("gvdbrs-test2.gvdb").as_os_str(), "--table".as_ref(), "table".as_ref(), "--values".as_ref()]).ends(0);
     assert_eq!(nested.text(), "value            6  int\t0000002a0075\n");
-    gvdb(["list".as_ref(), file.as_os_str(), "--table".as_ref(), "/gvdb/".as_ref()]).ends(1).says("refusal 13");
+    gvdb(["list".as_ref(), file.as_os_str(), "--table".as_ref(), "/gvdb/".as_ref()])
+        .ends(1)
+        .says("it is a container; gvdb list FILE KEY shows what is below (13)\n");
     // a table that is not sound is listed as far as it reads, and it is said
-    let ran = gvdb(["list".as_ref(), worked("refusals.gvdb").as_os_str()]).ends(0).says("not sound, rule 1 is broken by item 0");
-    assert!(ran.text().contains("(item 1: refusal 9: a stored key fragment is not UTF-8)") && ran.text().contains("refused          3  a\n"));
+    let ran = gvdb(["list".as_ref(), worked("refusals.gvdb").as_os_str()]).ends(0).says("not sound: item 0: its key does not read: ");
+    assert!(ran.text().contains("item 1, whose key does not read: a stored key fragment is not UTF-8 (9)\n") && ran.text().contains("refused        (3)  a\n"));
 }
 
 #[test]
@@ -109,10 +111,10 @@ fn get_of_values_and_refusals() {
     assert_eq!(get(&["a".as_ref(), "--hex".as_ref()]).ends(0).stdout, b"00ff0a0d\n");
     assert_eq!(get(&["--".as_ref(), "-k".as_ref()]).ends(0).stdout, [1]);
     assert_eq!(get(&["--table".as_ref(), "t".as_ref(), "x".as_ref(), "--table=u".as_ref()]).ends(0).stdout, [2]);
-    get(&["b".as_ref()]).ends(1).says("key \"b\": refusal 12: the table has no such key");
-    get(&["t".as_ref()]).ends(1).says("refusal 13: ");
-    get(&["x".as_ref(), "--table".as_ref(), "a".as_ref()]).ends(1).says("table \"a\": refusal 13");
-    get(&[OsStr::from_bytes(b"\xff")]).ends(1).says("refusal 8: the given key is not UTF-8");
+    get(&["b".as_ref()]).ends(1).says("key \"b\": the table has no such key; gvdb list FILE shows those that are there (12)\n");
+    get(&["t".as_ref()]).ends(1).says("key \"t\": it is a table; gvdb list FILE --table KEY shows what it holds (13)\n");
+    get(&["x".as_ref(), "--table".as_ref(), "a".as_ref()]).ends(1).says("table \"a\": it is a value; gvdb get FILE KEY writes it (13)\n");
+    get(&[OsStr::from_bytes(b"\xff")]).ends(1).says("key \"\\xff\": the given key is not UTF-8; ");
 }
 
 #[test]
@@ -128,7 +130,8 @@ fn json_of_any_key_is_whole() {
     assert_eq!(keys, ["\u{1b}[31m", "long", strange]);
     assert_eq!((items[2].at("value").text(), items[2].at("kind").text(), items[2].at("size")), ("0102", "value", &Json::Number(2)));
     assert_eq!((items[0].at("kind").text(), items[0].at("size")), ("table", &Json::Number(0)));
-    assert!(!format!("{:?}", items[1]).contains("value\": Text"), "a long value is not shown");
+    assert_eq!(items[1].at("value").text(), (0..=32).map(|byte| format!("{byte:02x}")).collect::<String>(), "a long value is there whole");
+    assert_eq!(gvdb(["list".as_ref(), file.as_os_str(), "--json".as_ref()]).ends(0).stdout, ran.stdout, "JSON has the values unasked");
     let check = gvdb(["check".as_ref(), file.as_os_str(), worked("rule_6.gvdb").as_os_str(), "/nowhere".as_ref(), "--json".as_ref()]).ends(2);
     let files = Json::parse(check.text());
     let [good, bad, missing] = files.list() else { panic!("three files") };
@@ -149,8 +152,10 @@ fn a_file_name_of_any_bytes() {
     let mut name = folder.as_os_str().to_os_string();
     name.push(OsStr::from_bytes(b"/line\nbreak\xff"));
     let words = |command: &str| [OsString::from(command), name.clone()];
-    gvdb_fed([OsString::from("build"), OsString::from("-o"), name.clone()], b"a\t01\n").ends(0).prints("/line\\nbreak\u{fffd}: 1 value, 65 bytes\n");
+    gvdb_fed([OsString::from("build"), OsString::from("-o"), name.clone()], b"a\t01\n").ends(0).prints("/line\\nbreak\\xff: 1 value, 65 bytes\n");
     assert_eq!(gvdb(words("check")).ends(0).text().lines().count(), 1);
+    let list = Json::parse(gvdb([&words("list")[..], &["--json".into()]].concat()).ends(0).text());
+    assert!(list.at("file").text().ends_with("/line\\nbreak\\xff"), "{list:?}");
     fs::write(&name, "short").unwrap();
-    gvdb(words("check")).ends(2).says("/line\\nbreak\u{fffd}: refusal 16");
+    gvdb(words("check")).ends(2).says("/line\\nbreak\\xff: the file is shorter than a header of 24 bytes; it is empty or cut, or no GVDB file (16)\n");
 }

@@ -49,7 +49,7 @@ mod table;
 
 pub use builder::{Builder, Image, Inserted, Kind, TableNumber};
 pub use refusal::{Refusal, Unsound};
-pub use table::{Entries, Entry, Item, Keys, Pointer, Table, Values};
+pub use table::{Entries, Entry, Item, Keys, Pointer, Table, Tables, Values};
 
 /// The longest file that is read, and the longest image that is laid, in bytes.
 pub const MAX_FILE: usize = 16_777_216;

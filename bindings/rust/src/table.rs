@@ -170,6 +170,28 @@ impl<'a> Table<'a> {
         Entries { keys: self.keys(), values, ahead }
     }
 
+    /// The nested tables, each with its key, in the order of their items. The keys of values are not read: of a large table that costs far less than
+    /// [`entries`](Table::entries).
+    ///
+    /// ```
+    /// # use gvdb::{Builder, Refusal, Table};
+    /// # fn main() -> Result<(), Refusal> {
+    /// # let mut builder = Builder::new(4096);
+    /// # let root = builder.new_table(Some(b'/'))?;
+    /// # builder.insert(root, "a/b", [7])?;
+    /// # let notes = builder.new_table(None)?;
+    /// # builder.insert_table(root, "notes", notes)?;
+    /// # let image = builder.write(root)?;
+    /// # let table = Table::open(&image.bytes, image.root.start, image.root.end)?;
+    /// let tables: Vec<(String, usize)> = table.tables().map(|(key, nested)| (key, nested.len())).collect();
+    /// assert_eq!(tables, [("notes".to_string(), 0)]);
+    /// # Ok(())
+    /// # }
+    /// ```
+    pub fn tables(&self) -> Tables<'a> {
+        Tables { entries: self.entries() }
+    }
+
     /// The table check: whether every item keeps the six rules; else the first item that breaks one, and its first broken rule.
     /// It covers this table; nested ones are checked by themselves.
     ///
@@ -321,21 +343,29 @@ pub struct Entries<'a> {
     ahead: Option<(usize, Result<&'a [u8], Refusal>)>,
 }
 
+impl<'a> Entries<'a> {
+    /// The value of the next item, if it is one.
+    fn value_here(&mut self) -> Option<Result<&'a [u8], Refusal>> {
+        let (index, bytes) = self.ahead?;
+        if index != self.keys.position {
+            return None;
+        }
+        self.ahead = self.values.next();
+        Some(bytes)
+    }
+}
+
 impl<'a> Iterator for Entries<'a> {
     type Item = Entry<'a>;
 
     fn next(&mut self) -> Option<Self::Item> {
         let index = self.keys.position;
+        let value = self.value_here();
         let key = self.keys.next()?;
-        let item = match self.ahead {
-            Some((value_index, bytes)) if value_index == index => {
-                self.ahead = self.values.next();
-                bytes.map(Item::Value)
-            }
-            _ => match &key {
-                Ok(key) => nested(&self.keys.table, key),
-                Err(refusal) => Err(*refusal),
-            },
+        let item = match (value, &key) {
+            (Some(bytes), _) => bytes.map(Item::Value),
+            (None, Ok(key)) => nested(&self.keys.table, key),
+            (None, Err(refusal)) => Err(*refusal),
         };
         Some(Entry { index, key, item })
     }
@@ -346,6 +376,28 @@ impl<'a> Iterator for Entries<'a> {
 }
 
 impl ExactSizeIterator for Entries<'_> {}
+
+/// The nested tables of a table: [`Table::tables`].
+#[derive(Clone, Debug)]
+pub struct Tables<'a> {
+    entries: Entries<'a>,
+}
+
+impl<'a> Iterator for Tables<'a> {
+    type Item = (String, Table<'a>);
+
+    fn next(&mut self) -> Option<Self::Item> {
+        loop {
+            while self.entries.value_here().is_some() {
+                self.entries.keys.position += 1;
+            }
+            let entry = self.entries.next()?;
+            if let (Ok(key), Ok(Item::Table(nested))) = (entry.key, entry.item) {
+                return Some((key, nested));
+            }
+        }
+    }
+}
 
 /// What lies under a key that is no value's: a table, or a container if the lookup finds another kind.
 fn nested<'a>(table: &Table<'a>, key: &str) -> Result<Item<'a>, Refusal> {

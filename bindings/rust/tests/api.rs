@@ -41,6 +41,34 @@ fn a_refused_item_is_passed_over() {
     assert_eq!(open(&image).key_at(3), Err(Refusal::PastTheLast));
 }
 
+/// The tables are those of the entries, wherever they stand among values, and past items that do not read.
+#[test]
+fn tables_are_those_of_the_entries() {
+    let mut builder = Builder::new(1 << 16);
+    let root = builder.new_table(Some(b'/')).unwrap();
+    for i in 0..40 {
+        let guest = builder.new_table(None).unwrap();
+        assert_eq!(builder.insert(guest, "k", "1"), Ok(Inserted::New));
+        assert_eq!(builder.insert_table(root, format!("t/{i}"), guest), Ok(Inserted::New));
+        assert_eq!(builder.insert(root, format!("v/{i}"), "2"), Ok(Inserted::New));
+    }
+    let mut image = builder.write(root).unwrap();
+    for damage in [None, Some((7, 8)), Some((20, 16)), Some((33, 4))] {
+        if let Some((item, field)) = damage {
+            let at = record(&image, item) + field;
+            put(&mut image, at, 1 << 30);
+        }
+        let table = open(&image);
+        let tables: Vec<_> = table.tables().map(|(key, nested)| (key, nested.pointer())).collect();
+        let found = table.entries().filter_map(|entry| match (entry.key, entry.item) {
+            (Ok(key), Ok(Item::Table(nested))) => Some((key, nested.pointer())),
+            _ => None,
+        });
+        assert_eq!(tables, found.collect::<Vec<_>>());
+        assert!(tables.len() > 30);
+    }
+}
+
 #[test]
 fn a_listed_key_longer_than_any_builder_takes() {
     let (long, longer) = ("a".repeat(1000), "b".repeat(1024));
