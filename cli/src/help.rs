@@ -7,6 +7,8 @@ gvdb: checks, lists, merges, dumps and builds GVDB files
     gvdb list FILE [PREFIX]          keys with kind and size
     gvdb tree FILE                   containers and nested tables, drawn
     gvdb get FILE KEY                one value
+    gvdb diff A B                    in what two files differ, key by key
+    gvdb same A B                    whether they are alike, by the exit status alone
     gvdb merge OWN OTHER -o OUT      both files' values into one; no value is lost unsaid
     gvdb dump FILE                   a file as lines of text
     gvdb build -o OUT                lines of text as a file
@@ -17,7 +19,7 @@ Where a file is read, - is standard input. Keys are given as `gvdb list` prints 
 backslash is \\\\, a tab \\t, a newline \\n, a return \\r, and a byte of any other control
 character, or of one that is not seen, \\xHH. File names are printed so too.
 
-Exit status: 0 done; 1 the answer is no (not sound, no such key, a conflict, a
+Exit status: 0 done; 1 the answer is no (not sound, no such key, not alike, a conflict, a
 refusal); 2 bad usage, or something cannot be read or written.
 ";
 
@@ -72,6 +74,29 @@ Keys are given as `gvdb list` prints them.
     --hex, --raw  hex, or the bytes, wherever it goes
 
     gvdb get anna.gvdb /parcel/12/year | xxd
+";
+
+pub const DIFF: &str = "\
+gvdb diff A B [--json]
+
+Names every key that does not stand alike in both files, nested tables key by key: `only in
+A`, `only in B`, `value` with both values where they differ, `kind` where one is a value, a
+table or a container and the other is not. A count stands last. Both files have to pass the
+check. Not compared is the order in which a container's children are stored.
+Exit status: 0 alike, 1 not, 2 one cannot be read or is not sound.
+
+    --json    one object, with every byte of the values
+
+    gvdb diff anna.gvdb district.gvdb
+";
+
+pub const SAME: &str = "\
+gvdb same A B
+
+Whether two files are alike, as `gvdb diff` has it; nothing is printed.
+Exit status: 0 alike, 1 not, 2 one cannot be read or is not sound.
+
+    gvdb same anna.gvdb copy.gvdb && echo alike
 ";
 
 pub const MERGE: &str = "\

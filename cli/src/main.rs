@@ -4,6 +4,7 @@ mod advice;
 mod args;
 mod check;
 mod content;
+mod diff;
 mod failure;
 mod header;
 mod help;
@@ -41,6 +42,8 @@ const COMMANDS: &[Command] = &[
     },
     Command { name: "tree", help: help::TREE, spec: Spec { flags: &["--json"], valued: &[], words: &["FILE"] }, run: tree::run },
     Command { name: "get", help: help::GET, spec: Spec { flags: &["--hex", "--raw"], valued: &["--table"], words: &["FILE", "KEY"] }, run: list::get },
+    Command { name: "diff", help: help::DIFF, spec: Spec { flags: &["--json"], valued: &[], words: &["A", "B"] }, run: diff::run },
+    Command { name: "same", help: help::SAME, spec: Spec { flags: &[], valued: &[], words: &["A", "B"] }, run: diff::same },
     Command {
         name: "merge",
         help: help::MERGE,

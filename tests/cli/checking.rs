@@ -165,7 +165,9 @@ fn standard_input_is_a_file() {
         let name = if words.contains(&"--json") { "-" } else { "standard input" };
         assert_eq!(input.text(), file.text().replace(place.to_str().unwrap(), name), "{words:?}");
     }
+    gvdb_fed(["diff".as_ref(), "-".as_ref(), place.as_os_str()], &bytes).ends(0).prints("diff of A standard input and B ");
+    gvdb_fed(["same".as_ref(), place.as_os_str(), "-".as_ref()], &bytes).ends(0);
     gvdb_fed(["check", "-"], b"short").ends(2).says("standard input: the file is shorter than a header of 24 bytes");
-    gvdb_fed(["check", "-", "-"], &bytes).ends(2).says("standard input (-) can be read once");
+    gvdb_fed(["diff", "-", "-"], &bytes).ends(2).says("standard input (-) can be read once");
     assert_eq!(names(place.parent().unwrap()), ["f.gvdb"]);
 }

@@ -88,6 +88,7 @@ fn what_is_not_seen_is_escaped_everywhere() {
     for command in ["list", "tree"] {
         words.extend([vec![command.as_ref(), other], vec![command.as_ref(), file, "--json".as_ref()]]);
     }
+    words.extend([vec!["diff".as_ref(), file, other], vec!["diff".as_ref(), file, other, "--json".as_ref()]]);
     for words in words {
         let ran = gvdb(&words);
         assert!(!ran.text().chars().chain(ran.stderr.chars()).any(unseen), "{words:?}: {}{}", ran.text(), ran.stderr);

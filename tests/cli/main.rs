@@ -2,6 +2,7 @@
 
 mod checking;
 mod damage;
+mod diff;
 mod harness;
 mod json;
 mod keys;

@@ -3,7 +3,7 @@
 use crate::harness::*;
 use std::process::Command;
 
-const COMMANDS: [&str; 7] = ["check", "list", "tree", "get", "merge", "dump", "build"];
+const COMMANDS: [&str; 9] = ["check", "list", "tree", "get", "diff", "same", "merge", "dump", "build"];
 
 #[test]
 fn usage_without_words() {
@@ -39,6 +39,7 @@ fn bad_usage_is_one_line_and_2() {
         (&["list", "--no-c", "a"], "unknown option --no-c; is --no-check meant?"),
         (&["list", "--tabel=x", "a"], "unknown option --tabel=x; is --table meant?"),
         (&["merge", "a", "b", "--output", "x"], "unknown option --output (a key"),
+        (&["same", "a"], "same: B is missing"),
         (&["chekc", "a"], "no command chekc; is check meant? (see gvdb --help)"),
         (&["help", "nosuch"], "no command nosuch (see gvdb --help)"),
         (&["--help", "lst"], "no command lst; is list meant?"),
