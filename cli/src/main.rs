@@ -83,7 +83,7 @@ fn run(words: Vec<OsString>, out: &mut Out) -> Result<u8, Failure> {
     };
     let rest: Vec<OsString> = words.collect();
     match first.to_str() {
-        Some("--version" | "-V") => return out.line(concat!("gvdb ", env!("CARGO_PKG_VERSION"))).map(|()| 0),
+        Some("--version" | "-V") => return version(out),
         Some("--help" | "-h" | "help") => return said(out, rest.first().map_or(Ok(help::USAGE), |word| command(word).map(|command| command.help))?),
         _ => {}
     }
@@ -102,6 +102,13 @@ fn command(word: &OsString) -> Result<&'static Command, Failure> {
         let hint = near.map_or(String::new(), |near| format!("; is {near} meant?"));
         Failure::usage(format!("no command {}{hint} (see gvdb --help)", name(word)))
     })
+}
+
+/// The version, with the commit and the kit that the script `gvdb` names when it builds this.
+fn version(out: &mut Out) -> Result<u8, Failure> {
+    let [commit, kit] = [option_env!("GVDB_COMMIT"), option_env!("GVDB_KIT")].map(|part| part.unwrap_or("unknown"));
+    out.line(format!("gvdb {}, commit {commit}, kit {kit}", env!("CARGO_PKG_VERSION")))?;
+    Ok(0)
 }
 
 fn said(out: &mut Out, text: &str) -> Result<u8, Failure> {

@@ -12,5 +12,6 @@ mod model;
 mod oracle;
 mod places;
 mod reading;
+mod script;
 mod tour;
 mod usage;
