@@ -133,8 +133,8 @@ Writes a file as lines, in ascending key order, which `gvdb build` lays again:
     key TAB {}                  a nested table, which may be empty
 
 In keys a backslash is \\\\, a tab \\t, a newline \\n, a return \\r, and a byte of any other
-control character \\xHH. Containers have no lines: the separator makes them. The file has to
-pass the check.
+control character, or of one that is not seen, \\xHH. Containers have no lines: the separator
+makes them. The file has to pass the check.
 
     gvdb dump anna.gvdb | sed s/oak/beech/ | gvdb build -o changed.gvdb
 ";

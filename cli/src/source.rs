@@ -39,8 +39,8 @@ impl Source {
         }
         let failed = |error| Failure::usage(format!("{name}: {error}"));
         let mut bytes = Vec::new();
-        let mut from: Box<dyn Read> = if input { Box::new(io::stdin()) } else { Box::new(File::open(path).map_err(failed)?) };
-        from.by_ref().take(MAX_FILE as u64 + 1).read_to_end(&mut bytes).map_err(failed)?;
+        let from: Box<dyn Read> = if input { Box::new(io::stdin()) } else { Box::new(File::open(path).map_err(failed)?) };
+        from.take(MAX_FILE as u64 + 1).read_to_end(&mut bytes).map_err(failed)?;
         out::progress(bytes.len(), || format!("{name}: {} read", text::count(bytes.len(), "byte")));
         Ok(Source { path: PathBuf::from(path), ..Source::of(&name, bytes)? })
     }

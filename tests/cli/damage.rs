@@ -18,6 +18,14 @@ fn all(folder: &Path, file: &Path) -> i32 {
             assert_eq!(ran.status == 0, check.status == 0, "{}", ran.stderr);
         }
     }
+    for command in ["list", "tree"] {
+        let ran = gvdb([OsStr::new(command), file.as_os_str(), "--json".as_ref()]);
+        if ran.status < 2 {
+            Json::parse(ran.text());
+        }
+        assert!(command == "list" || ran.status == check.status, "{}", ran.stderr);
+    }
+    gvdb(["same".as_ref(), file.as_os_str(), file.as_os_str()]).ends(if check.status == 0 { 0 } else { 2 });
     let out = folder.join("merged.gvdb");
     let merged = gvdb(["merge".as_ref(), file.as_os_str(), worked("one.gvdb").as_os_str(), "-o".as_ref(), out.as_os_str(), "--keep=own".as_ref()]);
     assert!((0..=2).contains(&merged.status), "{}", merged.stderr);
