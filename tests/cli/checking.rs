@@ -92,7 +92,7 @@ fn seconds(folder: &Path, words: &str) -> f64 {
 
 /// The check does not read the keys of values again: that would take twice as long as all else. `list` has to read them.
 #[test]
-fn check_walks_the_keys_once() {
+fn check_does_not_read_the_keys_of_values_again() {
     let folder = folder("chain");
     deep(&folder.join("f.gvdb"), 1500, 12_000);
     let check = seconds(&folder, "check f.gvdb");
