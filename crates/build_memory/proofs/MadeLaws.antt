@@ -81,7 +81,7 @@ module _ (ws ar : List ℕ) (t parent : ℕ) (key : List ℕ) (c : Stored) where
         by-side (yes b) = get-before one (headAt bucket) (itemTotal ws ∷ []) p b
         by-side (no b) = get-after one (headAt bucket) (itemTotal ws ∷ []) p (omega arith)
 
-    -- the heads: the own bucket's is the new item, any other is as it was
+    -- the heads: that of its bucket is the new item, any other is as it was
     pub made-head : word (made .words) (headAt bucket) ≡ itemTotal ws
     unfolding makeItem
     made-head =

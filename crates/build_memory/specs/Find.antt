@@ -15,7 +15,7 @@ unfoldable pub isItem : List ℕ → List ℕ → ℕ → ℕ → List ℕ → �
 isItem ws ar t h key i =
     eqb (itemTable ws i) t && (eqb (itemHash ws i) h && (eqb (keySize ws i) (length key) && sameBytes (keyOf ws ar i) key))
 
--- from i down a chain of indices below the limit, which each step lowers to the index it leaves: the first that passes, or none
+-- from i down a chain of indices, each below the one before it and below the limit: the first that passes, or none
 unfoldable pub seek : (ℕ → Bool) → (ℕ → ℕ) → ℕ → ℕ → ℕ → ℕ
 seek test older none zero i = none
 seek test older none (suc limit) i =

@@ -22,7 +22,7 @@ stored kind value guest = record { kind = kind; value = value; guest = guest }
 unfoldable pub kindOf : ℕ → Kind
 kindOf w = pick (eqb w valueKind) Kind.Value (pick (eqb w tableKind) Kind.Table Kind.Container)
 
--- the next item, at the head of its bucket: its key and its value are laid where the room used ends
+-- the next item, at the head of its bucket: its key and its value are stored where the room used ends
 unfoldable pub makeItem : Memory → ℕ → ℕ → List ℕ → Stored → Memory
 makeItem m t parent key c =
     let ws = m .words in
@@ -36,7 +36,7 @@ makeItem m t parent key c =
     3 ((n + 1) ∷ (room + length key + length (c .value)) ∷ []))
     (putAt (putAt (m .arena) room key) (room + length key) (c .value))
 
--- item i holds something else: its value is laid where the room used ends; its key, its parent and its place in the order stay
+-- item i holds something else: its value is stored where the room used ends; its key, its parent and its index stay
 unfoldable pub replaceItem : Memory → ℕ → Stored → Memory
 replaceItem m i c =
     let ws = m .words in

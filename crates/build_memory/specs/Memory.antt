@@ -45,11 +45,11 @@ linksFrom = 13576
 abbrev pub links : ℕ
 links = 1024
 
--- words that are fewer are too short
+-- the least length of the words
 abbrev pub leastWords : ℕ
 leastWords = 14600
 
--- no item
+-- the empty mark: no item
 abbrev pub emptyMark : ℕ
 emptyMark = 4294967295
 
@@ -128,7 +128,7 @@ tableKind = 72
 abbrev pub containerKind : ℕ
 containerKind = 76
 
--- the bytes of an item's key, as many of them as the arena has
+-- the key of an item, as many of its bytes as the arena has
 unfoldable pub keyOf : List ℕ → List ℕ → ℕ → List ℕ
 keyOf ws ar i = part ar (keyStart ws i) (keySize ws i)
 

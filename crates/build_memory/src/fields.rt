@@ -6,7 +6,7 @@ ghost use Rattle.words.specs.Store.{part};
 ghost use Rattle.model.specs.Builder.{mostItems, mostTables};
 ghost use Rattle.build_memory.specs.Memory.{leastWords, tableSize, itemSize, word, tableAt, itemAt, keyOf};
 
-// Words that are fewer are too short.
+// The least length of the words (29 where they are fewer).
 pub const LEAST_WORDS: usize = 14600;
 
 // The limits of document 01.
@@ -44,7 +44,7 @@ pub const HEIGHT: usize = 2;
 
 pub const NO_SEPARATOR: usize = 256;
 
-// The heads of the buckets, and the mark where there is no item.
+// The heads of the buckets, and the empty mark, which says that there is no item.
 pub const HEADS_FROM: usize = 264;
 
 pub const BUCKETS: usize = 1024;

@@ -33,7 +33,7 @@ pub fn kind_of(word: usize) -> Kind
     Kind::Container
 }
 
-// Where an item stands: its table, its key's hash, start and length, the item before it in its bucket, its parent's index and one.
+// Where an item stands: its table, its key's hash, start and length, the item before it in its bucket, its parent's index plus 1 (0: none).
 struct Spot {
     table: usize,
     hash: usize,
@@ -86,7 +86,7 @@ fn put_counts(words: &mut [usize], items: usize, used: usize)
     words[USED] = used;
 }
 
-// What is told of a new item besides its key and value: its table, its parent's index and one, its kind, the table it holds.
+// What is told of a new item besides its key and value: its table, its parent's index plus 1 (0: none), its kind, the table it holds.
 pub struct NewItem {
     pub table: usize,
     pub parent: usize,
@@ -94,7 +94,7 @@ pub struct NewItem {
     pub guest: usize,
 }
 
-// Makes the next item, and lays its key, whose hash is given, and its value where the room used ends.
+// Makes the next item. Its key, whose hash is given, and its value are stored where the room used ends.
 pub fn make_item(
     words: &mut [usize],
     arena: &mut [u8],
@@ -132,7 +132,7 @@ pub fn make_item(
     put_counts(words, n + 1, from + value.len());
 }
 
-// Writes anew what item i holds, and lays its value where the room used ends.
+// Writes anew what item i holds. Its value is stored where the room used ends.
 pub fn replace_item(
     words: &mut [usize],
     arena: &mut [u8],

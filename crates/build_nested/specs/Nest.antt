@@ -19,7 +19,7 @@ unfoldable pub heldAt : List ℕ → ℕ → ℕ → ℕ
 heldAt ws t i =
     pick (eqb (itemTable ws i) t && (eqb (itemKind ws i) tableKind && ltb (itemGuest ws i) mostTables)) (tableHeight ws (itemGuest ws i)) 0
 
--- the greatest height of the tables that table t holds, or 0; its own height is one more
+-- the greatest height of the tables that table t holds, or 0; the height of t is one more
 unfoldable pub heldHeight : List ℕ → ℕ → ℕ
 heldHeight ws t = most (heldAt ws t) (itemTotal ws)
 

@@ -22,7 +22,7 @@ ghost use Rattle.build_memory.specs.Memory.{leastWords, tableTotal, Valid, memo
 ghost use Rattle.build_values.specs.Insert.{Ready};
 ghost use Rattle.build_nested.specs.Nest.{placeTable, nested, nestAtKey, insertTable};
 
-// Marks a table as placed, with its height.
+// Notes that a table is placed, and its height.
 fn place_table(words: &mut [usize], table: usize, height: usize)
     requires { ⌜ (leastWords ≤ length (now words)) × (table < mostTables) ⌝ }
     ensures { λ _. ⌜ now (words .exit) ≡ placeTable (now (words .entry)) table height ⌝ }
@@ -65,7 +65,7 @@ fn insert_nested(
     }
 }
 
-// Both tables take inserts (24), they are two (25), and the key is one (8, 20).
+// Refuses a table that is not free-standing (24), one table for both (25), and a key that is not UTF-8 or too long (8, 20).
 fn nest_at_key(
     words: &mut [usize],
     arena: &mut [u8],

@@ -20,7 +20,7 @@ use Rattle.build_memory.proofs.MemoryLaws.{valid-facts}
 use Rattle.build_rules.specs.Valid.{tableKnown, keyWithin, keyShort, rangesValid, keyUtf8, hashValid, keyFound, keyValid, begunBy, parentValid, heightLimit, guestPlaced, guestValid, heldOnce, itemValid, linkEmpty, fullyValid}
 use Rattle.build_rules.proofs.ValidLaws.{ranges-table, item-guest}
 
--- the parent of item i was made before it, is of its table, and its key begins that of i
+-- the parent of item i was made before it, is of its table, and the key of i starts with its key
 pub record ParentFacts (ws ar : List ℕ) (i : ℕ) : Type 0 where
   pub earlier : itemParent ws i ≤ i
   pub same : itemTable ws (itemParent ws i - 1) ≡ itemTable ws i

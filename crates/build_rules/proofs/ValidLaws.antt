@@ -41,7 +41,7 @@ module _ (start size used : ℕ) where
   pub ends-after : start ≤ used → leb size (used - start) ≡ leb (start + size) used
   ends-after h = leb-same size (used - start) (start + size) used (λ l. omega arith) (λ l. omega arith)
 
--- ---- an item's place
+-- ---- an item's ranges
 
 module _ (ws : List ℕ) (i : ℕ) where
   pub value-none : (itemKind ws i ≡ valueKind → ⊥) → true ≡ valueWithin ws i
@@ -161,7 +161,7 @@ guests-few ws ar few e = record {
   below = λ i l k. let h = valid-guest ws i (item-guest ws ar i (all-below (itemValid ws ar) (itemTotal ws) e i l)) k in omega arith;
 }
 
--- ---- held once: a mark for each table that was met
+-- ---- held once: a flag for each table that was met
 
 pub guest-low : (ws : List ℕ) → GuestsFew ws → (i kind guest : ℕ) → i < itemTotal ws → kind ≡ itemKind ws i → kind ≡ tableKind → guest ≡ itemGuest ws i → guest < mostTables
 guest-low ws few i kind guest l is own eg = let h = few .below i l (sym is ∙ own) in omega arith

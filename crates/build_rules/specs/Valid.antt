@@ -1,5 +1,5 @@
--- The rules behind refusal 29 that a write judges, besides those of every call. Memory that the fresh start and the builder's calls wrote
--- keeps them.
+-- Fully valid memory: the rules behind refusal 29 that a write judges, besides those of every call. Memory that the fresh start and the builder's
+-- calls wrote keeps them.
 use Prim.Native.Nat.{ℕ, _+_, _-_, _<_}
 use mathlib.Core.Path.{_≡_}
 use mathlib.Core.Bool.{Bool, _&&_, _||_, not}
@@ -16,7 +16,7 @@ use Rattle.model.specs.Builder.{longestKey, deepest, mostTables}
 use Rattle.build_memory.specs.Memory.{word, links, linkAt, emptyMark, tableTotal, itemTotal, roomUsed, tablePlaced, tableHeight, itemTable, itemHash, keyStart, keySize, itemParent, itemKind, valueStart, valueSize, itemGuest, keyOf, valueKind, tableKind, valid}
 use Rattle.build_memory.specs.Find.{findKey}
 
--- ---- the place of an item
+-- ---- the ranges of an item
 
 -- its table is one that there is
 unfoldable pub tableKnown : List ℕ → ℕ → Bool
@@ -59,11 +59,11 @@ keyValid ws ar i = keyUtf8 ws ar i && (hashValid ws ar i && keyFound ws ar i)
 
 -- ---- its parent
 
--- a text is begun by a shorter one
+-- a text starts with a shorter one
 unfoldable pub begunBy : List ℕ → List ℕ → Bool
 begunBy short key = ltb (length short) (length key) && sameBytes short (take (length short) key)
 
--- none; or an item made before it, of its table, whose key is shorter and begins its own
+-- none; or an item made before it, of its table, whose key is shorter and which its key starts with
 unfoldable pub parentValid : List ℕ → List ℕ → ℕ → Bool
 parentValid ws ar i =
     eqb (itemParent ws i) 0

@@ -1,4 +1,4 @@
-// The tables that items hold: specs/Whole.antt names each rule.
+// The tables that items hold: specs/Valid.antt names each rule.
 use build_memory::fields::DEEPEST;
 use build_memory::fields::GUEST;
 use build_memory::fields::HEIGHT;
@@ -19,7 +19,7 @@ ghost use Rattle.model.specs.Builder.{mostItems, mostTables};
 ghost use Rattle.build_memory.specs.Memory.{leastWords, itemTotal, tableTotal, itemTable};
 ghost use Rattle.build_rules.specs.Valid.{heightLimit, guestPlaced, guestValid, heldOnce, GuestsFew};
 
-// What a table that table t holds must be lower than.
+// The height that no table held by table t may reach.
 fn height_limit(words: &[usize], t: usize) -> usize
     requires { ⌜ (leastWords ≤ length (now words)) × (t < mostTables) ⌝ }
     ensures { λ r. ⌜ r ≡ heightLimit (now (words .entry)) t ⌝ }
@@ -59,7 +59,7 @@ pub fn guest_valid(words: &[usize], i: usize) -> bool
     )
 }
 
-// Whether no table is held twice: a mark for each table that was met.
+// Whether no table is held twice: a flag for each table that was met.
 pub fn held_once(words: &[usize]) -> bool
     requires { ⌜ (leastWords ≤ length (now words)) × (itemTotal (now words) ≤ mostItems) × GuestsFew (now words) ⌝ }
     ensures { λ r. ⌜ r ≡ allBelow (heldOnce (now (words .entry))) (itemTotal (now (words .entry))) ⌝ }

@@ -1,4 +1,4 @@
-// The place, the key and the parent of an item: specs/Whole.antt names each rule.
+// The ranges, the key and the parent of an item: specs/Valid.antt names each rule.
 use build_memory::fields::CONTAINER_KIND;
 use build_memory::fields::HASH;
 use build_memory::fields::KEY;
@@ -79,7 +79,7 @@ pub fn key_valid(words: &[usize], arena: &[u8], i: usize) -> bool
     text & (hashed & found)
 }
 
-// Whether a key is begun by a shorter one.
+// Whether a key starts with a shorter one.
 fn begun_by(short: &[u8], key: &[u8]) -> bool
     ensures { λ r. ⌜ r ≡ begunBy (now (short .entry)) (now (key .entry)) ⌝ }
 {
@@ -90,7 +90,7 @@ fn begun_by(short: &[u8], key: &[u8]) -> bool
     same_bytes(short, &key[..n])
 }
 
-// Whether item i has no parent, or one that was made before it, in its table, whose key begins its own.
+// Whether item i has no parent, or one that was made before it, in its table, and whose key its key starts with.
 pub fn parent_valid(words: &[usize], arena: &[u8], i: usize) -> bool
     requires { ⌜ (leastWords ≤ length (now words)) × (i < mostItems) ⌝ }
     ensures { λ r. ⌜ r ≡ parentValid (now (words .entry)) (now (arena .entry)) i ⌝ }

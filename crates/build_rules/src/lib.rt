@@ -1,4 +1,4 @@
-// The judgement of a builder's whole memory, which a write asks for.
+// Whether a builder's memory is fully valid, which a write asks for.
 mod guest;
 mod item;
 pub mod judge;

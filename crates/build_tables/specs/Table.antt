@@ -13,7 +13,7 @@ use Rattle.model.specs.declared.Counted.{Counted}
 use Rattle.model.specs.Builder.{mostTables, separatorOf}
 use Rattle.build_memory.specs.Memory.{tableAt, tableTotal, itemTotal, tablePlaced, itemTable, valid, memory, Outcome, outcome}
 
--- the table is known and not placed
+-- a free-standing table: known and not placed
 unfoldable pub freeStanding : List ℕ → ℕ → Bool
 freeStanding ws t = ltb t (tableTotal ws) && eqb (tablePlaced ws t) 0
 

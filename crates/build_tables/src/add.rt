@@ -1,4 +1,4 @@
-// New tables, and whether a table takes items.
+// New tables, and whether a table is free-standing.
 use build_memory::fields::LAST_SEPARATOR;
 use build_memory::fields::MOST_TABLES;
 use build_memory::fields::NO_SEPARATOR;
@@ -43,7 +43,7 @@ fn separator_word(separator: &[u8]) -> usize
     0
 }
 
-// Whether the table is known and not placed.
+// Whether a table is free-standing: known and not placed.
 pub fn is_free_standing(words: &[usize], arena: &[u8], table: usize) -> bool
     requires { ⌜ Valid (now words) (length (now arena)) ⌝ }
     ensures { λ r. ⌜ r ≡ freeStanding (now (words .entry)) table ⌝ }

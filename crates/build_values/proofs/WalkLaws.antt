@@ -19,7 +19,7 @@ use Rattle.build_values.specs.declared.walk.Walked.{Walked}
 use Rattle.build_values.specs.Walk.{way, descend, sum}
 use Rattle.build_values.specs.Insert.{extended, containers}
 
--- ---- the ends past a place, by where the next one is
+-- ---- the ends past an index, by where the next one is
 
 pub record Further (sep : ℕ) (key : List ℕ) (at e : ℕ) : Type 0 where
   pub rises : at < e
@@ -40,7 +40,7 @@ module _ (sep : ℕ) (key : List ℕ) (at : ℕ) (h : at ≤ length key) (e : �
         total = ap sum c;
       }
 
-  -- the key's own end is the last
+  -- the end of the key itself is the last
   pub last : length key ≤ e → endsPast sep key at ≡ e ∷ []
   last l =
       let q : e ≡ length key = omega (arith, next-within sep key at h .1) in
@@ -88,7 +88,7 @@ module _ (t : ℕ) (key : List ℕ) (e : ℕ) (ends : List ℕ) (m : Memory) (pa
   unfolding containers pick
   containers-more m′ h q = simp (lt-ltb _ _ h, q)
 
--- ---- both, along the ends past a place
+-- ---- both, along the ends past an index
 
 module _ (sep : ℕ) (key : List ℕ) (at : ℕ) (h : at ≤ length key) (e : ℕ) (is : e ≡ nextEnd sep key at) where
   module _ (ws ar : List ℕ) (t parent : ℕ) where

@@ -21,7 +21,7 @@ use Rattle.build_values.specs.Walk.{wayOf, sum}
 abbrev pub refused : Refusal → List ℕ → List ℕ → Outcome Inserted
 refused why ws ar = outcome (Inserted.Refused why) (memory ws ar)
 
--- memory after the missing containers are made, and the index of the last and one
+-- memory after the missing containers are made, and the index of the last container plus 1 (0: none)
 pub record Extended : Type 0 where
   pub after : Memory
   pub parent : ℕ
@@ -35,7 +35,7 @@ containers t key [] m parent = extended m parent
 containers t key (e ∷ ends) m parent =
     pick (ltb e (length key)) (containers t key ends (makeItem m t parent (take e key) (stored containerKind [] 0)) (itemTotal (m .words) + 1)) (extended m parent)
 
--- the key's own item
+-- the item of the key itself
 unfoldable pub added : Extended → ℕ → List ℕ → Stored → Memory
 added l t key c = makeItem (l .after) t (l .parent) key c
 
@@ -45,7 +45,7 @@ pub record Ready (ws ar : List ℕ) (t : ℕ) (key : List ℕ) : Type 0 where
   pub known : t < tableTotal ws
   pub short : length key ≤ longestKey
 
--- a new item: the containers that are missing past `from`, then the key's own; 22, 23
+-- a new item: the containers that are missing past `from`, then the item of the key itself; 22, 23
 unfoldable pub insertNew : List ℕ → List ℕ → ℕ → List ℕ → Stored → ℕ → ℕ → Outcome Inserted
 insertNew ws ar t key c from parent =
     let ends = endsPast (tableSeparator ws t) key from in

@@ -10,7 +10,7 @@ use Rattle.build_memory.specs.Memory.{itemTotal, tableSeparator, itemKind, cont
 use Rattle.build_memory.specs.Find.{findKey}
 use Rattle.build_values.specs.declared.walk.Way.{Way}
 
--- clear: no item on the way is other than a container; from: where the last container that is there ends; parent: its index and one, or 0
+-- clear: nothing but containers stands on the way; from: the length of the last container's key; parent: its index plus 1, or 0
 abbrev pub way : Bool → ℕ → ℕ → Way
 way clear from parent = record { clear = clear; from = from; parent = parent }
 

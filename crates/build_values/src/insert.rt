@@ -43,7 +43,7 @@ pub struct Job {
     pub guest: usize,
 }
 
-// Makes the containers of the key that are missing past the walk, and answers the last one's index and one.
+// Makes the containers of the key that are missing past the walk. Answers the last container's index plus 1 (0: the key has none).
 fn make_containers(
     words: &mut [usize],
     arena: &mut [u8],
@@ -85,7 +85,7 @@ fn make_containers(
     }
 }
 
-// Makes what is missing past the walk, the key's own item last; the key's hash is given.
+// Makes what is missing past the walk, last the item of the key itself, whose hash is given.
 fn build_new(
     words: &mut [usize],
     arena: &mut [u8],
@@ -170,7 +170,7 @@ fn overwrite_item(
     Inserted::Replaced(old)
 }
 
-// The key is there, or it is new.
+// Writes the key's item anew where it is there, else makes it.
 fn insert_or_replace(
     words: &mut [usize],
     arena: &mut [u8],
@@ -194,7 +194,7 @@ fn insert_or_replace(
     insert_new(words, arena, job, key, value, walked, hash)
 }
 
-// Walks down the containers that are there (21), and refuses what is too deep (26).
+// Walks down the containers that are there (21), refuses what is too deep (26), and inserts.
 pub fn insert_below_path(
     words: &mut [usize],
     arena: &mut [u8],
@@ -220,7 +220,7 @@ pub fn insert_below_path(
     insert_or_replace(words, arena, job, key, value, walked)
 }
 
-// The table takes inserts (24), and the key is one (8, 20).
+// Refuses a table that is not free-standing (24), and a key that is not UTF-8 or too long (8, 20).
 fn insert_at_key(
     words: &mut [usize],
     arena: &mut [u8],

@@ -17,8 +17,8 @@ ghost use Rattle.model.specs.Builder.{longestKey, mostItems};
 ghost use Rattle.build_memory.specs.Memory.{Valid};
 ghost use Rattle.build_values.specs.Walk.{way, descend, sum};
 
-// How far the containers of a key are there: clear where nothing else stands in the way, from where the last one ends, parent its index
-// and one, or 0.
+// How far the containers of a key are there. clear: nothing but containers stands on the way; from: the length of the last one's key;
+// parent: its index plus 1, or 0.
 pub struct Way {
     pub clear: bool,
     pub from: usize,
@@ -81,7 +81,7 @@ pub fn descend_to(words: &[usize], arena: &[u8], table: usize, key: &[u8], sep: 
     }
 }
 
-// What the ends of the key past `from` cost.
+// What it costs to make the prefixes of the key that end past `from`.
 pub fn cost_of(key: &[u8], from: usize, sep: usize) -> Cost
     requires { ⌜ (from ≤ length (now key)) × (length (now key) ≤ longestKey) ⌝ }
     ensures { λ r. ⌜ (r .items ≡ length (endsPast sep (now (key .entry)) from)) × (r .room ≡ sum (endsPast sep (now (key .entry)) from)) ⌝ }

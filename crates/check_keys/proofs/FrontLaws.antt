@@ -1,4 +1,4 @@
--- A place in a key that reads: the bytes before it in the item's own fragment, and the place further up.
+-- A front of a key that reads: its bytes in the item's fragment, and the same front further up.
 use Prim.Native.Nat.{ℕ, _+_, _-_, _≤_, _<_}
 use mathlib.Core.Path.{_≡_, refl, sym, ap, _∙_, subst}
 use mathlib.Core.List.{List, _++_}
@@ -89,7 +89,7 @@ module _ (file : List ℕ) (t : Table) (left at n : ℕ) (sized : measure (keyOf
   size-within : itemAt file t at .size ≤ n
   size-within = omega (arith, fragment-long, parts .fits)
 
--- ---- a place
+-- ---- a front
 
 module _ (file : List ℕ) (t : Table) {p : Front} (fitting : FrontFits file t p) where
   abbrev whole : ℕ
@@ -123,7 +123,7 @@ module _ (file : List ℕ) (t : Table) {p : Front} (fitting : FrontFits file t p
   pub left-some : 0 < p .left
   left-some = some-left file t (p .left) (p .at) whole (fitting .sized)
 
-  -- the bytes before the place in the item's own fragment, as the code takes them
+  -- the last bytes of a front, in the item's fragment, as the code takes them
   pub stretch-is : (n : ℕ) → n ≤ p .rest → part (frontBytes file t p) (p .size - n) n ≡ part file (itemAt file t (p .at) .key + p .rest - n) n
   unfolding fragmentOf
   stretch-is n few =
@@ -148,7 +148,7 @@ module _ (file : List ℕ) (t : Table) {p : Front} (fitting : FrontFits file t p
         let yours : end - (end - n) ≡ n = omega arith in
         rw (mine, yours, stretch-is n few, is)
 
-  -- the place further up
+  -- the same front further up
   module _ (used : p .rest ≡ 0) where
     above-all : measure (aboveAt file t (p .left) (p .at) whole (fitting .sized)) ≡ Measured.Size (p .size)
     above-all = let e : p .size - p .rest ≡ p .size = omega arith in above-sized ∙ ap Measured.Size e
@@ -198,7 +198,7 @@ module _ (file : List ℕ) (t : Table) {p : Front} (fitting : FrontFits file t p
           } in
           subst (Raised file t p) (sym is) z
 
--- the place at the end of an item's own key: all of it stands before
+-- the front that is an item's whole joined key
 pub fitting-start : (file : List ℕ) (t : Table) {index size : ℕ} → Keyed file t index size → FrontFits file t (frontAt file t index size (t .count))
 unfolding frontAt
 fitting-start file t {index} {size} k =

@@ -1,4 +1,4 @@
--- An item's own key: its bytes where it is measured, and the loop that tallies its hash and length.
+-- An item's joined key: its bytes where it is measured, and the loop that tallies its hash and length.
 use Prim.Native.Nat.{ℕ, _+_, _*_, _-_, _≤_, _<_}
 use mathlib.Core.Path.{_≡_, refl, sym, ap, _∙_, subst}
 use mathlib.Core.List.{List, _++_}
@@ -35,7 +35,7 @@ unfolding measure bytesOf names
 names-joined (Joined.joined k) e = sym (same-refl k)
 names-joined (Joined.broken why) e = cc
 
--- an item's own chain names its key
+-- an item's chain names its joined key
 pub names-at : (file : List ℕ) (t : Table) {at index size : ℕ} → at ≡ index → measure (keyOf file t (t .count) index) ≡ Measured.Size size
     → true ≡ names (keyOf file t (t .count) at) (bytesOf (keyOf file t (t .count) index))
 names-at file t {at} {index} same e =

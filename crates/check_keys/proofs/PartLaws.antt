@@ -37,7 +37,7 @@ unfolding sameBytes
 empty-length [] e = rw (sym e)
 empty-length (x ∷ l) {n} e = ne-eqb n 0 (λ z. omega arith)
 
--- a list ends in another where its last part is that, and not where parts in the same place differ
+-- a list ends in another where its last part is that, and not where parts at the same offset differ
 pub ends-part : (l : List ℕ) (n : ℕ) (f : List ℕ) → length f ≤ n → part l (n - length f) (length f) ≡ f → endsAt l n f ≡ true
 unfolding endsAt
 ends-part l n f fits same = both-hold (le-leb (length f) n fits) (equal-same _ _ same)

@@ -1,4 +1,4 @@
--- Moving a place over a stretch of the file: one turn, the loop, and what it says of the key before the place.
+-- Passing over a stretch of the file: one turn, the loop, and what it says of the front.
 use Prim.Native.Nat.{ℕ, _+_, _-_, _≤_, _<_}
 use mathlib.Core.Path.{_≡_, refl, sym, ap, _∙_, subst}
 use mathlib.Core.List.{List, _++_}
@@ -47,7 +47,7 @@ module _ (file : List ℕ) (t : Table) {p : Front} (from end : ℕ) where
       )
 
   module _ (fitting : FrontFits file t p) (n : ℕ) (few : n ≤ p .rest) where
-    -- n bytes fewer before the place
+    -- the front with n bytes fewer
     abbrev back : Front
     back = record { at = p .at; rest = p .rest - n; size = p .size - n; left = p .left }
 
@@ -81,7 +81,7 @@ module _ (file : List ℕ) (t : Table) {p : Front} (from end : ℕ) where
     unfolding StretchPassed
     some-differs room e = (n, room, e)
 
--- numbers of a turn: d bytes fewer before the place, and before the end
+-- the counts of a turn: the front has d bytes fewer, and so has what is left of the stretch
 low-turn : (d from end : ℕ) → d ≤ end - from → from ≤ end → (d ≤ end) × (from ≤ end - d)
 low-turn d from end room low = omega arith
 
@@ -91,7 +91,7 @@ even-turn p h n to end d up even fits = omega arith
 gone-turn : (d end to : ℕ) → d ≤ end → end ≤ to → (to - (end - d) ≡ d + (to - end)) × (end - d + d ≡ end)
 gone-turn d end to fits high = omega arith
 
--- ---- the loop: the bytes from the present place to the first are those of the file from `end` to `to`
+-- ---- the loop: the present front, and behind it the bytes of the file from `end` to `to`, are the front at the start
 
 pub record Passing (file : List ℕ) (t : Table) (p : Front) (from to : ℕ) (here : Front) (end : ℕ) : Type 0 where
   pub fitting : FrontFits file t here

@@ -1,4 +1,4 @@
--- Comparing an item's key with the key before a place: one item, and the loop over its chain.
+-- Comparing an item's key with a front: one item, and the loop over its chain.
 use Prim.Native.Nat.{ℕ, suc, _+_, _-_, _≤_, _<_}
 use mathlib.Core.Path.{_≡_, refl, sym, ap, _∙_, subst}
 use mathlib.Core.List.{List}
@@ -29,7 +29,7 @@ use Rattle.check_keys.proofs.KeyLaws.{sized-bytes}
 use Rattle.check_keys.proofs.PartLaws.{empty-length}
 use Rattle.check_keys.proofs.FrontLaws.{fitting-start, front-long}
 
--- ---- one item, whose fragment's place is at hand
+-- ---- one item, whose fragment's offset is at hand
 
 module _ (file : List ℕ) (t : Table) (at : ℕ) {item : Item} (is : item ≡ itemAt file t at) where
   pub same-refused : (p : Front) {why : Refusal} → climbFrom file (t .count) item ≡ Step.Refused why → ItemCompared file t at p (Compared.Ended false)
@@ -82,7 +82,7 @@ module _ (file : List ℕ) (t : Table) (at : ℕ) {item : Item} (is : item ≡ i
     unfolding ItemCompared BackPassed
     ended-differs other steps = sym (names-above refl steps ∙ pick-false _ _ other)
 
--- ---- the loop: what the present item's chain says of the key before the place is what the whole chain says of the whole key
+-- ---- the loop: what the present item's chain says of the present front is what the whole chain says of the whole key
 
 pub record Comparing (file : List ℕ) (t : Table) (first : ℕ) (key : List ℕ) (here : Front) (at left : ℕ) : Type 0 where
   pub below : at < t .count

@@ -1,4 +1,4 @@
--- An item's own key, which is never written out: its bytes, its hash and its length.
+-- The joined key of an item, which is never written out: its bytes, its hash and its length.
 use Prim.Native.Nat.{ℕ, _<_}
 use mathlib.Core.Path.{_≡_}
 use mathlib.Core.List.{List, []}
@@ -19,7 +19,7 @@ unfoldable pub joinedKey : (ℕ → ℕ) → Joined → JoinedKey
 joinedKey rule (Joined.joined k) = JoinedKey.Key (hashBy rule k) (length k)
 joinedKey rule (Joined.broken why) = JoinedKey.Broken
 
--- an item of the table that has a key of so many bytes
+-- an item of the table whose joined key reads and has `size` bytes
 pub record Keyed (file : List ℕ) (t : Table) (index size : ℕ) : Type 0 where
   pub inside : InFile file t
   pub below : index < t .count

@@ -1,4 +1,4 @@
-// A place in an item's joined key, which moves from the key's end to its front over stretches of the file that stand there too.
+// The front of an item's joined key that is still to be compared. It is cut from its end, by stretches of the file that hold the same bytes.
 use layout::item::item_at;
 use layout::table::Table;
 use read::chain::Step;
@@ -14,7 +14,7 @@ ghost use Rattle.text.specs.Compare.{sameBytes};
 ghost use Rattle.layout.specs.Table.{InFile};
 ghost use Rattle.check_keys.specs.Front.{frontAt, frontBytes, FrontFits, Raised, StretchPassed, BackPassed, smaller};
 
-// An item of the chain, how many bytes of its fragment and of the whole key stand before the place, and the parent steps left.
+// A front of `size` bytes: it ends `rest` bytes into the fragment of item `at`, and `left` parent steps are left.
 pub struct Front {
     pub at: usize,
     pub rest: usize,
@@ -22,13 +22,13 @@ pub struct Front {
     pub left: usize,
 }
 
-// The place before the bytes passed over, or that others stand there.
+// The front that is left once the bytes are passed over, or that it ends in other bytes.
 pub enum Passed {
     Over(Front),
     Differs,
 }
 
-// The place at the end of an item's fragment, with so many bytes of the key before it.
+// The front of `size` bytes that ends with the fragment of item `at`.
 pub fn front_at(file: &[u8], table: Table, at: usize, size: usize, left: usize) -> Front
     requires { ⌜ InFile (now file) table × (at < table .count) ⌝ }
     ensures { λ r. ⌜ r ≡ frontAt (now (file .entry)) table at size left ⌝ }
@@ -42,7 +42,7 @@ pub fn front_at(file: &[u8], table: Table, at: usize, size: usize, left: usize) 
     }
 }
 
-// The same place, at the end of the parent's fragment: none of the item's own is left before it.
+// The same front, told from the parent: none of the item's fragment is left, so it ends with the parent's.
 fn raise(file: &[u8], table: Table, front: Front) -> Front
     requires { ⌜ InFile (now file) table × FrontFits (now file) table front × (front .rest ≡ 0) × (0 < front .size) ⌝ }
     ensures { λ r. ⌜ Raised (now (file .entry)) table front r ⌝ }
@@ -55,7 +55,7 @@ fn raise(file: &[u8], table: Table, front: Front) -> Front
     }
 }
 
-// Whether the n bytes before a place, all of the item's own fragment, are those of the file up to `end`.
+// Whether the last n bytes of a front, all of them in the item's fragment, are those of the file up to `end`.
 fn same_stretch(file: &[u8], table: Table, front: Front, end: usize, n: usize) -> bool
     requires { ⌜ InFile (now file) table × FrontFits (now file) table front × (n ≤ front .rest) × (n ≤ end) × (end ≤ length (now file)) ⌝ }
     ensures { λ r. ⌜ r ≡ sameBytes (part (frontBytes (now (file .entry)) table front) (front .size - n) n) (part (now (file .entry)) (end - n) n) ⌝ }
@@ -73,7 +73,7 @@ fn shorter(a: usize, b: usize) -> usize
     if a < b { a } else { b }
 }
 
-// Passes over the shorter of what is left of the fragment and of the stretch; where nothing is left of the fragment, only moves up.
+// Passes over as many bytes as the fragment and the stretch both have left; where the fragment has none left, only moves up to the parent.
 fn pass_some(file: &[u8], table: Table, front: Front, from: usize, end: usize) -> Passed
     requires { ⌜ InFile (now file) table × FrontFits (now file) table front ⌝ }
     requires { ⌜ (from < end) × (end ≤ length (now file)) × (end - from ≤ front .size) ⌝ }
@@ -96,7 +96,7 @@ fn pass_some(file: &[u8], table: Table, front: Front, from: usize, end: usize) -
     }
 }
 
-// Passes over the bytes of the file from `from` to `to`, which have to stand right before the place.
+// Passes over the bytes of the file from `from` to `to`: the front has to end in them.
 pub fn pass_back(file: &[u8], table: Table, front: Front, from: usize, to: usize) -> Passed
     requires { ⌜ InFile (now file) table × FrontFits (now file) table front × (from ≤ to) × (to ≤ length (now file)) ⌝ }
     ensures { λ r. ⌜ BackPassed (now (file .entry)) table front (part (now (file .entry)) from (to - from)) r ⌝ }

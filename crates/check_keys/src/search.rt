@@ -1,4 +1,4 @@
-// Looking up the key of an item, with no buffer for the key.
+// Looking up the joined key of an item, with no buffer for it.
 use crate::front::Front;
 use crate::front::Passed;
 use crate::front::front_at;
@@ -22,13 +22,13 @@ ghost use Rattle.read.specs.Find.{itemMatches, firstOf, findItem};
 ghost use Rattle.check_keys.specs.Key.{bytesOf, Keyed};
 ghost use Rattle.check_keys.specs.Front.{FrontFits, ItemCompared};
 
-// What an item says of the key before a place: yes or no, or that the front is its parent's to name.
+// What an item says of a front: yes or no, or that its parent has to name what is left of it.
 pub enum Compared {
     Ended(bool),
     Rest { parent: usize, front: Front },
 }
 
-// What the item at an index says of the key before a place. Its bytes are compared first, so that one that differs costs no more.
+// What item `at` says of a front. Bytes are compared first, so an item that differs costs no more than that.
 fn compare_item(file: &[u8], table: Table, at: usize, front: Front) -> Compared
     requires { ⌜ InFile (now file) table × FrontFits (now file) table front × (at < table .count) ⌝ }
     ensures { λ r. ⌜ ItemCompared (now (file .entry)) table at front r ⌝ }
@@ -52,7 +52,7 @@ fn compare_item(file: &[u8], table: Table, at: usize, front: Front) -> Compared
     }
 }
 
-// Whether the chain of the item at a position names the key of the item at an index, which has so many bytes. The two are compared from the back.
+// Whether the chain of item `at` names the joined key of item `index`, which has `size` bytes. The two are compared from the back.
 fn same_key(file: &[u8], table: Table, at: usize, index: usize, size: usize) -> bool
     requires { ⌜ Keyed (now file) table index size × (at < table .count) ⌝ }
     ensures { λ r. ⌜ r ≡ names (keyOf (now (file .entry)) table (table .count) at) (bytesOf (keyOf (now (file .entry)) table (table .count) index)) ⌝ }
@@ -76,7 +76,7 @@ fn same_key(file: &[u8], table: Table, at: usize, index: usize, size: usize) -> 
     false
 }
 
-// Whether the item at a position has the hash, and its chain names the key of the item at an index.
+// Whether item `at` has the hash, and its chain names the joined key of item `index`.
 fn joined_matches(
     file: &[u8],
     table: Table,
@@ -118,7 +118,7 @@ fn first_same(file: &[u8], table: Table, index: usize, size: usize, hash: u32, r
     Found::Nothing
 }
 
-// The item that the key of the item at an index names; the key's length and hash are known.
+// The item that the joined key of item `index` names; the key's length and hash are known.
 pub fn find_joined(file: &[u8], table: Table, index: usize, size: usize, hash: u32) -> Found
     requires { ⌜ Keyed (now file) table index size × (hash ≡ hashOf (bytesOf (keyOf (now file) table (table .count) index))) ⌝ }
     ensures { λ r. ⌜ r ≡ findItem plain (now (file .entry)) table (bytesOf (keyOf (now (file .entry)) table (table .count) index)) ⌝ }

@@ -15,19 +15,19 @@ ghost use Rattle.read.specs.Chain.{keyOf};
 ghost use Rattle.check_keys.specs.Tally.{before, prepend, finish};
 ghost use Rattle.check_keys.specs.Key.{joinedKey};
 
-// Of the bytes behind a place: what the hash of the bytes before them is multiplied by, and what is added.
+// What the end of a key does to a hash: of a key whose front has the hash h, the hash is h * weight + sum, modulo 2^32.
 pub struct Tally {
     pub weight: u32,
     pub sum: u32,
 }
 
-// An item's key by its hash and length, or that it does not read.
+// The hash and the length of a joined key, or that it does not read.
 pub enum JoinedKey {
     Key { hash: u32, size: usize },
     Broken,
 }
 
-// One byte more in front.
+// The tally with one byte more in front.
 fn prepend_byte(byte: u8, tally: Tally) -> Tally
     ensures { λ r. ⌜ r ≡ before plain byte tally ⌝ }
 {
@@ -39,7 +39,7 @@ fn prepend_byte(byte: u8, tally: Tally) -> Tally
     }
 }
 
-// All of a slice in front.
+// The tally with all of a slice in front.
 fn prepend_all(bytes: &[u8], tally: Tally) -> Tally
     ensures { λ r. ⌜ r ≡ prepend plain (now (bytes .entry)) tally ⌝ }
 {
@@ -52,7 +52,7 @@ fn prepend_all(bytes: &[u8], tally: Tally) -> Tally
     state
 }
 
-// The hash of a whole key.
+// The hash of a whole key: the front before it is empty, and has the hash 5381.
 fn finished(tally: Tally) -> u32
     ensures { λ r. ⌜ r ≡ finish tally ⌝ }
 {
@@ -60,7 +60,7 @@ fn finished(tally: Tally) -> u32
     std::num::wrapping_add_u32(front, tally.sum)
 }
 
-// The hash and the length of the key of the item at an index.
+// The hash and the length of the joined key of the item at an index.
 pub fn joined_key(file: &[u8], table: Table, index: usize) -> JoinedKey
     requires { ⌜ InFile (now file) table × (index < table .count) ⌝ }
     ensures { λ r. ⌜ r ≡ joinedKey plain (keyOf (now (file .entry)) table (table .count) index) ⌝ }

@@ -1,4 +1,4 @@
--- Laws of a set of bits: what is in it after a number is put in.
+-- Laws of a set of bits: what is in it after an index is put in.
 use Prim.Native.Nat.{ℕ, zero, suc, _+_, _*_, _-_, _/_, _%_, _^_, _<_, _≤_}
 use mathlib.Core.Path.{_≡_, refl, ap, _∙_}
 use mathlib.Core.List.{List}
@@ -46,7 +46,7 @@ or-one zero h = refl
 or-one (suc zero) h = refl
 or-one (suc (suc a)) h = absurd (omega arith)
 
--- what is in the set after a number is put in
+-- what is in the set after an index is put in
 module _ (bits : List ℕ) (at : ℕ) (h : at < 64 * length bits) where
   pub bit-same : hasBit (withBit bits at) at ≡ true
   unfolding hasBit withBit
@@ -79,7 +79,7 @@ pub length-bit : (bits : List ℕ) (at : ℕ) → length (withBit bits at) ≡ l
 unfolding withBit
 length-bit bits at = length-set bits _ _
 
--- an array of zeros holds no mark
+-- an array of zeros has no bit set
 zeros-at : (n i : ℕ) → _≡_ {A = ℕ} (getD (replicate n 0) i 0) 0
 zeros-at zero i = refl
 zeros-at (suc n) zero = refl

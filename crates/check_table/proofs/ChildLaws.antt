@@ -65,7 +65,7 @@ module _ (file : List ℕ) (t : Table) (index from : ℕ) (before : List ℕ) wh
   walk-start f = record { room = f .room; others = λ c l n. refl; own = λ w c l e. f .new c l e }
 
   module _ (k : ℕ) {bits : List ℕ} (m : Surveying file t index (among file from k) before bits true) where
-    -- the marks tell whether a child came before
+    -- the bits tell whether a child came before
     pub child-fresh : freshChild file t index bits (childAt file from k) ≡ childGood file t index from k
     unfolding freshChild childGood
     child-fresh =
@@ -130,7 +130,7 @@ module _ (file : List ℕ) (t : Table) (index from : ℕ) (before : List ℕ) (k
         subst (λ (z : List ℕ). Surveying file t index (among file from (k + 1)) before z true) (sym left) (walk-turn file t index from before k m fresh),
       )
 
--- a container's marks, from those of its list
+-- the bits of a container's children, from those of its list
 module _ (file : List ℕ) (t : Table) (index : ℕ) (item : Item) where
   pub no-bit : {bits : List ℕ} → Fresh file t index bits → ((c : ℕ) → false ≡ listsIt file c item)
       → Surveying file t index (λ c. listsIt file c item) bits bits true

@@ -11,7 +11,7 @@ use Rattle.layout.specs.Item.{itemAt}
 use Rattle.check_table.specs.Rules.{keyLists, keyFinds, valueOpens, childrenGood, parentGood, brokenRule}
 use Rattle.check_table.specs.Broken.{Keeps, Breaks}
 
--- of a choice whose other answer is a rule's number
+-- of a choice whose other answer is a rule
 pick-zero : (b : Bool) (rest n : ℕ) → pick b rest (suc n) ≡ 0 → (b ≡ true) × (rest ≡ 0)
 unfolding pick
 pick-zero true rest n e = (refl, e)
@@ -33,7 +33,7 @@ module _ (rule : ℕ → ℕ) (file : List ℕ) (t : Table) (i : ℕ) where
   unfolding brokenRule pick
   keeps-breaks-none k = rw (k .one, k .two, k .three, k .four, k .five, k .six)
 
-  -- the first rule broken has its number
+  -- the first rule broken is the one that is answered
   pub breaks-number : {n : ℕ} → Breaks rule file t i n → brokenRule rule file t i ≡ n
   unfolding brokenRule pick
   breaks-number (Breaks.first a) = rw a
@@ -43,7 +43,7 @@ module _ (rule : ℕ → ℕ) (file : List ℕ) (t : Table) (i : ℕ) where
   breaks-number (Breaks.fifth a b c d e) = rw (a, b, c, d, e)
   breaks-number (Breaks.sixth a b c d e f) = rw (a, b, c, d, e, f)
 
-  -- and a number that is not 0 is that of a rule that is broken first
+  -- and an answer that is not 0 is a rule that is broken first
   number-breaks : (brokenRule rule file t i ≡ 0 → ⊥) → Breaks rule file t i (brokenRule rule file t i)
   unfolding brokenRule pick
   number-breaks =

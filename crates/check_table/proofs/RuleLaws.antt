@@ -30,7 +30,7 @@ use Rattle.check_table.specs.Survey.{keyRule}
 use Rattle.check_table.specs.Rules.{isJoined, isAt, keyLists, keyFinds, isInside, listOpens, valueOpens, childCount, among, childGood, childrenGood, listsIt, parentKeeps, parentGood, brokenRule, firstBroken, checkIn}
 use Rattle.check_table.proofs.KeyText.{sought-joined}
 
--- ---- rules 1 and 2, with the item's own key at hand
+-- ---- rules 1 and 2, with the item's joined key at hand
 
 joined-there : (rule : ℕ → ℕ) (j : Joined) {hash size : ℕ} → joinedKey rule j ≡ JoinedKey.Key hash size → isJoined j ≡ true
 unfolding joinedKey isJoined

@@ -52,7 +52,7 @@ module _ (rule : ℕ → ℕ) (file : List ℕ) (t : Table) (i : ℕ) {key : Lis
   unfolding keyFinds soughtAt
   reads-finds e = rw is (at-is i e)
 
--- rules 3 and 4: the kind and the value place
+-- rules 3 and 4: the kind and the value pointer
 inside-true : (p : Pointed) → isInside p ≡ true → p ≡ Pointed.Inside
 unfolding isInside
 inside-true Pointed.Inside e = refl
@@ -152,7 +152,7 @@ module _ (file : List ℕ) (t : Table) (j : ℕ) where
       (λ _. pick-with P _ _ _ (λ below e. inr (ltb-true _ _ below, up-true file j (itemAt file t parent) e .0))
       (λ _ e. let z : _≡_ {A = ℕ} 0 1 = cc in absurd (omega arith)))
 
-  -- a parent below the count, which is small, is no root's mark
+  -- a parent below the count, which is small, is not the parent word of a root
   pub parent-up : (parent : ℕ) → parent < t .count → t .count ≤ 16777216 → parentOf (t .count) parent ≡ Step.Up parent
   unfolding parentOf pick
   parent-up parent below few =

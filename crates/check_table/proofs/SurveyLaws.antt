@@ -1,4 +1,4 @@
--- The walk over all containers, and what its marks tell of rules 5 and 6.
+-- The walk over all containers, and what its bits tell of rules 5 and 6.
 use Prim.Native.Nat.{ℕ, _+_, _*_, _≤_, _<_}
 use mathlib.Core.Path.{_≡_, refl, sym, ap, _∙_, subst}
 use mathlib.Core.List.{List}
@@ -108,7 +108,7 @@ module _ (file : List ℕ) (t : Table) where
             absurd (omega arith)
         by-case false other = let ne : index ≡ stop → ⊥ = eqb-false _ _ other in omega arith
 
--- zeros hold no mark, and 10,923 words hold a bit for each item that a file can hold
+-- zeros have no bit set, and 10,923 words hold a bit for each item that a file can hold
 pub blank : (file : List ℕ) (t : Table) (n : ℕ) → InFile file t → 699050 ≤ 64 * n → Blank t (replicate n 0)
 blank file t n inside enough =
     record { room = omega (arith, inside .items, inside .short, length-replicate {A = ℕ} n 0); none = none-bit-set n }

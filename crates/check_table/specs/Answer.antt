@@ -10,7 +10,7 @@ checkedNumber Checked.Sound = 0
 checkedNumber (Checked.Broken rule item) = number CheckBroken
 checkedNumber (Checked.Refused why) = number why
 
--- the rule broken, 1 to 6, and the item's index, which stand with 40
+-- the rule broken, 1 to 6, and the item's index, which are told with 40
 unfoldable pub checkedRule : Checked → ℕ
 checkedRule Checked.Sound = 0
 checkedRule (Checked.Broken rule item) = rule

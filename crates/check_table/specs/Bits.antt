@@ -1,4 +1,4 @@
--- A set of small numbers, a bit each, in words of 64 bits.
+-- A set of item indices, a bit each, in words of 64 bits.
 use Prim.Native.Nat.{ℕ, _/_, _%_, _^_}
 use mathlib.Core.List.{List}
 use mathlib.Core.Bool.{Bool}

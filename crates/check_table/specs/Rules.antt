@@ -68,7 +68,7 @@ valueOpens file item =
     (pick (eqb (item .kind) (kindByte Kind.Table)) (isTable (openTable file (item .from) (item .to)))
     (pick (eqb (item .kind) (kindByte Kind.Container)) (listOpens file item) false))
 
--- the child indices of a container: a word each, from a place on
+-- the child indices of a container: a word each, from an offset on
 unfoldable pub childAt : List ℕ → ℕ → ℕ → ℕ
 childAt file from k = wordAt file (from + 4 * k)
 

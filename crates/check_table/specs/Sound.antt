@@ -1,4 +1,4 @@
--- A sound table: it opens; each item's key reads and is looked up as that very item; each kind is known and each value place is good;
+-- A sound table: it opens; each item's key reads and is looked up as that very item; each kind is known and each value pointer is good;
 -- each parent is a container; a container lists precisely the items that name it as parent, once each.
 use Prim.Native.Nat.{ℕ, _-_, _%_, _<_}
 use mathlib.Core.Path.{_≡_}
@@ -19,7 +19,7 @@ use Rattle.read.specs.Chain.{Joined, keyOf}
 use Rattle.check_table.specs.declared.check.Checked.{Checked}
 use Rattle.check_table.specs.Rules.{indexOf, childAt, childCount, checkTable}
 
--- the kind is known, and the place that the value pointer names is good: 'v', 'H' as a table, 'L' with a length divisible by 4
+-- the kind is known, and the value pointer opens as it asks: 'v' at 8, 'H' as a table, 'L' at 4 with a length divisible by 4
 pub data ValueGood (file : List ℕ) (item : Item) : Type 0 where
   value : item .kind ≡ kindByte Kind.Value → openPointer (length file) (item .from) (item .to) 8 ≡ Pointed.Inside → ValueGood file item
   table : item .kind ≡ kindByte Kind.Table → {t : Table} → openTable file (item .from) (item .to) ≡ Opened.Table t → ValueGood file item
@@ -33,7 +33,7 @@ InList file item index = (k : ℕ) × (k < childCount item) × (childAt file (it
 pub record SoundIn (rule : ℕ → ℕ) (file : List ℕ) (t : Table) : Type 0 where
   -- its key reads, and lookup of that key answers this very item
   pub keys : (i : ℕ) → i < t .count → (key : List ℕ) × (keyOf file t (t .count) i ≡ Joined.joined key) × (indexOf rule file t key ≡ Found.At i)
-  -- its kind is known, and its value place is good
+  -- its kind is known, and its value pointer is good
   pub values : (i : ℕ) → i < t .count → ValueGood file (itemAt file t i)
   -- it is a root, or its parent is a container
   pub parents : (i : ℕ) → i < t .count

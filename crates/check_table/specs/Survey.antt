@@ -1,4 +1,4 @@
--- What the functions of the check say: rules 1 and 2 together, and the marks, by which a child is marked exactly when the container that
+-- What the functions of the check say: rules 1 and 2 together; and the bits: a child has one exactly when the container that
 -- it names lists it.
 use Prim.Native.Nat.{ℕ, _*_, _≤_, _<_}
 use mathlib.Core.Path.{_≡_}
@@ -17,7 +17,7 @@ use Rattle.check_table.specs.Rules.{keyLists, keyFinds, valueOpens, chil
 unfoldable pub keyRule : (ℕ → ℕ) → List ℕ → Table → ℕ → ℕ
 keyRule rule file t index = pick (keyLists file t index) (pick (keyFinds rule file t index) 0 2) 1
 
--- an item that names the container and is not marked yet
+-- an item that names the container and has no bit yet
 unfoldable pub freshChild : List ℕ → Table → ℕ → List ℕ → ℕ → Bool
 freshChild file t index bits child =
     ltb child (t .count) && (eqb (itemAt file t child .parent) index && not (hasBit bits child))
@@ -29,23 +29,23 @@ afterChild fresh bits child = pick fresh (withBit bits child) bits
 unfoldable pub fiveOrShut : List ℕ → Table → ℕ → Item → Bool
 fiveOrShut file t index item = pick (valueOpens file item) (childrenGood file t index item) true
 
--- no mark yet
+-- no bit is set yet
 pub record Blank (t : Table) (bits : List ℕ) : Type 0 where
   pub room : t .count ≤ 64 * length bits
   pub none : (c : ℕ) → hasBit bits c ≡ false
 
--- no child of a container is marked yet
+-- no child of a container has a bit yet
 pub record Fresh (file : List ℕ) (t : Table) (index : ℕ) (bits : List ℕ) : Type 0 where
   pub room : t .count ≤ 64 * length bits
   pub new : (c : ℕ) → c < t .count → itemAt file t c .parent ≡ index → hasBit bits c ≡ false
 
--- a container's children are marked as wanted, if all went well, and no other item's mark has changed
+-- a container's children have their bits as wanted, if all are good, and no other item's bit has changed
 pub record Surveying (file : List ℕ) (t : Table) (index : ℕ) (wanted : ℕ → Bool) (before after : List ℕ) (well : Bool) : Type 0 where
   pub room : t .count ≤ 64 * length after
   pub others : (c : ℕ) → c < t .count → (itemAt file t c .parent ≡ index → ⊥) → hasBit after c ≡ hasBit before c
   pub own : well ≡ true → (c : ℕ) → c < t .count → itemAt file t c .parent ≡ index → hasBit after c ≡ wanted c
 
--- the containers before stop keep rule 5, and the marks of their children say whether they list them; stop is the count or breaks rule 5
+-- the containers before stop keep rule 5, and the bits of their children say whether they list them; stop is the count or breaks rule 5
 pub record Survey (file : List ℕ) (t : Table) (stop : ℕ) (bits : List ℕ) : Type 0 where
   pub room : t .count ≤ 64 * length bits
   pub within : stop ≤ t .count

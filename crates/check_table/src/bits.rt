@@ -1,10 +1,10 @@
-// A set of small numbers: a bit each, 64 to a word.
+// A set of item indices: a bit each, 64 to a word.
 ghost use mathlib.Core.Path.{_≡_};
 ghost use Prim.Native.Nat.{_*_, _<_};
 ghost use lib.ListN.{length};
 ghost use Rattle.check_table.specs.Bits.{hasBit, withBit};
 
-// Whether a number is in the set.
+// Whether an index is in the set.
 pub fn has_bit(bits: &[usize], at: usize) -> bool
     requires { ⌜ at < 64 * length (now bits) ⌝ }
     ensures { λ r. ⌜ r ≡ hasBit (now (bits .entry)) at ⌝ }
@@ -12,7 +12,7 @@ pub fn has_bit(bits: &[usize], at: usize) -> bool
     (bits[at / 64] >> (at % 64)) & 1 == 1
 }
 
-// Puts a number into the set.
+// Puts an index into the set.
 pub fn set_bit(bits: &mut [usize], at: usize)
     requires { ⌜ at < 64 * length (now bits) ⌝ }
     ensures { λ _. ⌜ now (bits .exit) ≡ withBit (now (bits .entry)) at ⌝ }

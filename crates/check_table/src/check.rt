@@ -28,7 +28,7 @@ pub enum Checked {
     Refused(Refusal),
 }
 
-// Rule 6, by the marks where the parent was walked.
+// Rule 6: by the item's bit, where the survey came past its parent; else by the parent's list.
 fn parent_good(
     file: &[u8],
     table: Table,

@@ -21,7 +21,7 @@ ghost use Rattle.layout.specs.Pointer.{openPointer};
 ghost use Rattle.check_table.specs.Rules.{isInside, isTable, listOpens, valueOpens, among, childCount, listsIt};
 ghost use Rattle.check_table.specs.Survey.{keyRule};
 
-// Rules 1 and 2: the number of the one that the item's key breaks, or 0.
+// Which of rules 1 and 2 the item's key breaks first; 0 for neither.
 pub fn key_rule(file: &[u8], table: Table, index: usize) -> u32
     requires { ⌜ InFile (now file) table × (index < table .count) ⌝ }
     ensures { λ r. ⌜ r ≡ keyRule plain (now (file .entry)) table index ⌝ }
@@ -89,7 +89,7 @@ pub fn value_opens(file: &[u8], item: Item) -> bool
     false
 }
 
-// The number of a container's children.
+// How many children a container lists.
 pub fn child_count(item: Item) -> usize
     requires { ⌜ item .from ≤ item .to ⌝ }
     ensures { λ r. ⌜ r ≡ childCount item ⌝ }
@@ -97,7 +97,7 @@ pub fn child_count(item: Item) -> usize
     (word_size(item.to) - word_size(item.from)) / 4
 }
 
-// Whether an index is among the first n children from a place.
+// Whether an index is among the n child words from `from` on.
 fn is_among(file: &[u8], from: usize, n: usize, index: usize) -> bool
     requires { ⌜ from + 4 * n ≤ length (now file) ⌝ }
     ensures { λ r. ⌜ r ≡ among (now (file .entry)) from n index ⌝ }

@@ -1,4 +1,4 @@
-// One walk over all containers, which marks each child that its container lists. A child names one parent, so one set of marks serves all containers.
+// One walk over all containers, which sets the bit of each child that its container lists. A child names one parent, so one set of bits serves all.
 use crate::bits::has_bit;
 use crate::bits::set_bit;
 use crate::rules::child_count;
@@ -16,7 +16,7 @@ ghost use Rattle.layout.specs.Table.{InFile};
 ghost use Rattle.check_table.specs.Rules.{childGood, among, listsIt};
 ghost use Rattle.check_table.specs.Survey.{freshChild, afterChild, fiveOrShut, Fresh, Surveying, Survey, Blank};
 
-// Marks a child that is an item, names the container as its parent, and is not marked.
+// Sets the bit of a child that is an item, names the container as its parent, and has no bit yet. Answers whether it is such a child.
 fn survey_child(file: &[u8], table: Table, index: usize, child: usize, bits: &mut [usize]) -> bool
     requires { ⌜ InFile (now file) table × (table .count ≤ 64 * length (now bits)) ⌝ }
     ensures said { λ r. ⌜ r ≡ freshChild (now (file .entry)) table index (now (bits .entry)) child ⌝ }
@@ -36,7 +36,7 @@ fn survey_child(file: &[u8], table: Table, index: usize, child: usize, bits: &mu
     true
 }
 
-// Marks the first n children from a place, while they are good.
+// Sets the bits of the children named by the n words from `from` on, up to the first that is not good. Answers whether all are.
 fn survey_children(
     file: &[u8],
     table: Table,
@@ -61,7 +61,7 @@ fn survey_children(
     true
 }
 
-// Marks the children of an item that is a container and keeps rule 4.
+// Sets the bits of the children of an item that is a container and keeps rule 4. Answers whether all of them are good.
 fn survey_container(file: &[u8], table: Table, index: usize, item: Item, bits: &mut [usize]) -> bool
     requires { ⌜ InFile (now file) table ⌝ }
     requires { ⌜ Fresh (now file) table index (now bits) ⌝ }
@@ -78,7 +78,7 @@ fn survey_container(file: &[u8], table: Table, index: usize, item: Item, bits: &
     survey_children(file, table, index, from, child_count(item), bits)
 }
 
-// Marks the children of all containers up to the first that keeps rule 4 and breaks rule 5; its index, or the item count.
+// Sets the bits of the children of all containers up to the first that keeps rule 4 and breaks rule 5. Answers its index, or the item count.
 pub fn survey_all(file: &[u8], table: Table, bits: &mut [usize]) -> usize
     requires { ⌜ InFile (now file) table × Blank table (now bits) ⌝ }
     ensures { λ r. ⌜ Survey (now (file .entry)) table r (now (bits .exit)) ⌝ }

@@ -123,7 +123,7 @@ demand-2 ws ar long calls t buffer start end size is =
 
 -- ---- demand 3
 
--- an answer with a place has no refusal's number
+-- an answer with a pointer has no refusal's number
 placed-none : (l : Looked) (from to n : ℕ) → l ≡ Looked.Pointer from to → lookedNumber l ≡ suc n → ⊥
 unfolding lookedNumber
 placed-none l from to n is e = let z : _≡_ {A = ℕ} 0 (suc n) = sym (ap lookedNumber is) ∙ e in omega arith

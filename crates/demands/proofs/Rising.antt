@@ -1,4 +1,4 @@
--- A table's items stand in order of creation: an item made earlier has an earlier place.
+-- A table's items stand in order of creation: an item made earlier stands earlier.
 use mathlib.Core.Path.{_≡_, sym, ap, _∙_}
 use mathlib.Core.Logic.{⊎-elim}
 use mathlib.Core.List.{List, [], _∷_, _++_}
@@ -13,7 +13,7 @@ use Rattle.image.proofs.TimesLaws.{eq-or-ne, lt-or-ge, index-stands}
 use Rattle.write_numbers.specs.Roster.{stateOf}
 use Rattle.write.proofs.StateLaws.{among, among-hit, among-miss, among-none, members-are}
 
--- numbers below n that rise
+-- indices below n that rise
 record Rising (n : ℕ) (l : List ℕ) : Type 0 where
   pub below : (k : ℕ) → k < length l → getD l k 0 < n
   pub rises : (j k : ℕ) → j < k → k < length l → getD l j 0 < getD l k 0

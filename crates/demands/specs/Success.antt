@@ -17,7 +17,7 @@ use Rattle.write_numbers.specs.Roster.{stateOf}
 use Rattle.write.specs.declared.Written.{Written}
 use Rattle.write.specs.Write.{hasEmpty, freeStanding, imageFor, writeAnswer, imageAfter}
 
--- a memory that the rules accept means only tables that can be laid and read back: each that a write takes, with all nested in it
+-- a memory that the rules accept means only tables that can be laid and read back: each free-standing one, with all nested in it
 abbrev pub FreeStandingWritable : Type 0
 FreeStandingWritable = (ws ar : List ℕ) → fullyValid ws ar ≡ true → (t : ℕ) → freeStanding ws t ≡ true → Writable (stateOf ws ar) depth t
 
@@ -27,7 +27,7 @@ pub record Success (ws ar : List ℕ) (t room start end size : ℕ) : Type 0 whe
   pub starts : start ≡ headerSize
   pub ends : end ≡ endOf (stateOf ws ar) t headerSize
   pub long : size ≡ length (imageFor ws ar t)
-  -- the memory keeps the rules, the table is known and not placed, and no item in it or in those nested in it has the empty key
+  -- the memory is fully valid, the table is free-standing, and no item in it or in those nested in it has the empty key
   pub whole : fullyValid ws ar ≡ true
   pub root : freeStanding ws t ≡ true
   pub named : hasEmpty (stateOf ws ar) depth t ≡ false

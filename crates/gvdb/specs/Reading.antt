@@ -22,7 +22,7 @@ unfoldable pub listedAnswer : Listed → GvdbKey
 listedAnswer (Listed.Key size next) = record { number = 0; length = size; next = next .at }
 listedAnswer (Listed.Refused why) = record { number = number why; length = 0; next = 0 }
 
--- item and next position stand with 2 and 3 of the value's pointer too
+-- item and next position are told with 2 and 3 of the value's pointer too
 unfoldable pub valuedAnswer : Valued → GvdbValue
 valuedAnswer (Valued.Value index start end next) = record { number = 0; start = start; end = end; index = index; next = next .at }
 valuedAnswer (Valued.Unopened why index next) = record { number = number why; start = 0; end = 0; index = index; next = next .at }

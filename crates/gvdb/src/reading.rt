@@ -22,7 +22,7 @@ pub struct GvdbOpened {
     pub blooms: u32,
 }
 
-// A place in the file: a value's, or a nested table's pointer.
+// A pointer into the file: to a value, or to a nested table.
 #[repr(C)]
 pub struct GvdbPlace {
     pub number: u32,
@@ -38,7 +38,7 @@ pub struct GvdbKey {
     pub next: usize,
 }
 
-// A value: its place, its item, and the next position; item and position stand with 2 and 3 of its pointer too.
+// A value: its pointer, its item, and the next position; item and position are told with 2 and 3 of its pointer too.
 #[repr(C)]
 pub struct GvdbValue {
     pub number: u32,

@@ -1,4 +1,4 @@
--- One item more, one item written again, one table placed, and one table more keep what is right.
+-- One item more, one item written again, one table placed, and one table more keep tables and items consistent.
 use Prim.Native.Nat.{ℕ, zero, suc, _+_, _-_, _≤_, _<_}
 use native.Mathlib.Numerals.{add-one}
 use native.Mathlib.Omega.{arith}

@@ -42,7 +42,7 @@ Lows ws w = (p : ℕ) → p < 264 → (p ≡ 3 → ⊥) → (p ≡ 4 → ⊥) �
 pub lows-two : (ws w : List ℕ) → Lows ws w → tableTotal w ≡ tableTotal ws
 lows-two ws w l = l 2 (omega arith) (λ (e : 2 ≡ 3). omega arith) (λ (e : 2 ≡ 4). omega arith)
 
--- ---- a new item that is right keeps memory good
+-- ---- a new item that is consistent keeps memory good
 pub made-good : (g : ℕ → Table) (ws ar : List ℕ) (t parent : ℕ) (k : List ℕ) (c : Stored) → Good g ws ar → itemTotal ws < 1024
     → roomUsed ws + length k + length (c .value) ≤ length ar
     → NewItem (tableTotal ws) (itemTotal ws) g (itemOf ws ar) (item t k parent (c .kind) (c .value) (c .guest))

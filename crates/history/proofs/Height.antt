@@ -24,7 +24,7 @@ use Rattle.history.proofs.Consistent.{most-cong, item-cong}
 use Rattle.history.proofs.Nest.{held-is}
 use Rattle.history.proofs.Meaning.{contentFrom, entryFrom, itemsOf, items-count, tables-count, item-at}
 
--- ---- how many numbers below n pass
+-- ---- how many indices below n pass
 
 unfoldable tally : (ℕ → Bool) → ℕ → ℕ
 tally p zero = 0
@@ -119,7 +119,7 @@ module _ (ws ar : List ℕ) (honest : Honest ws ar) where
       tally-less (lower (high v)) (lower (high u)) (tableTotal ws) v l (lower-self v)
       (both-hold (eq-eqb (tableOf ws v .placed) 1 p) (lt-ltb (high v) (high u) h)) (lower-up (high v) (high u) (omega arith))
 
-  -- where the guests of a table are told right one level down, so is the table
+  -- where the heights of a table's guests are told correctly one level down, so is the table's
   level : (d u : ℕ) → ((i : ℕ) → i < itemTotal ws → itemOf ws ar i .table ≡ u → itemOf ws ar i .kind ≡ 72 → suc (told.heldIn items d (itemOf ws ar i .guest)) ≡ high (itemOf ws ar i .guest))
       → told.heldIn items (suc d) u ≡ heldIn (itemTotal ws) (itemOf ws ar) high u
   unfolding told.heldIn heldIn

@@ -82,7 +82,7 @@ module _ {A : Type 0} where
 unfoldable pub contentFrom : ℕ → List ℕ → ℕ → Content
 contentFrom kind value guest = pick (eqb kind valueKind) (Content.bytes value) (pick (eqb kind tableKind) (Content.nested guest) Content.container)
 
--- a parent that is an index and one, or 0, as the item above
+-- a parent that is an index plus 1, or 0, as the item above
 unfoldable pub aboveOf : ℕ → ℕ
 aboveOf parent = pick (eqb parent 0) noItem (parent - 1)
 

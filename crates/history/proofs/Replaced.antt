@@ -77,7 +77,7 @@ module _ (ws ar : List ℕ) (i : ℕ) (c : Stored) (tidy : Tidy ws ar) (there : 
   own : (f : ℕ) → f < 4 → word (m .words) (itemAt i + 6 + f) ≡ word row f
   own f h = let s = tidy .valid-memory in high (itemAt i + 6 + f) (omega arith) ∙ get-put ws (itemAt i + 6) row f (omega arith) h
 
-  -- where an item stands is as it was, its own too
+  -- where an item stands is as it was, that of the one written again too
   place-word : (j f : ℕ) → f < 6 → word (m .words) (itemAt j + f) ≡ word ws (itemAt j + f)
   place-word j f h = by-side (decLt i j)
     where

@@ -146,7 +146,7 @@ module _ (g : ℕ → Table) (ws ar : List ℕ) (good : Good g ws ar) (t sep : �
   pub way-down : Falls 0 0
   way-down = fall-fuel (length k) 0 0 (omega arith) (omega arith)
 
--- ---- the containers that are missing, and the key's own entry
+-- ---- the containers that are missing, and the entry of the key itself
 
 box-entry : (t : ℕ) (key : List ℕ) (parent : ℕ) → entryFrom (item t key parent containerKind [] 0) ≡ entry t key Content.container (aboveOf parent)
 unfolding entryFrom contentFrom pick

@@ -1,4 +1,4 @@
--- The model's walk along the prefixes of a key, a prefix at a time; and all of it where every prefix from a place on is missing.
+-- The model's walk along the prefixes of a key, a prefix at a time; and all of it where every prefix past an index is missing.
 use Prim.Native.Nat.{ℕ, zero, suc, _+_, _≤_, _<_}
 use native.Mathlib.Nat.{not-suc-le-zero}
 use native.Mathlib.Numerals.{add-one}
@@ -20,7 +20,7 @@ use Rattle.build_values.specs.Walk.{sum}
 use Rattle.build_values.proofs.WalkLaws.{further, last}
 use Rattle.history.proofs.Found.{hits-not, find-snoc}
 
--- the entries that the missing ends of a key become: a container for each but the last; n is the number of the first
+-- the entries that the missing ends of a key become: a container for each but the last; n is the index of the first
 unfoldable pub newEntries : ℕ → List ℕ → Content → List ℕ → ℕ → ℕ → List Entry
 newEntries t k c [] n above = []
 newEntries t k c (e ∷ []) n above = entry t (take e k) c above ∷ []
@@ -56,7 +56,7 @@ walk-by t c k p [] items above h = absurd (not-suc-le-zero h)
 walk-by t c k p (e ∷ ends) items above h = refl
 
 module _ (sep : ℕ) (k : List ℕ) where
-  -- the prefixes past a place
+  -- the prefixes past an index
   abbrev pub along : ℕ → List (List ℕ)
   along from = map (λ (n : ℕ). take n k) (endsPast sep k from)
 

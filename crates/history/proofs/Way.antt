@@ -22,7 +22,7 @@ use Rattle.history.specs.Tidy.{Tidy}
 use Rattle.history.specs.Consistent.{There, Above}
 use Rattle.history.proofs.Index.{false-true, find-found, find-missing}
 
--- ---- between a place and the next end there is no separator
+-- ---- between an index and the next end there is no separator
 gap-by : (q : Bool) (sep at x : ℕ) (r : List ℕ) → eqb x sep ≡ q → (n f : ℕ) → (suc at < f → f < n → getD r (f - suc (suc at)) 0 ≡ sep → ⊥)
     → at < f → f < pick q (suc at) n → getD (x ∷ r) (f - suc at) 0 ≡ sep → ⊥
 unfolding pick
@@ -84,7 +84,7 @@ module _ (ws ar : List ℕ) (tidy : Tidy ws ar) (t : ℕ) (k : List ℕ) where
   unfolding itemOf
   item-missing h i l a b = find-missing ws ar tidy t k h i l a b
 
--- ---- the prefixes up to a place are there
+-- ---- the prefixes up to an index are there
 pub record Chain (n : ℕ) (f : ℕ → Item) (t sep : ℕ) (k : List ℕ) (low : ℕ) : Type 0 where
   pub there : (e : ℕ) → 1 ≤ e → e ≤ low → getD k (e - 1) 0 ≡ sep → There n f t (take e k)
 

@@ -24,13 +24,13 @@ pub record There (n : ℕ) (f : ℕ → Item) (t : ℕ) (k : List ℕ) : Type 0 
   pub of-table : f index .table ≡ t
   pub has-key : f index .key ≡ k
 
--- a parent (an index and one, or 0) above place `from` of key k: an item below n of the same table whose key ends there
+-- a parent (an index plus 1, or 0) above the first `from` bytes of key k: an item below n of the same table that has them as its key
 pub record Above (n : ℕ) (f : ℕ → Item) (t : ℕ) (k : List ℕ) (parent from : ℕ) : Type 0 where
   pub within : from ≤ length k
   pub root : parent ≡ 0 → from ≡ 0
   pub holds : (j : ℕ) → parent ≡ suc j → (j < n) × (f j .table ≡ t) × (f j .key ≡ take from k)
 
--- the parent of item i: made before it, its key a proper prefix, and no separator between its end and the item's
+-- the parent of item i: made before it, its key a proper prefix, and no longer proper prefix ends at a separator
 pub record Parent (f : ℕ → Item) (i : ℕ) (x : Item) (sep : ℕ) : Type 0 where
   pub from : ℕ
   pub above : Above i f (x .table) (x .key) (x .parent) from
@@ -45,7 +45,7 @@ heldItem h t x = pick (eqb (x .table) t && eqb (x .kind) 72) (h (x .guest)) 0
 unfoldable pub heldIn : ℕ → (ℕ → Item) → (ℕ → ℕ) → ℕ → ℕ
 heldIn n f h t = most (λ (i : ℕ). heldItem h t (f i)) n
 
--- T tables g 0 .. and n items f 0 .. in the order they were made
+-- T tables g 0 .. and n items f 0 .. in the order in which they were made
 pub record Consistent (T n : ℕ) (g : ℕ → Table) (f : ℕ → Item) : Type 0 where
   pub tables : T ≤ mostTables
   pub count : n ≤ mostItems
@@ -66,5 +66,5 @@ pub record Consistent (T n : ℕ) (g : ℕ → Table) (f : ℕ → Item) : Type 
   pub guests : (i : ℕ) → i < n → f i .kind ≡ 72 → (f i .guest < T) × (g (f i .guest) .placed ≡ 1) × (g (f i .guest) .height ≤ 7)
   pub once : (i j : ℕ) → i < n → j < n → f i .kind ≡ 72 → f j .kind ≡ 72 → f i .guest ≡ f j .guest → i ≡ j
   pub ranks : (i : ℕ) → i < n → f i .kind ≡ 72 → g (f i .table) .placed ≡ 1 → g (f i .guest) .height < g (f i .table) .height
-  -- the height of a placed table is as its record says
+  -- the height in a placed table's record is one more than the greatest height that it holds
   pub exact : (t : ℕ) → t < T → g t .placed ≡ 1 → g t .height ≡ heldIn n f (λ (x : ℕ). g x .height) t + 1

@@ -4,7 +4,7 @@ use mathlib.Core.List.{List}
 use Rattle.words.specs.Store.{part}
 use Rattle.build_memory.specs.Memory.{tableSeparator, tablePlaced, tableHeight, itemTable, itemParent, itemKind, valueStart, valueSize, itemGuest, keyOf}
 
--- parent: the index of its container and one, or 0; guest: the table held, where the kind says that one is
+-- parent: the index of its container plus 1, or 0; guest: the table held, where the kind says that one is
 pub record Item : Type 0 where
   pub table : ℕ
   pub key : List ℕ

@@ -1,5 +1,5 @@
--- Memory that only the builder wrote: every key and value lies within the room used, the index of chains is right, and the links are
--- empty.
+-- Memory that only the builder wrote: every key and value lies within the room used, each bucket's chain leads through all its items, and the links
+-- are empty.
 use Prim.Native.Nat.{ℕ, zero, suc, _+_, _%_, _≤_, _<_}
 use mathlib.Core.Path.{_≡_}
 use mathlib.Core.List.{List}
@@ -9,7 +9,7 @@ use Rattle.words.specs.Choice.{pick}
 use Rattle.words.specs.Hash.{hashOf}
 use Rattle.build_memory.specs.Memory.{word, buckets, links, headAt, linkAt, itemTotal, roomUsed, itemHash, itemOlder, keyStart, keySize, valueStart, valueSize, keyOf, emptyMark, Valid}
 
--- the last number below m that is in bucket b, or the empty mark
+-- the last index below m that is in bucket b, or the empty mark
 unfoldable pub lastIn : (ℕ → ℕ) → ℕ → ℕ → ℕ
 lastIn bucket b zero = emptyMark
 lastIn bucket b (suc m) = pick (eqb (bucket m) b) m (lastIn bucket b m)

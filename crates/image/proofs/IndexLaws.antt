@@ -1,4 +1,4 @@
--- The numbers of a table's items, for every rule for a byte: each item has exactly one number, a number lies in the run of its item's
+-- The indices of a table's items, for every rule for a byte: each item has exactly one index, an index lies in the run of its item's
 -- bucket, and a run reads in descending key order.
 use mathlib.Core.Path.{_≡_, refl, sym, ap, _∙_}
 use mathlib.Core.Bool.{Bool, true, false}
@@ -22,7 +22,7 @@ getD-made f [] k h = absurd (omega arith)
 getD-made f (x ∷ l) zero h = refl
 getD-made f (x ∷ l) (suc k) h = getD-made f l k (omega arith)
 
--- numbers of places of items are numbers of items
+-- where each rank stands once in a list, so does each item in the list of their items
 numbering-both : (members order l : List ℕ) → length order ≡ length members → ((x : ℕ) → times x order ≡ times x members) → ((x : ℕ) → times x members ≤ 1)
     → Each (length members) l → Indexing members (map (λ (q : ℕ). getD order q 0) l)
 numbering-both members order l size same one b = record {
@@ -46,7 +46,7 @@ module _ (rule : ℕ → ℕ) (table : Rows) where
   unfolding hashesOf
   length-hashes = length-map (keyOrder table) (λ (i : ℕ). hashBy rule (table .key i)) ∙ length-order table
 
-  -- the hash of a place
+  -- the hash of a rank
   pub hash-at : (place : ℕ) → place < length (table .members) → getD (hashesOf rule table) place 0 ≡ hashBy rule (table .key (getD (keyOrder table) place 0))
   unfolding hashesOf
   hash-at place l = getD-made (λ (i : ℕ). hashBy rule (table .key i)) (keyOrder table) place (omega (arith, length-order table))
@@ -54,7 +54,7 @@ module _ (rule : ℕ → ℕ) (table : Rows) where
   pub ranks-each : Each (length (table .members)) (byBucket (hashesOf rule table))
   ranks-each = rw length-hashes at (indexed-each (hashesOf rule table))
 
-  -- the item of a number, by its place
+  -- the item at an index, by its rank
   pub item-at : (k : ℕ) → k < length (table .members) → itemOf rule table k ≡ getD (keyOrder table) (getD (byBucket (hashesOf rule table)) k 0) 0
   unfolding itemOf byIndex
   item-at k l = getD-made (λ (q : ℕ). getD (keyOrder table) q 0) (byBucket (hashesOf rule table)) k (omega (arith, ranks-each .size))
@@ -67,7 +67,7 @@ module _ (rule : ℕ → ℕ) (table : Rows) where
   pub first-most : (b : ℕ) → bucketStart (hashesOf rule table) b ≤ length (table .members)
   first-most b = rw length-hashes at (start-most (hashesOf rule table) b)
 
-  -- the bucket of a number's place is its item's hash modulo the item count
+  -- the bucket of the rank at an index is its item's hash modulo the item count
   pub item-bucket : (k : ℕ) → k < length (table .members)
       → bucketOf (hashesOf rule table) (getD (byBucket (hashesOf rule table)) k 0) ≡ hashBy rule (table .key (itemOf rule table k)) % length (table .members)
   unfolding bucketOf
@@ -75,7 +75,7 @@ module _ (rule : ℕ → ℕ) (table : Rows) where
       let q = getD (byBucket (hashesOf rule table)) k 0 in
       rw (item-at k l, hash-at q (ranks-each .within k l)) (ap (λ (n : ℕ). hashBy rule (table .key (getD (keyOrder table) q 0)) % n) length-hashes)
 
-  -- a number lies in the run of its item's bucket: from the bucket's word up to the next bucket's
+  -- an index lies in the run of its item's bucket: from the bucket's word up to the next bucket's
   pub run-from : (k : ℕ) → k < length (table .members) → bucketStart (hashesOf rule table) (hashBy rule (table .key (itemOf rule table k)) % length (table .members)) ≤ k
   unfolding bucketStart
   run-from k l = rw (item-bucket k l) at (index-bucket (hashesOf rule table) k (omega (arith, length-hashes)) .from)
@@ -86,7 +86,7 @@ module _ (rule : ℕ → ℕ) (table : Rows) where
 
   -- ---- runs in descending key order
 
-  -- of two numbers of one bucket the later one's item stands earlier in the key order
+  -- of two indices of one bucket the later one's item stands earlier in the key order
   ranks-descend : (j k : ℕ) → j < k → k < length (table .members)
       → hashBy rule (table .key (itemOf rule table j)) % length (table .members) ≡ hashBy rule (table .key (itemOf rule table k)) % length (table .members)
       → getD (byBucket (hashesOf rule table)) k 0 < getD (byBucket (hashesOf rule table)) j 0
@@ -102,7 +102,7 @@ module _ (rule : ℕ → ℕ) (table : Rows) where
       (ascends-at table (keyOrder table) (order-ascends table) (getD (byBucket (hashesOf rule table)) k 0) (getD (byBucket (hashesOf rule table)) j 0)
       (ranks-descend j k less l same) (omega (arith, length-order table, ranks-each .within j (omega arith))))
 
-  -- ---- each item has exactly one number
+  -- ---- each item has exactly one index
 
   module _ (one : (x : ℕ) → times x (table .members) ≤ 1) where
     pub numbering : Indexing (table .members) (byIndex rule table)
@@ -124,7 +124,7 @@ module _ (rule : ℕ → ℕ) (table : Rows) where
     unfolding laidIndex
     index-within i h = omega (arith, numbering .size, item-stands i h .within)
 
-    -- the item of an item's number is the item, and the number of a number's item is the number
+    -- the item at an item's index is the item, and the index of the item at an index is that index
     pub item-index : (i : ℕ) → Has (table .members) i → itemOf rule table (laidIndex rule table i) ≡ i
     unfolding itemOf laidIndex
     item-index i h = item-stands i h .is

@@ -100,7 +100,7 @@ module _ (table : Rows) where
   unfolding keyOrder
   order-ascends = sort-ascends (table .members)
 
-  -- of two places in an ascending list the later one's key does not come before
+  -- of two items in an ascending list the later one's key does not come before
   pub ascends-at : (l : List ℕ) → Ascending table l → (j k : ℕ) → j < k → k < length l → precedes (table .key (getD l k 0)) (table .key (getD l j 0)) ≡ false
   unfolding Ascending
   ascends-at [] a j k less h = absurd (omega arith)

@@ -1,4 +1,4 @@
--- The words, lengths and places of what a plan lays, and what an image that holds it holds at each place.
+-- The words, lengths and offsets of what a plan lays, and what an image that holds it holds at each offset.
 use mathlib.Core.Path.{_≡_, refl, ap, _∙_}
 use mathlib.Core.Logic.{⊎-elim}
 use mathlib.Core.List.{List, [], _∷_, _++_}
@@ -62,7 +62,7 @@ fourth-word size kind small few =
     let d : (size + 65536 * kind) / 256 / 256 / 256 % 256 ≡ 0 = ap (λ (n : ℕ). n % 256) none in
     rw (a, b, c, d)
 
--- ---- lengths and places
+-- ---- lengths and offsets
 
 pub aligned-above : (x a : ℕ) → x ≤ aligned x a
 unfolding aligned
@@ -180,7 +180,7 @@ module _ (p : Plan) where
 -- ---- a plan that an image holds
 
 module _ (img : List ℕ) (p : Plan) (at : ℕ) (held : Holds img at (planBytes p at)) where
-  -- where the fragments and values begin, where the key and the value of number k start
+  -- where the fragments and values start, where the key and the value of item k start
   abbrev pub base : ℕ
   base = at + chunkSize (p .count)
 
@@ -238,7 +238,7 @@ module _ (img : List ℕ) (p : Plan) (at : ℕ) (held : Holds img at (planBytes 
       field-held 4 img (at + 8 + 4 * b) (p .first b) (omega arith)
       (words-held img (p .first) (p .count) b (at + 8) l (holds-front img (at + 8) (wordsOf (p .first) (p .count)) _ after-head))
 
-  -- the record of number k
+  -- the record of item k
   pub read-record : (k : ℕ) → k < p .count → Holds img (at + 8 + 4 * p .count + 24 * k) (recordBytes p k (keyStart k) (valueFrom k))
   read-record k l = record-held p img base (p .count) k (at + 8 + 4 * p .count) l (holds-front img (at + 8 + 4 * p .count) (records p base (p .count)) _ after-buckets)
 

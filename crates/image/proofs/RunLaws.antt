@@ -1,4 +1,4 @@
--- Runs of places and the numbering bucket by bucket, over the hashes of the places: each place has one number, which lies in the run of
+-- Runs of ranks and their indices bucket by bucket, over the hashes of the ranks: each rank has one index, which lies in the run of
 -- its bucket, and runs read in descending order.
 use mathlib.Core.Path.{_≡_, refl, sym, ap, _∙_, subst}
 use mathlib.Core.Logic.{⊎-elim, _⊎_}
@@ -19,7 +19,7 @@ use Rattle.image.specs.Indexing.{Each, InRun, InBucket, ranksBefore}
 use Rattle.image.proofs.TimesLaws.{eq-or-ne, lt-or-ge, times-none, times-here, times-there, times-append, each-once}
 
 module _ (hashes : List ℕ) where
-  -- ---- one run: places are put into their bucket in ascending order, each at the front
+  -- ---- one run: ranks are put into their bucket in ascending order, each at the front
 
   pub run-none : (b : ℕ) → run hashes b 0 ≡ []
   unfolding run
@@ -42,7 +42,7 @@ module _ (hashes : List ℕ) where
       by true e = let h = eqb-true (bucketOf hashes k) b e in rw (run-hit b k h) (hit h)
       by false e = let n = eqb-false (bucketOf hashes k) b e in rw (run-miss b k n) (miss n)
 
-  -- a place that is not put yet is not in a run
+  -- a rank that is not put yet is not in a run
   pub run-above : (b k p : ℕ) → k ≤ p → times p (run hashes b k) ≡ 0
   run-above b zero p h = ap (times p) (run-none b) ∙ times-none p
   run-above b (suc k) p h =
@@ -50,7 +50,7 @@ module _ (hashes : List ℕ) where
       (λ _. times-there p k (run hashes b k) (λ q. omega arith) ∙ run-above b k p (omega arith))
       (λ _. run-above b k p (omega arith))
 
-  -- nor is a place of another bucket
+  -- nor is a rank of another bucket
   pub run-other : (b k x : ℕ) → (bucketOf hashes x ≡ b → ⊥) → times x (run hashes b k) ≡ 0
   run-other b zero x n = ap (times x) (run-none b) ∙ times-none x
   run-other b (suc k) x n =
@@ -58,7 +58,7 @@ module _ (hashes : List ℕ) where
       (λ e. times-there x k (run hashes b k) (λ q. n (rw q at e)) ∙ run-other b k x n)
       (λ _. run-other b k x n)
 
-  -- a place of the bucket stands there once
+  -- a rank of the bucket stands there once
   pub times-run : (x k : ℕ) → x < k → times x (run hashes (bucketOf hashes x) k) ≡ 1
   times-run x zero h = absurd (omega arith)
   times-run x (suc k) h =
@@ -83,7 +83,7 @@ module _ (hashes : List ℕ) where
   run-front b k l zero e rest h = record { below = omega arith; same = e }
   run-front b k l (suc m) e rest h = let r = rest m (omega arith) in record { below = omega (arith, r .below); same = r .same }
 
-  -- what stands in a run is a place below the bound and of the bucket
+  -- what stands in a run is a rank below the bound and of the bucket
   pub run-of : (b k m : ℕ) → m < length (run hashes b k) → InRun hashes b k (getD (run hashes b k) m 0)
   unfolding run
   run-of b zero m h = absurd (omega arith)
@@ -93,7 +93,7 @@ module _ (hashes : List ℕ) where
       (λ n. rw (run-miss b k n) (let r = run-of b k m (rw (run-miss b k n) at h) in record { below = omega (arith, r .below); same = r .same }))
       (eq-or-ne (bucketOf hashes k) b)
 
-  -- a run reads in descending order of places
+  -- a run reads in descending order of ranks
   descends-front : (k : ℕ) (l : List ℕ) (i j : ℕ) → ((m : ℕ) → m < length l → getD l m 0 < k)
       → ((a c : ℕ) → a < c → c < length l → getD l c 0 < getD l a 0) → i < j → j < suc (length l) → getD (k ∷ l) j 0 < getD (k ∷ l) i 0
   descends-front k l i zero below rest less h = absurd (omega arith)
@@ -137,7 +137,7 @@ module _ (hashes : List ℕ) where
       (λ l. omega (arith, times-after x b i l, run-other b (length hashes) x (λ e. omega arith)))
       (eq-or-lt-of-le (le-of-suc-le-suc h))
 
-  -- each place has exactly one number
+  -- each rank has exactly one index
   pub indexed-once : (x : ℕ) → x < length hashes → times x (byBucket hashes) ≡ 1
   unfolding byBucket
   indexed-once x h = times-after x (length hashes) h (bucket-within x h)
@@ -152,7 +152,7 @@ module _ (hashes : List ℕ) where
   unfolding bucketStart runsBelow
   start-suc b = length-append (runsBelow hashes b) (run hashes b (length hashes))
 
-  -- the places of the runs of the buckets before b, counted place by place
+  -- the ranks of the runs of the buckets before b, counted rank by rank
   tally : ℕ → ℕ → ℕ
   tally zero k = 0
   tally (suc b) k = tally b k + length (run hashes b k)
@@ -214,12 +214,12 @@ module _ (hashes : List ℕ) where
   pub start-fits : (b : ℕ) → bucketStart hashes b + length (run hashes b (length hashes)) ≤ length hashes
   start-fits b = omega (arith, start-suc b, start-most (suc b))
 
-  -- as many numbers as items
+  -- as many indices as items
   pub length-indexed : length (byBucket hashes) ≡ length hashes
   unfolding byBucket bucketStart
   length-indexed = start-all
 
-  -- ---- the numbers of a bucket
+  -- ---- the indices of a bucket
 
   record Split (b d : ℕ) : Type 0 where
     rest : List ℕ
@@ -234,7 +234,7 @@ module _ (hashes : List ℕ) where
       (λ l. let s = split b d l in record { rest = s .rest ++ run hashes d (length hashes); is = rw (s .is, append-assoc, append-assoc) })
       (eq-or-lt-of-le (le-of-suc-le-suc h))
 
-  -- the numbers from a bucket's word on, as many as its run has, are its run
+  -- the ranks from a bucket's word on, as many as its run has, are its run
   pub run-indices : (b : ℕ) → b < length hashes → take (length (run hashes b (length hashes))) (drop (bucketStart hashes b) (byBucket hashes)) ≡ run hashes b (length hashes)
   unfolding byBucket bucketStart
   run-indices b h =
@@ -242,7 +242,7 @@ module _ (hashes : List ℕ) where
       rw (s .is, drop-at (runsBelow hashes b) (run hashes b (length hashes) ++ s .rest) (length (runsBelow hashes b)) refl)
       (take-at (run hashes b (length hashes)) (s .rest) (length (run hashes b (length hashes))) refl)
 
-  -- the place with a number of a bucket, by its run
+  -- the rank at an index of a bucket, by its run
   pub index-at : (b m : ℕ) → b < length hashes → m < length (run hashes b (length hashes)) → getD (byBucket hashes) (bucketStart hashes b + m) 0 ≡ getD (run hashes b (length hashes)) m 0
   unfolding byBucket bucketStart
   index-at b m h l =
@@ -269,7 +269,7 @@ module _ (hashes : List ℕ) where
       rw is (bucket-last d k (getD (run hashes d (length hashes)) m 0) (run-of d (length hashes) m less) ge h))
       (lt-or-ge k (length (runsBelow hashes d)))
 
-  -- a number lies in the run of its place's bucket
+  -- an index lies in the run of its rank's bucket
   pub index-bucket : (k : ℕ) → k < length hashes → InBucket hashes (length hashes) k (getD (byBucket hashes) k 0)
   unfolding byBucket
   index-bucket k l = bucket-of (length hashes) k (omega (arith, length-all))
@@ -280,7 +280,7 @@ module _ (hashes : List ℕ) where
   pub indexed-each : Each (length hashes) (byBucket hashes)
   indexed-each = each-once (length hashes) (byBucket hashes) length-indexed indexed-once (λ k l. index-bucket k l .below)
 
-  -- of two numbers of one bucket the later one has the earlier place
+  -- of two indices of one bucket the later one has the earlier rank
   pub indices-descend : (j k : ℕ) → j < k → k < length hashes → bucketOf hashes (getD (byBucket hashes) j 0) ≡ bucketOf hashes (getD (byBucket hashes) k 0)
       → getD (byBucket hashes) k 0 < getD (byBucket hashes) j 0
   unfolding bucketStart

@@ -1,4 +1,4 @@
--- Two plans that agree on every number lay the same bytes.
+-- Two plans that agree at every index lay the same bytes.
 use mathlib.Core.Path.{_≡_, refl}
 use Prim.Native.Nat.{ℕ, zero, suc, _+_, _≤_, _<_}
 use native.Mathlib.Omega.{arith}

@@ -69,7 +69,7 @@ times-some x [] k h e = absurd (omega arith)
 times-some x (y ∷ l) zero h e = omega (arith, times-here x y l e)
 times-some x (y ∷ l) (suc k) h e = omega (arith, times-cons x y l, times-some x l k (omega arith) e)
 
--- what stands in two places, stands there twice
+-- what stands at two indices of a list, stands there twice
 pub times-two : (x : ℕ) (l : List ℕ) (j k : ℕ) → j < k → k < length l → getD l j 0 ≡ x → getD l k 0 ≡ x → 1 < times x l
 times-two x [] j k a h d e = absurd (omega arith)
 times-two x (y ∷ l) j zero a h d e = absurd (omega arith)
@@ -91,7 +91,7 @@ index-stands (y ∷ l) x h =
     record { within = rw (ne-eqb y x n) (omega (arith, s .within)); is = rw (ne-eqb y x n) (s .is) })
     (eq-or-ne y x)
 
--- where nothing stands twice, one element has one place
+-- where nothing stands twice, one element stands at one index
 pub offset-once : (l : List ℕ) → ((x : ℕ) → times x l ≤ 1) → (j k : ℕ) → j < length l → k < length l → getD l j 0 ≡ getD l k 0 → j ≡ k
 offset-once l one j k a b e =
     ⊎-elim

@@ -6,7 +6,7 @@ use Rattle.layout.specs.declared.table.Table.{Table}
 use Rattle.layout.specs.declared.item.Item.{Item}
 use Rattle.image.specs.Plan.{Plan, chunkSize, place, valueStart}
 
--- numbers fit their fields, and a value pointer covers no more than was laid
+-- every word fits its field, and a value pointer covers no more than was laid
 pub record PlanFits (p : Plan) : Type 0 where
   pub first32 : (b : ℕ) → b < p .count → p .first b < 4294967296
   pub hash32 : (k : ℕ) → k < p .count → p .hash k < 4294967296
@@ -18,7 +18,7 @@ pub record PlanFits (p : Plan) : Type 0 where
 unfoldable pub openedAs : ℕ → ℕ → Table
 openedAs at count = record { start = at; blooms = 0; buckets = count; items = at + (8 + 4 * count); count = count }
 
--- the item that reads as number k there
+-- the item that reads at index k there
 unfoldable pub laidItem : Plan → ℕ → ℕ → Item
 laidItem p at k = record {
   hash = p .hash k;
@@ -30,7 +30,7 @@ laidItem p at k = record {
   to = valueStart p k (place p (at + chunkSize (p .count)) k) + p .covers k;
 }
 
--- two plans that agree on every number
+-- two plans that agree at every index
 pub record SamePlan (p q : Plan) : Type 0 where
   pub count : p .count ≡ q .count
   pub first : (b : ℕ) → b < p .count → p .first b ≡ q .first b

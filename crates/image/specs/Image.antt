@@ -35,17 +35,17 @@ abbrev pub depth : ℕ
 depth = 8
 
 module _ (rule : ℕ → ℕ) where
-  -- the number of an item's parent; a root has none
+  -- the index of an item's parent; a root has none
   unfoldable pub parentIndex : Rows → ℕ → ℕ
   parentIndex table i = pick (isChild table i) (laidIndex rule table (table .above i)) noItem
 
-  -- the numbers of some items, as words
+  -- the indices of some items, as words
   unfoldable pub childWords : Rows → List ℕ → List ℕ
   childWords table [] = []
   childWords table (c ∷ rest) = word (laidIndex rule table c) ++ childWords table rest
 
   module _ (inner : ℕ → ℕ → List ℕ) (state : State) (table : Rows) where
-    -- a value's bytes, a nested table with all its chunks, or the children's numbers
+    -- a value's bytes, a nested table with all its chunks, or the children's indices
     unfoldable pub valueOf : ℕ → Content → ℕ → List ℕ
     valueOf i (Content.bytes value) at = value
     valueOf i (Content.nested t) at = inner t at

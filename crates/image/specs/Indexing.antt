@@ -1,4 +1,4 @@
--- What holds of the order and the numbers of a table's items.
+-- What holds of the order and the indices of a table's items.
 use Prim.Native.Nat.{ℕ, zero, suc, _≤_, _<_}
 use mathlib.Core.Path.{_≡_}
 use mathlib.Core.Bool.{false}
@@ -10,7 +10,7 @@ use Rattle.text.specs.Order.{precedes}
 use Rattle.model.specs.Table.{Rows, Has}
 use Rattle.image.specs.Index.{bucketOf, runsBelow}
 
--- a list of the numbers below n, each once
+-- a list of the numbers below n, each once; `place` says where each stands
 pub record Each (n : ℕ) (l : List ℕ) : Type 0 where
   pub size : length l ≡ n
   pub within : (k : ℕ) → k < n → getD l k 0 < n
@@ -26,19 +26,19 @@ pub record Indexing (members l : List ℕ) : Type 0 where
   pub once : (j k : ℕ) → j < length members → k < length members → getD l j 0 ≡ getD l k 0 → j ≡ k
   pub all : (x : ℕ) → Has members x → Has l x
 
--- a place of bucket b, below k
+-- a rank of bucket b, below k
 pub record InRun (hashes : List ℕ) (b k x : ℕ) : Type 0 where
   pub below : x < k
   pub same : bucketOf hashes x ≡ b
 
--- a place with number k: it lies in a bucket before d, and its number in the run of its bucket
+-- the rank at index k: its bucket is one before d, and k lies in the run of its bucket
 pub record InBucket (hashes : List ℕ) (d k x : ℕ) : Type 0 where
   pub below : x < length hashes
   pub bucket-below : bucketOf hashes x < d
   pub from : length (runsBelow hashes (bucketOf hashes x)) ≤ k
   pub to : k < length (runsBelow hashes (suc (bucketOf hashes x)))
 
--- how many of the places below k lie in a bucket before b
+-- how many of the ranks below k are of a bucket before b
 unfoldable pub ranksBefore : List ℕ → ℕ → ℕ → ℕ
 ranksBefore hashes b zero = 0
 ranksBefore hashes b (suc k) = pick (ltb (bucketOf hashes k) b) (suc (ranksBefore hashes b k)) (ranksBefore hashes b k)

@@ -1,4 +1,4 @@
--- What a list of bytes holds at a place, and an image that bytes were laid into.
+-- What a list of bytes holds at an offset, and an image that bytes were laid into.
 use Prim.Native.Nat.{ℕ, _+_}
 use mathlib.Core.Path.{_≡_}
 use mathlib.Core.List.{List}

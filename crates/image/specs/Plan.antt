@@ -1,4 +1,4 @@
--- The bytes of a table that is given by item number, as document 01 has them under 'Laying an image'.
+-- The bytes of a table that is given index by index, as document 01 has them under 'Laying an image'.
 use Prim.Native.Nat.{ℕ, zero, suc, _+_, _*_, _-_}
 use mathlib.Core.List.{List, [], _∷_, _++_}
 use lib.ListN.{length}
@@ -10,13 +10,13 @@ pub record Plan : Type 0 where
   pub count : ℕ
   -- a bucket's word
   pub first : ℕ → ℕ
-  -- of the item of a number: hash, parent's number or 4294967295, key fragment, kind, alignment of its value
+  -- of the item at an index: hash, parent's index or 4294967295, key fragment, kind, alignment of its value
   pub hash : ℕ → ℕ
   pub parent : ℕ → ℕ
   pub fragment : ℕ → List ℕ
   pub kind : ℕ → ℕ
   pub align : ℕ → ℕ
-  -- its value with all its chunks, if it starts at a place; and the length of the chunk that the value pointer covers
+  -- its value with all its chunks, if it starts at an offset; and the length of the chunk that the value pointer covers
   pub value : ℕ → ℕ → List ℕ
   pub covers : ℕ → ℕ
 
@@ -34,7 +34,7 @@ unfoldable pub chunkSize : ℕ → ℕ
 chunkSize n = 8 + 28 * n
 
 module _ (p : Plan) where
-  -- where the value of number k starts, if its key starts at `at`: alignment is counted from the file's start
+  -- where the value of item k starts, if its key starts at `at`: alignment is counted from the file's start
   unfoldable pub valueStart : ℕ → ℕ → ℕ
   valueStart k at = aligned (at + length (p .fragment k)) (p .align k)
 
@@ -47,7 +47,7 @@ module _ (p : Plan) where
   payload at zero = []
   payload at (suc k) = payload at k ++ itemBytes k (at + length (payload at k))
 
-  -- where the key of number k starts
+  -- the offset of the key of item k
   unfoldable pub place : ℕ → ℕ → ℕ
   place at k = at + length (payload at k)
 

@@ -9,7 +9,7 @@ use Rattle.model.specs.Table.{Content, Rows, State, Has, times, isChild}
 use Rattle.model.specs.Builder.{longestKey, mostItems}
 use Rattle.image.specs.Index.{indexIn}
 
--- the item above a child is of the table, was made earlier, and its key begins the child's
+-- the item above a child is of the table, was made earlier, and the child's key starts with its key
 pub record ChildFits (table : Rows) (i : ℕ) : Type 0 where
   pub member : Has (table .members) (table .above i)
   pub earlier : indexIn (table .members) (table .above i) < indexIn (table .members) i

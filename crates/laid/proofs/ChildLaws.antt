@@ -1,4 +1,4 @@
--- A container's children: each item below it once, in order of arrival, and their numbers as words.
+-- A container's children: each item below it once, in order of arrival, and their indices as words.
 use mathlib.Core.Path.{_≡_, refl, sym, ap, _∙_}
 use mathlib.Core.Logic.{⊎-elim}
 use mathlib.Core.List.{List, [], _∷_}
@@ -81,7 +81,7 @@ module _ (table : Rows) (i : ℕ) where
       (λ x. ⊎-elim (λ q. omega (arith, times-child x q (table .members), one x)) (λ q. omega (arith, times-other x q (table .members))) (eq-or-ne (table .above x) i))
       j k a b e
 
--- their words read back as their numbers
+-- their words read back as their indices
 pub child-word : (rule : ℕ → ℕ) (table : Rows) (file l : List ℕ) (at j : ℕ) → ((k : ℕ) → k < length l → laidIndex rule table (getD l k 0) < 4294967296) → j < length l
     → Holds file at (childWords rule table l) → wordAt file (at + 4 * j) ≡ laidIndex rule table (getD l j 0)
 unfolding childWords

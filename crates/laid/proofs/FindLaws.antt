@@ -1,4 +1,4 @@
--- In an image that holds a plan, a key is found at its number, and a key that no number has is not found.
+-- In an image that holds a plan, a key is found at its index, and a key that no item has is not found.
 use mathlib.Core.Path.{_≡_, refl, ap, _∙_}
 use mathlib.Core.Bool.{Bool, true, false}
 use mathlib.Core.List.{List}
@@ -57,14 +57,14 @@ module _ (rule : ℕ → ℕ) (img : List ℕ) (p : Plan) (at : ℕ) (held : Hol
   unfolding openedAs
   key-found i l = key-whole img p at held short fits key rank keys i l
 
-  -- what is found is a number with the key
+  -- what is found is an item with the key
   pub found-index : (x : List ℕ) (i : ℕ) → findItem rule img table x ≡ Found.At i → (i < p .count) × (key i ≡ x)
   unfolding openedAs
   found-index x i e =
       let n = found-names rule img table x i e in
       (n .0, same-key (key-found i (n .0)) (n .2))
 
-  -- a key that no number has is not found
+  -- a key that no item has is not found
   pub find-nothing : (x : List ℕ) → ((k : ℕ) → k < p .count → key k ≡ x → ⊥) → findItem rule img table x ≡ Found.Nothing
   find-nothing x none = by (findItem rule img table x) refl
     where
@@ -77,7 +77,7 @@ module _ (rule : ℕ → ℕ) (img : List ℕ) (p : Plan) (at : ℕ) (held : Hol
     unfolding laidItem
     laid-hash k l = rw (laid-item img p at held short fits k l) (runs .hashed k l)
 
-    -- number k lies in the run of its key's bucket
+    -- item k lies in the run of its key's bucket
     in-run : (k : ℕ) → k < p .count → (runFor rule img table (key k) .first ≤ k) × (k < runFor rule img table (key k) .last)
     unfolding runOf openedAs
     in-run k l =
@@ -88,7 +88,7 @@ module _ (rule : ℕ → ℕ) (img : List ℕ) (p : Plan) (at : ℕ) (held : Hol
         let high : k < lastOf p b = rw same at (runs .to k l) in
         (rw (bucket-reads b (mod-lt (hashBy rule (key k)) some)) low, rw (last-reads b) high)
 
-    -- a key is found at its number
+    -- a key is found at its index
     pub find-there : (k : ℕ) → k < p .count → findItem rule img table (key k) ≡ Found.At k
     unfolding openedAs
     find-there k l = by (findItem rule img table (key k)) refl

@@ -21,7 +21,7 @@ module _ (rule : ℕ → ℕ) (state : State) (root : ℕ) (good : Writable stat
   pub root-back : (file : List ℕ) → length file ≤ longestFile → Holds file headerSize (tableBytes rule state depth root headerSize) → AllBack rule file state depth root headerSize
   root-back file short held = all-back rule file state depth root headerSize held short refl good
 
-  -- any file that begins with the image
+  -- any file that starts with the image
   pub front-back : (file : List ℕ) → length file ≤ longestFile → Holds file 0 (imageOf rule state root) → AllBack rule file state depth root headerSize
   unfolding imageOf
   front-back file short held =

@@ -1,4 +1,4 @@
--- Each item of a table that an image holds reads back: its number, its key, its record, and what it holds.
+-- Each item of a table that an image holds reads back: its index, its key, its record, and what it holds.
 use mathlib.Core.Path.{_≡_, refl, sym, ap, _∙_}
 use mathlib.Core.List.{List}
 use Prim.Native.Nat.{ℕ, zero, suc, _+_, _%_, _≤_, _<_}
@@ -56,7 +56,7 @@ module _ (state : State) (d t : ℕ) (good : Writable state (suc d) t) where
     pub runs-plan : PlanRuns rule (planAt rule state d t) (λ k. state t .key (itemOf rule (state t) k))
     runs-plan = plan-runs rule (λ u start. tableBytes rule state d u start) state (state t) well-formed
 
-    -- an item's number, and the item of that number
+    -- an item's index, and the item at that index
     pub index-small : (i : ℕ) → Has (state t .members) i → laidIndex rule (state t) i < length (state t .members)
     index-small i l = index-within rule (state t) (well-formed .once) i l
 
@@ -84,7 +84,7 @@ module _ (rule : ℕ → ℕ) (img : List ℕ) (state : State) (d t at : ℕ) (h
   unfolding planOf
   opens = laid-opens img (planAt rule state d t) at plan-held short even
 
-  -- the key of a number is the whole key of the item with that number
+  -- the key at an index is the whole key of the item there
   pub key-of-index : (k : ℕ) → k < length (state t .members)
       → keyOf img (tableOpened state t at) (length (state t .members)) k ≡ Joined.joined (state t .key (itemOf rule (state t) k))
   unfolding planOf
@@ -96,7 +96,7 @@ module _ (rule : ℕ → ℕ) (img : List ℕ) (state : State) (d t at : ℕ) (h
       key-of-index (laidIndex rule (state t) i) (index-small state d t good rule i l)
       ∙ ap (λ (j : ℕ). Joined.joined (state t .key j)) (indexed-item state d t good rule i l)
 
-  -- the key of an item is found at its number, and a key that no item has is not found
+  -- the key of an item is found at its index, and a key that no item has is not found
   pub found-back : (i : ℕ) → Has (state t .members) i → findItem rule img (tableOpened state t at) (state t .key i) ≡ Found.At (laidIndex rule (state t) i)
   unfolding planOf
   found-back i l =
@@ -129,7 +129,7 @@ module _ (rule : ℕ → ℕ) (img : List ℕ) (state : State) (d t at : ℕ) (h
       let total : v + p .covers k ≤ length img = omega (arith, fits-plan state d t good rule .covered k v b, value-ends img p at plan-held k b) in
       rw (indexed-item state d t good rule i l) at total
 
-  -- the record at an item's number
+  -- the record at an item's index
   pub item-back : (i : ℕ) → Has (state t .members) i → ItemBack rule img state d t at i (itemAt img (tableOpened state t at) (laidIndex rule (state t) i))
   unfolding planOf laidItem valueOffset
   item-back i l =
@@ -157,7 +157,7 @@ module _ (rule : ℕ → ℕ) (img : List ℕ) (state : State) (d t at : ℕ) (h
   unfolding valueOffset
   offset-four i l e = start-four (planAt rule state d t) (laidIndex rule (state t) i) _ (align-index i l ∙ e)
 
-  -- what stands at the place of an item that holds bytes, a table, or children
+  -- what stands at the value pointer of an item that holds bytes, a table, or children
   pub bytes-held : (i : ℕ) (value : List ℕ) → Has (state t .members) i → state t .content i ≡ Content.bytes value → Holds img (valueOffset rule state d t at i) value
   unfolding valueOf
   bytes-held i value l is = rw is at (value-held i l)

@@ -1,4 +1,4 @@
--- In an image that holds a plan, the chain of number k joins to its whole key.
+-- In an image that holds a plan, the chain of item k joins to its whole key.
 use mathlib.Core.Path.{_≡_, sym, ap, _∙_}
 use mathlib.Core.Logic.{⊎-elim}
 use mathlib.Core.Bool.{true}
@@ -25,7 +25,7 @@ module _ (img : List ℕ) (p : Plan) (at : ℕ) (held : Holds img at (planBytes 
   abbrev table : Table
   table = openedAs at (p .count)
 
-  -- the fragment of number k is the fragment laid, and it lies in the image
+  -- the fragment of item k is the fragment laid, and it lies in the image
   pub laid-fragment : (k : ℕ) → k < p .count → fragmentOf img (itemAt img table k) ≡ p .fragment k
   unfolding fragmentOf laidItem
   laid-fragment k l = rw (laid-item img p at held short fits k l) (holds-part img (keyStart img p at held k) (p .fragment k) (read-fragment img p at held k l))
@@ -59,7 +59,7 @@ module _ (img : List ℕ) (p : Plan) (at : ℕ) (held : Holds img at (planBytes 
         ∙ ap (λ (j : Joined). append j (fragmentOf img (itemAt img table k))) above
         ∙ ap Joined.joined (ap (λ (f : List ℕ). key (p .parent k) ++ f) (laid-fragment k l) ∙ sym (keys .child k l n .joins))
 
-    -- the key of number k, by a chain of at most so many items
+    -- the key of item k, by a chain of at most so many items
     pub key-joined : (steps k : ℕ) → k < p .count → rank k < steps → keyOf img table steps k ≡ Joined.joined (key k)
     key-joined zero k l r = absurd (omega arith)
     key-joined (suc steps) k l r =

@@ -1,4 +1,4 @@
--- A laid table is sound, number by number: what the check's rules ask of the item at each number.
+-- A laid table is sound, index by index: what the check's rules ask of the item at each index.
 use mathlib.Core.Path.{_≡_, refl, sym, ap, _∙_, subst}
 use mathlib.Core.Logic.{⊎-elim, _⊎_, inl, inr}
 use mathlib.Core.Bool.{true}
@@ -46,7 +46,7 @@ module _ (rule : ℕ → ℕ) (file : List ℕ) (state : State) (d t at : ℕ) (
   well : WellFormed (state t)
   well = well-formed state d t good
 
-  -- the record at a number, and the item of that number
+  -- the record at an index, and the item there
   abbrev item : ℕ → Item
   item k = itemAt file (tableOpened state t at) k
 
@@ -118,7 +118,7 @@ module _ (rule : ℕ → ℕ) (file : List ℕ) (state : State) (d t at : ℕ) (
     is : state t .content (of k) ≡ Content.container
     is = kind-container (state t .content (of k)) (sym (back k l .kind) ∙ kind)
 
-    -- the number of children
+    -- how many children there are
     children-count : childCount (item k) ≡ length children
     unfolding childCount coversOf
     children-count =
@@ -126,7 +126,7 @@ module _ (rule : ℕ → ℕ) (file : List ℕ) (state : State) (d t at : ℕ) (
         let to : item k .to ≡ valueOffset rule state d t at (of k) + 4 * length children = rw is at (b .to) in
         rw (b .from, to) (omega arith)
 
-    -- the word of child j is its number
+    -- the word of child j is its index
     child-index : (j : ℕ) → j < length children → childAt file (item k .from) j ≡ laidIndex rule (state t) (getD children j 0)
     unfolding childAt
     child-index j h =

@@ -1,4 +1,4 @@
--- What a lookup answers of an item whose kind and place are known.
+-- What a lookup answers of an item whose kind and value pointer are known.
 use mathlib.Core.Path.{_≡_}
 use mathlib.Core.List.{List}
 use Prim.Native.Nat.{ℕ, _%_, _≤_}

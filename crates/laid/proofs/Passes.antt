@@ -46,7 +46,7 @@ all-pass rule file state (suc d) t at held short even good = (
 )
 
 module _ (rule : ℕ → ℕ) (state : State) (root : ℕ) (good : Writable state depth root) where
-  -- any file that begins with the image, whatever stands behind it
+  -- any file that starts with the image, whatever stands behind it
   pub front-passes : (file : List ℕ) → length file ≤ longestFile → Holds file 0 (imageOf rule state root) → AllPass rule file state depth root headerSize
   unfolding imageOf
   front-passes file short held =

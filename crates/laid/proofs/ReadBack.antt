@@ -41,7 +41,7 @@ module _ (rule : ℕ → ℕ) (file : List ℕ) (state : State) (d t at : ℕ) (
   abbrev pub end : ℕ
   end = endOf state t at
 
-  -- the record at an item's number
+  -- the record at an item's index
   abbrev item : ℕ → Item
   item i = itemAt file (tableOpened state t at) (laidIndex rule (state t) i)
 
@@ -55,7 +55,7 @@ module _ (rule : ℕ → ℕ) (file : List ℕ) (state : State) (d t at : ℕ) (
   back : (i : ℕ) → Has (state t .members) i → ItemBack rule file state d t at i (item i)
   back i l = item-back rule file state d t at held short even good i l
 
-  -- listing at an item's number writes its whole key
+  -- listing at an item's index writes its whole key
   pub listed-back : (i : ℕ) → Has (state t .members) i → keyAt file at end (laidIndex rule (state t) i) ≡ Joined.joined (state t .key i)
   unfolding openedAs
   listed-back i l =

@@ -66,21 +66,21 @@ module _ (table : Rows) (well : WellFormed table) where
     unfolding parentIndex pick
     parent-root i c = rw c
 
-    -- a child's parent has a number, and the item of that number is the item above
+    -- a child's parent has an index, and the item there is the item above
     pub parent-small : (i : ℕ) → Has (table .members) i → isChild table i ≡ true → parentIndex rule table i < length (table .members)
     parent-small i l c = rw (parent-child i c) (index-within rule table (well .once) (table .above i) (well .child i l c .member))
 
     pub parent-item : (i : ℕ) → Has (table .members) i → isChild table i ≡ true → itemOf rule table (parentIndex rule table i) ≡ table .above i
     parent-item i l c = rw (parent-child i c) (item-index rule table (well .once) (table .above i) (well .child i l c .member))
 
-    -- an item is a child exactly when its parent word is no mark
+    -- an item is a child exactly when its parent word is not that of a root
     pub child-known : (i : ℕ) → (parentIndex rule table i ≡ rootMark → ⊥) → isChild table i ≡ true
     child-known i n = ⊎-elim (λ c. c) (λ c. absurd (n (parent-root i c))) (bool-cases (isChild table i))
 
     pub root-known : (i : ℕ) → Has (table .members) i → parentIndex rule table i ≡ rootMark → isChild table i ≡ false
     root-known i l e = ⊎-elim (λ c. absurd (omega (arith, parent-small i l c, well .few))) (λ c. c) (bool-cases (isChild table i))
 
--- a number below the next bucket's word, or any number for the last bucket
+-- an index below the next bucket's word, or any index for the last bucket
 before-last : (hashes : List ℕ) (count b k : ℕ) → k < count → k < bucketStart hashes (suc b) → k < pick (ltb (b + 1) count) (bucketStart hashes (b + 1)) count
 before-last hashes count b k l h = pick-with (λ (m : ℕ). k < m) (ltb (b + 1) count) _ _ (λ _. rw add-one h) (λ _. l)
 
@@ -126,7 +126,7 @@ module _ (rule : ℕ → ℕ) (inner : ℕ → ℕ → List ℕ) (state : State)
     ranked = λ k l. index-stands (table .members) (itemOf rule table k) (item-has k l) .within;
   }
 
-  -- no key twice, and each number in its bucket's run
+  -- no key twice, and each index in its bucket's run
   pub plan-runs : PlanRuns rule (planOf rule inner state table) (λ k. table .key (itemOf rule table k))
   unfolding planOf lastOf
   plan-runs = record {

@@ -29,7 +29,7 @@ pub root-passes : checkTable plain image 24 116 ≡ Checked.Sound
 unfolding AllPass sample rowsOf membersBelow entryAt pick chunkSize
 root-passes = all .0
 
--- and the table of one item at the place that lookup of "t" answers
+-- and the table of one item at the pointer that lookup of "t" answers
 pub nested-passes : (from : ℕ) × (lookupTable plain image 24 116 (116 ∷ []) ≡ Looked.Pointer from (from + 36)) × (checkTable plain image from (from + 36) ≡ Checked.Sound)
 unfolding AllPass sample rowsOf membersBelow entryAt times pick chunkSize
 nested-passes =

@@ -24,7 +24,7 @@ abbrev pub tableOpened : State → ℕ → ℕ → Table
 tableOpened state t at = openedAs at (length (state t .members))
 
 module _ (rule : ℕ → ℕ) where
-  -- table t with its items by number, nested tables as deep as d goes
+  -- table t with its items by index, nested tables as deep as d goes
   abbrev pub planAt : State → ℕ → ℕ → Plan
   planAt state d t = planOf rule (λ u start. tableBytes rule state d u start) state (state t)
 
@@ -36,7 +36,7 @@ module _ (rule : ℕ → ℕ) where
   abbrev pub coversAt : State → ℕ → ℕ → ℕ → ℕ
   coversAt state d t i = coversOf rule (λ u start. tableBytes rule state d u start) state (state t) i (state t .content i)
 
-  -- the record at the number of item i: the hash of its whole key, its parent's number, its kind, and the place of its value
+  -- the record at the index of item i: the hash of its whole key, its parent's index, its kind, and the pointer of its value
   pub record ItemBack (file : List ℕ) (state : State) (d t at i : ℕ) (item : Item) : Type 0 where
     pub hash : item .hash ≡ hashBy rule (state t .key i)
     pub parent : item .parent ≡ parentIndex rule (state t) i

@@ -1,4 +1,4 @@
--- What a plan has to keep so that its keys are found: whole keys along the chains of parents, and runs of buckets, by number.
+-- What a plan has to keep so that its keys are found: whole keys along the chains of parents, and runs of buckets, index by index.
 use Prim.Native.Nat.{ℕ, _+_, _%_, _≤_, _<_}
 use mathlib.Core.Path.{_≡_}
 use mathlib.Core.Bool.{true}
@@ -10,13 +10,13 @@ use Rattle.text.specs.Utf8.{isUtf8}
 use Rattle.layout.specs.Item.{rootMark}
 use Rattle.image.specs.Plan.{Plan}
 
--- the parent of number k is a number too, its rank is lower, and its key with k's fragment behind it is k's key
+-- the parent of item k is an item too, `rank` is lower for it, and its key with k's fragment behind it is k's key
 pub record ChildOf (p : Plan) (key : ℕ → List ℕ) (rank : ℕ → ℕ) (k : ℕ) : Type 0 where
   pub within : p .parent k < p .count
   pub falls : rank (p .parent k) < rank k
   pub joins : key k ≡ key (p .parent k) ++ p .fragment k
 
--- the fragments from root to item, joined, are the keys; a rank that falls towards the parent says that every chain reaches a root
+-- the fragments from root to item, joined, are the keys; since `rank` falls towards the parent, every chain reaches a root
 pub record PlanKeys (p : Plan) (key : ℕ → List ℕ) (rank : ℕ → ℕ) : Type 0 where
   pub few : p .count < rootMark
   pub root : (k : ℕ) → k < p .count → p .parent k ≡ rootMark → p .fragment k ≡ key k
@@ -28,7 +28,7 @@ pub record PlanKeys (p : Plan) (key : ℕ → List ℕ) (rank : ℕ → ℕ) : T
 unfoldable pub lastOf : Plan → ℕ → ℕ
 lastOf p b = pick (ltb (b + 1) (p .count)) (p .first (b + 1)) (p .count)
 
--- no key twice, and each number in the run of the bucket of its key's hash
+-- no key twice, and each item in the run of the bucket of its key's hash
 pub record PlanRuns (rule : ℕ → ℕ) (p : Plan) (key : ℕ → List ℕ) : Type 0 where
   pub hashed : (k : ℕ) → k < p .count → p .hash k ≡ hashBy rule (key k)
   pub distinct : (j k : ℕ) → j < p .count → k < p .count → key j ≡ key k → j ≡ k

@@ -33,7 +33,7 @@ pub record Both (rule : ℕ → ℕ) (file : List ℕ) (start end : ℕ) (key : 
 pub record TableBack (rule : ℕ → ℕ) (file : List ℕ) (state : State) (t at : ℕ) : Type 0 where
   -- it opens, with as many items as the table has
   pub opens : openTable file at (endOf state t at) ≡ Opened.Table (tableOpened state t at)
-  -- each item's key is listed at its number
+  -- each item's key is listed at its index
   pub lists : (i : ℕ) → Has (state t .members) i → keyAt file at (endOf state t at) (laidIndex rule (state t) i) ≡ Joined.joined (state t .key i)
   -- a value's key answers a view of its bytes; as a table 13, another kind than asked
   pub values : (i : ℕ) (value : List ℕ) → Has (state t .members) i → state t .content i ≡ Content.bytes value

@@ -12,7 +12,7 @@ use Rattle.layout.specs.declared.table.Table.{Table}
 use Rattle.layout.specs.declared.table.Opened.{Opened}
 use Rattle.layout.specs.Pointer.{openPointer}
 
--- a file is at most so long
+-- the most bytes that a file may have
 abbrev pub longestFile : ℕ
 longestFile = 16777216
 
@@ -31,7 +31,7 @@ tableOf start size blooms buckets =
     }))
     (Opened.Refused ItemsUneven)))
 
--- word 0: its low 27 bits are the number of bloom words. Word 1: the number of buckets. 4 where they are missing
+-- word 0: its low 27 bits are the number of bloom words; word 1: the number of buckets; 4 where they are missing
 unfoldable pub tableIn : List ℕ → ℕ → ℕ → Opened
 tableIn file start end =
     pick (ltb (end - start) 8) (Opened.Refused TableTooShort)

@@ -33,7 +33,7 @@ pub enum Refusal {
     CheckBroken,
 }
 
-// The document's number of a refusal.
+// The number that document 01 gives a refusal.
 pub fn number_of(why: Refusal) -> u32
     ensures { λ r. ⌜ r ≡ number why ⌝ }
 {

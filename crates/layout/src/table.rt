@@ -11,7 +11,7 @@ ghost use Prim.Native.Nat.{_≤_};
 ghost use lib.ListN.{length};
 ghost use Rattle.layout.specs.Table.{tableIn, openTable};
 
-// A file is at most so long.
+// The most bytes that a file may have.
 pub const LONGEST_FILE: usize = 16_777_216;
 
 // A table: where it starts, its counts, and where its items start.

@@ -1,5 +1,5 @@
 -- What a builder holds, and what each call answers and does, in the words and the order of document 01. A refusal changes nothing.
--- Refusal 29 is about memory and has no place here.
+-- Refusal 29 is about memory and does not occur here.
 use Prim.Native.Nat.{ℕ, zero, suc, _+_, _<_}
 use mathlib.Core.Bool.{Bool, true, false, _&&_, not}
 use mathlib.Core.List.{List, [], _∷_, _++_}
@@ -32,7 +32,7 @@ deepest = 8
 
 -- ---- what a builder holds
 
--- a table: its separator (`noSeparator`: none), and whether it was put into another
+-- how a table stands: its separator (`noSeparator`: none), and whether it was put into another
 pub record Standing : Type 0 where
   pub separator : ℕ
   pub placed : Bool
@@ -56,11 +56,11 @@ fresh room = record { room = room; used = 0; tables = []; items = [] }
 unfoldable pub standingAt : Builder → ℕ → Standing
 standingAt m t = getD (m .tables) t noStanding
 
--- the table is known and not placed
+-- a free-standing table: known and not placed
 unfoldable pub freeStanding : Builder → ℕ → Bool
 freeStanding m t = ltb t (length (m .tables)) && not (standingAt m t .placed)
 
--- the items with what they were
+-- the builder with other items, and so much room used
 abbrev pub withItems : Builder → List Entry → ℕ → Builder
 withItems m items used = record { room = m .room; used = used; tables = m .tables; items = items }
 

@@ -30,7 +30,7 @@ pub record Entry : Type 0 where
   pub content : Content
   pub above : ℕ
 
--- the number that is no item
+-- the index that no item has
 abbrev pub noItem : ℕ
 noItem = 4294967295
 
@@ -41,7 +41,7 @@ noEntry = record { table = 0; key = []; content = Content.bytes []; above = noIt
 unfoldable pub entryAt : List Entry → ℕ → Entry
 entryAt items i = getD items i noEntry
 
--- ---- one table by itself: its items, named by any numbers, in order of creation, and what is known of each
+-- ---- one table by itself: its items, by any indices, in order of creation, and what is known of each
 
 pub record Rows : Type 0 where
   pub members : List ℕ

@@ -19,7 +19,7 @@ isThere items t key = ltb (findKey items t key) (length items)
 abbrev pub entry : ℕ → List ℕ → Content → ℕ → Entry
 entry t key content above = record { table = t; key = key; content = content; above = above }
 
--- the item of a key: what it held is replaced, and it keeps its place; or it is made
+-- the item of a key: what it held is replaced, and it keeps its index; or it is made
 unfoldable pub putKey : List Entry → ℕ → List ℕ → Content → ℕ → List Entry
 putKey items t key content above =
     pick (isThere items t key)

@@ -108,13 +108,13 @@ module _ (rule : ℕ → ℕ) (file : List ℕ) (start end : ℕ) (key : List �
         unfolding nestedOf lookedNumber pick
         table-13 other = ap lookedNumber table-found ∙ rw (ne-eqb _ _ other)
 
-        -- 2 or 3 of the value pointer, or the value's place
+        -- 2 or 3 of the value pointer, or the value's pointer
         pub value-pointer : itemAt file t i .kind ≡ 118
             → lookedNumber (lookupValue rule file start end key) ≡ pointedNumber (openPointer (length file) (itemAt file t i .from) (itemAt file t i .to) 8)
         unfolding valueOf lookedNumber pick
         value-pointer kind = ap lookedNumber value-found ∙ rw (eq-eqb _ _ kind) (pointed-looked _ (itemAt file t i))
 
-        -- what opening the nested table refuses, or its place
+        -- what opening the nested table refuses, or its pointer
         pub table-nested : itemAt file t i .kind ≡ 72
             → lookedNumber (lookupTable rule file start end key) ≡ openedNumber (openTable file (itemAt file t i .from) (itemAt file t i .to))
         unfolding nestedOf pick
@@ -154,7 +154,7 @@ module _ (file : List ℕ) (t : Table) (steps i : ℕ) where
         unfolding keyOf joinStep parentOf pick
         key-up below = rw (key-step, ne-eqb _ _ child, lt-ltb _ _ below)
 
--- ---- key listing: opening, 15, the key's own refusal, 14
+-- ---- key listing: opening, 15, what the key is refused with, 14
 
 module _ (file : List ℕ) (start end at room : ℕ) where
   pub list-opening : {why : Refusal} → openTable file start end ≡ Opened.Refused why → listedNumber (listed (keyAt file start end at) room at) ≡ number why

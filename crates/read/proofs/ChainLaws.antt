@@ -86,7 +86,7 @@ pub climb-on : (file : List ℕ) (count : ℕ) (item : Item) → openPointer (le
 unfolding climbFrom afterPointer pick
 climb-on file count item opens good = simp (opens, good)
 
--- the step, test by test, with the fragment's place as the code has it
+-- the step, test by test, with the fragment's offset and size as the code has them
 module _ (file : List ℕ) (count : ℕ) (item : Item) {start size : ℕ} (s : start ≡ item .key) (z : size ≡ item .size) where
   same-place : openPointer (length file) (item .key) (item .key + item .size) 1 ≡ openPointer (length file) start (start + size) 1
   same-place = rw (s, z)

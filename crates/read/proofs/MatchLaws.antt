@@ -141,7 +141,7 @@ module _ (f key : List ℕ) where
       unfolding matchText matchStep matchTail pick
       text-up e = rw (good, e, ends)
 
--- what the item at hand says, with its fragment's place as the code has it
+-- what the item at hand says, with its fragment's offset and size as the code has them
 module _ (file : List ℕ) (t : Table) (index : ℕ) (key : List ℕ) {item : Item} (is : item ≡ itemAt file t index) {start size : ℕ} (s : start ≡ item .key) (z : size ≡ item .size) where
   pub match-refused : {why : Refusal} → openPointer (length file) start (start + size) 1 ≡ Pointed.Refused why → Matched.Ended false ≡ matchItem file t index key
   unfolding matchItem matchStep

@@ -39,7 +39,7 @@ use Rattle.read.proofs.ListingLaws.{in-range, key-in-range, front, refu
 
 -- ---- lookup
 
--- an item of the table with the key's hash, whose chain joins the key, of a kind and with a place
+-- an item of the table with the key's hash, whose chain joins the key, of a kind and with a pointer
 pub record Named (rule : ℕ → ℕ) (file : List ℕ) (t : Table) (key : List ℕ) (i kind from to : ℕ) : Type 0 where
   pub below : i < t .count
   pub hashed : itemAt file t i .hash ≡ hashBy rule key
@@ -166,7 +166,7 @@ pub refused-writes-nothing : (file : List ℕ) (start end at : ℕ) (out : List 
     → listed (keyAt file start end at) (length out) at ≡ Listed.Refused why → written (keyAt file start end at) out ≡ out
 refused-writes-nothing file start end at out e = refused-keeps (keyAt file start end at) out at e
 
--- ---- an item that is its own parent
+-- ---- an item whose parent is itself
 
 module _ (file : List ℕ) (t : Table) (i : ℕ) (lies : InFile file t) (below : i < t .count) (own : itemAt file t i .parent ≡ i)
     (opens : openPointer (length file) (itemAt file t i .key) (itemAt file t i .key + itemAt file t i .size) 1 ≡ Pointed.Inside)

@@ -1,4 +1,4 @@
--- The file of 60 bytes whose one item has an empty name and is its own parent: it opens, listing it is refused with 11, and looking up
+-- The file of 60 bytes whose one item has an empty name and has itself as parent: it opens, listing it is refused with 11, and looking up
 -- its name answers 12.
 use Prim.Native.Nat.{ℕ}
 use mathlib.Core.Path.{_≡_, refl}

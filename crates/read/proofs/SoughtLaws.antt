@@ -48,7 +48,7 @@ module _ (rule : ℕ → ℕ) (file : List ℕ) (start end : ℕ) (key : List �
   unfolding lookupItem
   sought-item e = opened-item (openTable file start end) refl e
 
--- an item's place, where it is of the kind asked
+-- an item's pointer, where it is of the kind asked
 pub record Placed (kind : ℕ) (item : Item) (from to : ℕ) : Type 0 where
   pub kinded : item .kind ≡ kind
   pub starts : item .from ≡ from
@@ -74,7 +74,7 @@ nested-pointer file item {from} {to} =
     by-table kind (Opened.Table t) e = record { kinded = kind; starts = (cc); ends = (cc) }
     by-table kind (Opened.Refused why) e = let z : _≡_ {A = ℕ} 0 1 = cc in absurd (omega arith)
 
--- a place that a lookup answers is that of the item it sought
+-- a pointer that a lookup answers is that of the item it sought
 pub record Answers (rule : ℕ → ℕ) (file : List ℕ) (start end : ℕ) (key : List ℕ) (kind from to : ℕ) : Type 0 where
   pub item : Item
   pub seeks : Seeks rule file start end key item

@@ -1,4 +1,4 @@
--- The loop that writes a measured key from its last fragment to its first: a fragment in its place leaves the key above it to write.
+-- The loop that writes a measured key from its last fragment to its first: with a fragment written, the key above it is left to write.
 use Prim.Native.Nat.{ℕ, _+_, _-_, _≤_, _<_}
 use mathlib.Core.Path.{_≡_, refl, sym, ap, _∙_, subst}
 use mathlib.Core.List.{List, [], _++_}
@@ -38,7 +38,7 @@ joined-above (Step.Refused why) f keyAt = refl
 pub size-is : (m n : ℕ) → Measured.Size m ≡ Measured.Size n → m ≡ n
 size-is m n e = cc
 
--- a key of k bytes whose tail f is in place
+-- a key of k bytes whose tail f is written
 written-tail : (k f out : List ℕ) → length k + length f ≤ length out
     → written (Joined.joined k) (putAt out (length k) f) ≡ written (Joined.joined (k ++ f)) out
 unfolding written pick
@@ -109,7 +109,7 @@ module _ (file : List ℕ) (t : Table) (index : ℕ) (out₀ : List ℕ) where
       turned : Behind (above (parentOf (t .count) (item .parent)) (λ parent. keyOf file t (left - 1) parent)) (fragmentOf file item) out end
       turned = behind _ _ _ _ (sym (ap measure key-is) ∙ w .sized) (w .room)
 
-      -- the place of the fragment, as the code has it
+      -- the offset and the size of the fragment, as the code has them
       module _ {start size : ℕ} (s : start ≡ item .key) (z : size ≡ item .size) where
         pub write-inside : start + size ≤ length file
         write-inside = omega (arith, climbs .inside)

@@ -11,7 +11,7 @@ unfoldable pub lookedNumber : Looked → ℕ
 lookedNumber (Looked.Pointer start end) = 0
 lookedNumber (Looked.Refused why) = number why
 
--- start and end of the place
+-- start and end of the pointer
 unfoldable pub lookedPointer : Looked → ℕ × ℕ
 lookedPointer (Looked.Pointer start end) = (start, end)
 lookedPointer (Looked.Refused why) = (0, 0)
@@ -35,13 +35,13 @@ valuedNumber (Valued.Value index start end next) = 0
 valuedNumber (Valued.Unopened why index next) = number why
 valuedNumber (Valued.Refused why) = number why
 
--- the item's index and the next position, which stand with 2 and 3 of its pointer too
+-- the item's index and the next position, which are told with 2 and 3 of its pointer too
 unfoldable pub valuedItem : Valued → ℕ × ℕ
 valuedItem (Valued.Value index start end next) = (index, next .at)
 valuedItem (Valued.Unopened why index next) = (index, next .at)
 valuedItem (Valued.Refused why) = (0, 0)
 
--- start and end of the place
+-- start and end of the pointer
 unfoldable pub valuedPointer : Valued → ℕ × ℕ
 valuedPointer (Valued.Value index start end next) = (start, end)
 valuedPointer (Valued.Unopened why index next) = (0, 0)

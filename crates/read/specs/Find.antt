@@ -34,7 +34,7 @@ unfoldable pub itemMatches : (ℕ → ℕ) → List ℕ → Table → List ℕ �
 itemMatches rule file t key index =
     pick (eqb (itemAt file t index .hash) (hashBy rule key)) (names (keyOf file t (t .count) index) key) false
 
--- the first of so many positions that passes a test; a position beyond the items ends it
+-- the first of so many indices, from `at` on, that passes a test; an index past the last item ends the search
 unfoldable pub firstFrom : (ℕ → Bool) → ℕ → ℕ → ℕ → Found
 firstFrom test count zero at = Found.Nothing
 firstFrom test count (suc more) at =

@@ -58,7 +58,7 @@ nextOf file t (suc more) at = pick (eqb (itemAt file t at .kind) (kindByte Kind.
 unfoldable pub nextValue : List ℕ → Table → ℕ → ℕ
 nextValue file t at = nextOf file t (t .count - at) at
 
--- with 2 or 3 the index and the next position stand too
+-- with 2 or 3 the index and the next position are told too
 unfoldable pub valueOpened : Pointed → ℕ → Item → Valued
 valueOpened Pointed.Inside index item = Valued.Value index (item .from) (item .to) (record { at = index + 1 })
 valueOpened (Pointed.Refused why) index item = Valued.Unopened why index (record { at = index + 1 })

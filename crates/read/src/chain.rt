@@ -26,7 +26,7 @@ pub enum Step {
     Refused(Refusal),
 }
 
-// What an item says of a key: yes or no, or that the front of the key is its parent's to name.
+// What an item says of a key: yes or no, or that its parent has to name the front of the key.
 pub enum Matched {
     Ended(bool),
     Rest { parent: usize, size: usize },
@@ -75,7 +75,8 @@ fn is_text(fragment: &[u8], ascii: bool) -> bool
     is_utf8(fragment)
 }
 
-// What a fragment says of a key, with the step to the parent. The key has to end in it: that is tested first, since what a key of ASCII bytes ends in is ASCII.
+// What a fragment says of a key, with the step to the parent. That the key ends in it is tested first: then, if the key is ASCII, the fragment is too,
+// and no UTF-8 test is needed.
 fn match_fragment(fragment: &[u8], step: Step, key: &[u8], ascii: bool) -> Matched
     requires { ⌜ (ascii ≡ true → isAscii (now key) ≡ true) ⌝ }
     ensures { λ r. ⌜ r ≡ matchText step (now (fragment .entry)) (now (key .entry)) ⌝ }

@@ -37,7 +37,7 @@ pub enum Listed {
     Refused(Refusal),
 }
 
-// A value: its item's index, its place in the file, and the next position. Where its pointer is refused, the index and the next position stand too.
+// A value: its item's index, its pointer, and the next position. Where the pointer is refused, the index and the next position are told all the same.
 pub enum Valued {
     Value {
         index: usize,

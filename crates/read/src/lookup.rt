@@ -23,7 +23,7 @@ ghost use Rattle.layout.specs.Table.{InFile};
 ghost use Rattle.read.specs.Find.{bloomPasses, runOf, itemMatches, firstOf, findItem};
 ghost use Rattle.read.specs.Lookup.{lookupIn, lookupItem, valueOf, nestedOf, lookupValue, lookupTable};
 
-// The positions of one bucket's items: from first, up to last.
+// The items of one bucket: the indices from `first` up to `last`.
 pub struct Run {
     pub first: usize,
     pub last: usize,
@@ -135,7 +135,7 @@ pub fn find_item(file: &[u8], table: Table, key: &[u8]) -> Found
     }
 }
 
-// Whether a key is UTF-8. Most are ASCII, which is told here, without a call.
+// Whether a key is UTF-8: an ASCII key is, and most are ASCII.
 fn is_key(key: &[u8]) -> bool
     ensures { λ r. ⌜ r ≡ isUtf8 (now (key .entry)) ⌝ }
 {
@@ -207,7 +207,7 @@ fn nested_of(file: &[u8], item: Item) -> Looked
     }
 }
 
-// The place of a key's value, in the table at a pointer.
+// The pointer of a key's value, in the table at a pointer.
 pub fn lookup_value(file: &[u8], start: u32, end: u32, key: &[u8]) -> Looked
     ensures { λ r. ⌜ r ≡ lookupValue plain (now (file .entry)) start end (now (key .entry)) ⌝ }
 {
@@ -217,7 +217,7 @@ pub fn lookup_value(file: &[u8], start: u32, end: u32, key: &[u8]) -> Looked
     }
 }
 
-// The place of a key's nested table, in the table at a pointer.
+// The pointer of a key's nested table, in the table at a pointer.
 pub fn lookup_table(file: &[u8], start: u32, end: u32, key: &[u8]) -> Looked
     ensures { λ r. ⌜ r ≡ lookupTable plain (now (file .entry)) start end (now (key .entry)) ⌝ }
 {

@@ -60,7 +60,7 @@ pub struct Record {
     pub second: Span,
 }
 
-// How many bytes the record at a place has, or 0 where no whole record of a known kind begins there.
+// How many bytes the record at an offset has, or 0 where no whole record of a known kind starts there.
 pub fn size_at(list: &[u8], at: usize) -> usize
     requires { ⌜ at ≤ length (now list) ⌝ }
     ensures { λ r. ⌜ at + r ≤ length (now (list .entry)) ⌝ }

@@ -21,7 +21,7 @@ fn open(file: &[u8], r: Record) -> bool {
         & (said.blooms == r.three)
 }
 
-// The key is the first string; the value's place.
+// The key is the first string; the value's pointer.
 fn get(list: &[u8], file: &[u8], r: Record) -> bool {
     let said = gvdb_get(file, r.start, r.end, list::bytes(list, r.first));
     (said.number == r.number) & (said.start == r.one) & (said.end == r.two)
@@ -41,7 +41,7 @@ fn next_key(list: &[u8], file: &[u8], r: Record) -> bool {
     same & (said.number == r.number) & (said.next == word_size(r.two))
 }
 
-// Position, the value's place, item and next position.
+// Position, the value's pointer, item and next position.
 fn next_value(file: &[u8], r: Record) -> bool {
     let said = gvdb_next_value(file, r.start, r.end, word_size(r.one));
     let same = (said.index == word_size(r.four)) & (said.next == word_size(r.five));
@@ -52,7 +52,7 @@ fn hash(list: &[u8], r: Record) -> bool {
     djb_hash(list::bytes(list, r.first)) == r.one
 }
 
-// Where the first sequence that is not UTF-8 begins.
+// Where the first sequence that is not UTF-8 starts.
 fn utf8(list: &[u8], r: Record) -> bool {
     first_bad(list::bytes(list, r.first)) == word_size(r.one)
 }

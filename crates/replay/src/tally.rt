@@ -25,7 +25,7 @@ fn put(tally: &mut [usize], at: usize, place: usize) {
     }
 }
 
-// Keeps the place of the first that differs.
+// Keeps the offset of the first that differs.
 fn note(tally: &mut [usize], at: usize, place: usize) {
     if entry(tally, at) == 0 {
         put(tally, wrapping_add_usize(at, 1), place);
@@ -37,7 +37,7 @@ fn differs(tally: &mut [usize], at: usize, place: usize) {
     add(tally, at);
 }
 
-// Counts an answer to the record at a place.
+// Counts an answer to the record at an offset.
 pub fn count(tally: &mut [usize], kind: u32, same: bool, place: usize) {
     let at = 3 * word_size(kind);
     if same {

@@ -116,7 +116,7 @@ ascii-stop s i n e = go (isAscii s) refl
 pub ascii-turn : (s : List ℕ) (i n : ℕ) → isAscii (take i s) ≡ true → isAscii (part s i n) ≡ true → isAscii (take (i + n) s) ≡ true
 ascii-turn s i n front here = ap isAscii (take-add i n s) ∙ ascii-append (take i s) (part s i n) ∙ both-hold front here
 
--- ASCII up to i: the stretch at the end, which begins at or before i, tells
+-- ASCII up to i: the stretch at the end, which starts at or before i, tells
 pub ascii-last : (s : List ℕ) (i last n : ℕ) → last + n ≡ length s → last ≤ i → isAscii (take i s) ≡ true → isAscii (part s last n) ≡ isAscii s
 ascii-last s i last n whole reach front = go (isAscii (part s last n)) refl
   where

@@ -39,7 +39,7 @@ same-other a b other = go (sameBytes a b) refl
     go true e = absurd (other (same-equal a b e))
     go false e = e
 
--- texts of different length differ, and texts with different numbers at a place
+-- texts of different length differ, and texts with different numbers at an offset
 pub same-lengths : (a b : List ℕ) → (length a ≡ length b → ⊥) → sameBytes a b ≡ false
 same-lengths a b other = same-other a b (λ e. other (ap length e))
 
@@ -74,7 +74,7 @@ module _ (w : ℕ) (a b : List ℕ) (ha : (i : ℕ) → getD a i 0 < 256) (hb : 
       take-add i w a ∙ ap (λ (l : List ℕ). l ++ part a i w) front ∙ ap (λ (l : List ℕ). take i b ++ l) (field-same w a b i fa fb ha hb same)
       ∙ sym (take-add i w b)
 
-  -- equal up to i, and the stretch at the end begins at or before i: its numbers tell
+  -- equal up to i, and the stretch at the end starts at or before i: its numbers tell
   pub same-last : (i last : ℕ) → last + w ≡ length a → length a ≡ length b → last ≤ i → take i a ≡ take i b → eqb (field w a last) (field w b last) ≡ sameBytes a b
   same-last i last whole e reach front = go (eqb (field w a last) (field w b last)) refl
     where

@@ -50,7 +50,7 @@ next-past sep at x r = by-test (eqb x sep) (nextFrom sep (suc at) r) (next-low s
     by-test true n h = omega arith
     by-test false n h = omega arith
 
--- the ends begin with the next one; where that is the list's own end there is no more
+-- the ends start with the next one; where that is the list's end there is no more
 more-by : (t : Bool) (sep at x y : ℕ) (r : List ℕ) (n : ℕ) → suc at ≤ n
     → (n < suc at + suc (length r) → endsFrom sep (suc at) (y ∷ r) ≡ n ∷ endsFrom sep n (drop (n - suc at) (y ∷ r)))
     → pick t (suc at) n < at + suc (suc (length r))

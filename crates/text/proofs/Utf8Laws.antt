@@ -139,7 +139,7 @@ step-at s at h =
     let e3 : at + 3 ≡ suc at + 2 = omega arith in
     rw (drop-cons s at 0, getD-drop (suc at) s 0 0, getD-drop (suc at) s 1 0, getD-drop (suc at) s 2 0, e1, e2, e3)
 
--- an ASCII byte is a character of its own
+-- an ASCII byte is a character by itself
 pub step-one : (s : List ℕ) (at : ℕ) → at < length s → getD s at 0 ≤ 0x7F → 1 ≡ stepLen (drop at s)
 step-one s at h small = len-1 _ (getD s (at + 1) 0) (getD s (at + 2) 0) (getD s (at + 3) 0) small ∙ step-at s at h
 
@@ -220,9 +220,9 @@ first-bad-append a b e = good-append 0 a b (omega arith) e
 pub valid-append : (a b : List ℕ) → firstBad a ≡ length a → firstBad b ≡ length b → firstBad (a ++ b) ≡ length (a ++ b)
 valid-append a b ea eb = first-bad-append a b ea ∙ rw (eb, length-append a b)
 
--- ---- what the offset means: the text before it is valid, and no character begins there
+-- ---- what the offset means: the text before it is valid, and no character starts there
 
--- no character begins where the good part ends
+-- no character starts where the good part ends
 stop-one-more : (b : ℕ) (s : List ℕ) → ((k : ℕ) → k ≤ length s → stepLen (drop (goodFrom k s) s) ≡ 0) → (n : ℕ) → stepLen (b ∷ s) ≡ n
     → stepLen (drop (oneMore n (λ k. goodFrom k s)) (b ∷ s)) ≡ 0
 unfolding oneMore

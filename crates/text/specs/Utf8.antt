@@ -51,13 +51,13 @@ unfoldable pub oneMore : ℕ → (ℕ → ℕ) → ℕ
 oneMore zero rest = zero
 oneMore (suc k) rest = suc (rest k)
 
--- how many bytes at the front are whole characters, of which the first `skip` belong to one that was counted before
+-- how many bytes at the front are whole characters; the first `skip` of them belong to a character that was counted before
 unfoldable pub goodFrom : ℕ → List ℕ → ℕ
 goodFrom skip [] = 0
 goodFrom (suc skip) (b ∷ s) = suc (goodFrom skip s)
 goodFrom zero (b ∷ s) = oneMore (stepLen (b ∷ s)) (λ k. goodFrom k s)
 
--- where the first sequence that is not allowed begins, or the length where there is none
+-- where the first sequence that is not allowed starts, or the length where there is none
 unfoldable pub firstBad : List ℕ → ℕ
 firstBad s = goodFrom 0 s
 

@@ -1,4 +1,4 @@
-// Texts of ASCII bytes, eight bytes at a time. The last eight end where the text ends, so they may begin in bytes that were tested before.
+// Texts of ASCII bytes, eight bytes at a time. The last eight end where the text ends, so they may start in bytes that were tested before.
 use words::field::long_at;
 ghost use mathlib.Core.Path.{_≡_};
 ghost use Prim.Native.Nat.{_+_, _≤_};
@@ -6,7 +6,7 @@ ghost use lib.ListN.{length};
 ghost use Rattle.words.specs.Store.{part};
 ghost use Rattle.text.specs.Ascii.{isAscii};
 
-// Whether the eight bytes from `at` on are ASCII: of their number, the highest bit of each byte is clear.
+// Whether the eight bytes from `at` on are ASCII: in the number that they spell, the highest bit of each byte is clear.
 fn is_ascii_at(s: &[u8], at: usize) -> bool
     requires { ⌜ at + 8 ≤ length (now s) ⌝ }
     ensures { λ r. ⌜ r ≡ isAscii (part (now (s .entry)) at 8) ⌝ }

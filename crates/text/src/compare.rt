@@ -1,5 +1,5 @@
 // Equality of byte slices. Eight bytes, four or two are compared as one number. The last stretch ends where the slices end, so it may
-// begin in bytes that were compared before: no byte is left over.
+// start in bytes that were compared before: no byte is left over.
 use words::field::half_at;
 use words::field::long_at;
 use words::field::word_at;

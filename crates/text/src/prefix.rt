@@ -5,7 +5,7 @@ ghost use Prim.Native.Nat.{_≤_};
 ghost use lib.ListN.{length};
 ghost use Rattle.text.specs.Prefix.{nextEnd};
 
-// Where the next prefix ends: behind the next separator from `from` on, or at the key's end. The number 256 is no separator.
+// Where the next prefix ends: behind the next separator from `from` on, or at the key's end. 256 stands for no separator.
 pub fn next_end(key: &[u8], from: usize, sep: usize) -> usize
     requires { ⌜ from ≤ length (now key) ⌝ }
     ensures { λ r. ⌜ r ≡ nextEnd sep (now (key .entry)) from ⌝ }

@@ -64,7 +64,7 @@ fn byte_or_zero(s: &[u8], at: usize) -> u8
     if at < s.len() { s[at] } else { 0 }
 }
 
-// The length of the character that begins at a position, or 0 where none does.
+// The length of the character that starts at a position, or 0 where none does.
 fn step_len(s: &[u8], at: usize) -> usize
     requires { ⌜ at < length (now s) ⌝ }
     ensures { λ r. ⌜ r ≡ stepLen (drop at (now (s .entry))) ⌝ }
@@ -79,7 +79,7 @@ fn step_len(s: &[u8], at: usize) -> usize
     sequence_len(b0, b1, b2, b3)
 }
 
-// Where the first sequence that RFC 3629 does not allow begins, or the length of a valid text.
+// Where the first sequence that RFC 3629 does not allow starts, or the length of a valid text.
 pub fn first_bad(s: &[u8]) -> usize
     ensures { λ r. ⌜ r ≡ firstBad (now (s .entry)) ⌝ }
 {
@@ -94,7 +94,7 @@ pub fn first_bad(s: &[u8]) -> usize
     at
 }
 
-// Whether a text is UTF-8. Most are ASCII, which is told sooner.
+// Whether a text is UTF-8. Most are ASCII, which takes less time to tell.
 pub fn is_utf8(s: &[u8]) -> bool
     ensures { λ r. ⌜ r ≡ isUtf8 (now (s .entry)) ⌝ }
 {

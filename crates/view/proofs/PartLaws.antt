@@ -1,4 +1,4 @@
--- The stretch of a file in each case, and at equal numbers.
+-- The stretch of a file in each case, and at equal starts and ends.
 use Prim.Native.Nat.{ℕ, _-_, _<_, _≤_}
 use mathlib.Core.Path.{_≡_, subst}
 use mathlib.Core.List.{List, []}

@@ -1,4 +1,4 @@
--- What the views mean, in plain statements: a value's view is the bytes of its place, at its place; a nested view opens; a refusal's view is empty.
+-- What the views mean, in plain statements: a value's view is the bytes of its pointer, at its offset; a nested view opens; a refusal's view is empty.
 use Prim.Native.Nat.{ℕ, _-_, _≤_}
 use mathlib.Core.Path.{_≡_, refl, sym, ap, subst, _∙_}
 use mathlib.Core.List.{List, []}
@@ -36,7 +36,7 @@ pub record Whole (file : RefT (List ℕ)) (table : TableView) (start end : ℕ) 
   pub starts : table .start ≡ start
   pub ends : table .end ≡ end
 
--- the view of a refusal: no bytes, and the numbers 0
+-- the view of a refusal: no bytes, and the pointer from 0 to 0
 pub record Empty (file : RefT (List ℕ)) (table : TableView) : Type 0 where
   pub seen : Viewed file (table .file) 0 []
   pub starts : table .start ≡ 0
@@ -46,7 +46,7 @@ pub record Empty (file : RefT (List ℕ)) (table : TableView) : Type 0 where
 none : (file r : RefT (List ℕ)) (start end : ℕ) → start ≡ 0 → end ≡ 0 → Stretch file start end r → Viewed file r 0 []
 none file r start end s e viewed = stretch-out file r 0 0 (omega arith) (omega arith) (stretch-same file r 0 0 start end s e viewed)
 
--- the bytes of a place that lies in the file
+-- the bytes of a pointer that lies in the file
 seen : (file r : RefT (List ℕ)) (start end from to : ℕ) → start ≡ from → end ≡ to → (from ≤ to) × (to ≤ length (now file)) → Stretch file start end r
     → Viewed file r from (take (to - from) (drop from (now file)))
 seen file r start end from to s e within viewed = stretch-out file r from to (within .0) (within .1) (stretch-same file r from to start end s e viewed)

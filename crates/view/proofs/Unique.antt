@@ -1,4 +1,4 @@
--- Each promise leaves one answer and one part of the file: two results that meet it have equal answers, equal numbers, and slices at the same place with the same
+-- Each promise leaves one answer and one part of the file: two results that meet it have equal answers, equal pointers, and slices at the same offset with the same
 -- bytes. What is left open is the ghost name of a slice, which no program can see.
 use Prim.Native.Nat.{ℕ}
 use mathlib.Core.Path.{_≡_, sym, ap, subst, _∙_}

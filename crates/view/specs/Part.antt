@@ -28,7 +28,7 @@ stretchOf file start end = pick (ltb end start) [] (pick (ltb (length file) end)
 abbrev pub Stretch : RefT (List ℕ) → ℕ → ℕ → RefT (List ℕ) → Type 0
 Stretch file start end r = Viewed file r (stretchAt (now file) start end) (stretchOf (now file) start end)
 
--- the pointer of a lookup's place; 0 and 0 on a refusal
+-- start and end of the pointer that a lookup answers; 0 and 0 on a refusal
 abbrev pub pointerStart : Looked → ℕ
 pointerStart (Looked.Pointer start end) = start
 pointerStart (Looked.Refused why) = 0
@@ -41,7 +41,7 @@ pointerEnd (Looked.Refused why) = 0
 abbrev pub ValueIn : RefT (List ℕ) → Looked → RefT (List ℕ) → Type 0
 ValueIn file looked r = Stretch file (pointerStart looked) (pointerEnd looked) r
 
--- a listed value's place; 0 and 0 on a refusal
+-- start and end of the pointer of a listed value; 0 and 0 on a refusal
 abbrev pub listedStart : Valued → ℕ
 listedStart (Valued.Value index start end next) = start
 listedStart (Valued.Unopened why index next) = 0
@@ -56,7 +56,7 @@ listedEnd (Valued.Refused why) = 0
 abbrev pub ListedIn : RefT (List ℕ) → Valued → RefT (List ℕ) → Type 0
 ListedIn file valued r = Stretch file (listedStart valued) (listedEnd valued) r
 
--- a number of the pointer to a table that opened; 0 on a refusal
+-- start or end of the pointer to a table that opened; 0 on a refusal
 abbrev pub openedPointer : Opened → ℕ → ℕ
 openedPointer (Opened.Table table) number = number
 openedPointer (Opened.Refused why) number = 0

@@ -40,7 +40,7 @@ pub record ListedOf (t : TableView) (at : ℕ) (r : ListedView) : Type 0 where
   pub answered : r .answer ≡ valueAt (now (t .file)) (t .start) (t .end) at
   pub viewed : ListedIn (t .file) (r .answer) (r .bytes)
 
--- a key listing of the table t at a position, into a lent buffer; `left` is what the buffer holds then
+-- a key listing of the table t at a position, into a lent buffer; `left` is what the buffer then holds
 pub record KeyOf (t : TableView) (at : ℕ) (buffer : List ℕ) (r : Listed) (left : List ℕ) : Type 0 where
   pub answered : r ≡ listed (keyAt (now (t .file)) (t .start) (t .end) at) (length buffer) at
   pub wrote : left ≡ written (keyAt (now (t .file)) (t .start) (t .end) at) buffer

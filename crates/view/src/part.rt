@@ -28,7 +28,7 @@ pub fn stretch<'a>(file: &'a [u8], start: u32, end: u32) -> &'a [u8]
     &file[from..to]
 }
 
-// The place that a lookup answers.
+// Start and end of the pointer that a lookup answers.
 pub fn pointer_start(looked: Looked) -> u32
     ensures { λ r. ⌜ r ≡ pointerStart looked ⌝ }
 {
@@ -47,7 +47,7 @@ pub fn pointer_end(looked: Looked) -> u32
     }
 }
 
-// The place that value listing answers.
+// Start and end of the pointer that value listing answers.
 pub fn listed_start(valued: Valued) -> u32
     ensures { λ r. ⌜ r ≡ listedStart valued ⌝ }
 {
@@ -120,7 +120,7 @@ pub fn opened_part<'a>(file: &'a [u8], opened: Opened) -> &'a [u8]
     }
 }
 
-// A number of the pointer to a table that opened.
+// A table's start or end, which is `number`, where the table opened.
 pub fn opened_pointer(opened: Opened, number: u32) -> u32
     ensures { λ r. ⌜ r ≡ openedPointer opened number ⌝ }
 {

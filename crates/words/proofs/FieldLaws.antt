@@ -100,12 +100,12 @@ pub field-after : (n : ℕ) (out : List ℕ) (at : ℕ) (vs : List ℕ) (k : ℕ
 unfolding field
 field-after n out at vs k h = ap littleEndian (part-after out at vs k n h)
 
--- a field of a part of a file is the file's own, further on
+-- a field of a part of a file is a field of the file, further on
 pub field-part : (n : ℕ) (bytes : List ℕ) (start size at : ℕ) → at + n ≤ size → field n (part bytes start size) at ≡ field n bytes (start + at)
 unfolding field
 field-part n bytes start size at h = ap littleEndian (part-part bytes start size at n h)
 
--- a field of bytes is below 256 ^ n. A slice's own rule gives `all`: `c .shared-slice-known .given` is of this form
+-- a field of bytes is below 256 ^ n. What is known of every slice gives `all`: `c .shared-slice-known .given` is of this form
 little-endian-below : (bytes : List ℕ) (n : ℕ) → length bytes ≤ n → ((i : ℕ) → getD bytes i 0 < 256) → littleEndian bytes < 256 ^ n
 unfolding littleEndian
 little-endian-below [] n h all = one-le-pow n 256 (omega arith)

@@ -83,7 +83,7 @@ get-after l at vs i h =
 
 -- ---- several stores
 
--- a second store right behind a first is one store of both
+-- a second store directly behind a first is one store of both
 pub put-append : (l : List ℕ) (at : ℕ) (a b : List ℕ) → putAt l at (a ++ b) ≡ putAt (putAt l at a) (at + length a) b
 unfolding putAt
 put-append l at [] b = ap (λ (k : ℕ). putAt l k b) (sym (add-zero at))

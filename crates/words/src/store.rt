@@ -16,7 +16,7 @@ pub fn put_bytes(out: &mut [u8], at: usize, src: &[u8])
     }
 }
 
-// Lays `size` zeros into `out` from `at` on.
+// Stores `size` zeros in `out` from `at` on.
 pub fn put_zeros(out: &mut [u8], at: usize, size: usize)
     requires { ⌜ at + size ≤ length (now out) ⌝ }
     ensures { λ _. ⌜ now (out .exit) ≡ putAt (now (out .entry)) at (zeros size) ⌝ }

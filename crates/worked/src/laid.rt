@@ -118,7 +118,7 @@ fn pair(words: &mut [usize], arena: &mut [u8], first: u8, second: u8) {
     gvdb_insert(words, arena, 0, &key, b"");
 }
 
-// Inserts 128 keys that begin with a byte.
+// Inserts 128 keys that start with a byte.
 fn fill(words: &mut [usize], arena: &mut [u8], first: u8) {
     let mut second = 0u8;
     while second < 128 {

@@ -34,7 +34,7 @@ pub fn bytes(s: &[u8]) {
     }
 }
 
-// A place in a file.
+// A pointer: its start and its end.
 pub fn place(start: u32, end: u32) {
     io::write_all(OUT, b" ");
     io::print_decimal(OUT, start as u64);

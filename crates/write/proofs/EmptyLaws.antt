@@ -57,7 +57,7 @@ held-container : (f : ℕ → Bool) → emptyHeld f Content.container ≡ false
 unfolding emptyHeld
 held-container f = refl
 
--- what the first k numbers have
+-- what the items at the first k indices have
 unfoldable pub foundBelow : List ℕ → List ℕ → ℕ → ℕ → ℕ → Bool
 foundBelow ws ar t d k = someBelow (λ j. itemEmpty ws ar d (itemOf plain (stateOf ws ar t) j)) k
 

@@ -46,7 +46,7 @@ module _ (ws ar : List ℕ) (i : ℕ) where
   unfolding contentOf pick
   content-container e = rw (ne-eqb (itemKind ws i) 118 (λ f. omega arith), ne-eqb (itemKind ws i) 72 (λ f. omega arith))
 
--- ---- the numbers of children as words
+-- ---- the indices of children as words
 
 no-words : (table : Rows) (l : List ℕ) → wordsOf (λ j. laidIndex plain table (getD l j 0)) 0 ≡ childWords plain table (take 0 l)
 unfolding wordsOf childWords

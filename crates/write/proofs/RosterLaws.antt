@@ -1,4 +1,4 @@
--- The slots of a roster: every item has one of its own.
+-- The slots of a roster: every item has one, and no two have the same.
 use mathlib.Core.Path.{_≡_, refl, sym, ap, _∙_}
 use mathlib.Core.Bool.{Bool, true, false}
 use mathlib.Core.Logic.{_⊎_, inl, inr, ⊎-elim}
@@ -50,7 +50,7 @@ module _ (ws ar roster : List ℕ) (r : Right ws ar) (ro : Rostered ws ar roster
         ro .items t (itemIndex roster i) (r .table i l) index-low ∙ ap (itemOf plain (stateOf ws ar t)) (ro .indices i l)
         ∙ item-index plain (stateOf ws ar t) (member-once ws ar t) i mine
 
-    -- the word of the bucket with its number
+    -- the word of the bucket at its index
     pub bucket-few : bucketWord roster (slotOf ws roster i) ≤ 1024
     unfolding slotOf
     bucket-few =
@@ -79,7 +79,7 @@ module _ (ws ar roster : List ℕ) (r : Right ws ar) (ro : Rostered ws ar roster
       within = slot-low;
     }
 
-  -- the number of a parent
+  -- the laid index of a parent
   pub parent-few : (i : ℕ) → i < itemTotal ws → parentWord ws roster i < 2 ^ 32
   unfolding parentWord
   parent-few i l =
@@ -94,7 +94,7 @@ module _ (ws ar roster : List ℕ) (r : Right ws ar) (ro : Rostered ws ar roster
   pub slot-once : (i j : ℕ) → i < itemTotal ws → j < itemTotal ws → slotOf ws roster i ≡ slotOf ws roster j → i ≡ j
   slot-once i j h l e = sym (slot-item i h) ∙ ap (slotItem roster) e ∙ slot-item j l
 
-  -- ---- the item of a number
+  -- ---- the item at an index
 
   module _ (t k : ℕ) (known : t < 64) (low : k < slotCount roster t) where
     item-has : Has (stateOf ws ar t .members) (itemOf plain (stateOf ws ar t) k)

@@ -1,4 +1,4 @@
--- The children of an item in order of creation: as the definition has them, and as places in buckets by their parent words have them.
+-- The children of an item in order of creation: as the definition has them, and as ranks in buckets by their parent words have them.
 use mathlib.Core.Path.{_≡_, refl, sym, ap, _∙_}
 use mathlib.Core.Bool.{Bool, true, false}
 use mathlib.Core.Logic.{⊎-elim}

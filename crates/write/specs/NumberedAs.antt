@@ -26,15 +26,15 @@ unfoldable pub childItems : List ℕ → ℕ → ℕ → List ℕ
 childItems ws parent zero = []
 childItems ws parent (suc n) = childItems ws parent n ++ pick (eqb (itemParent ws n) parent) (n ∷ []) []
 
--- the item of a place: the last item has the first place
+-- the item of a rank: the last item has rank 0
 abbrev pub fromLast : List ℕ → ℕ → ℕ
 fromLast ws p = itemTotal ws - 1 - p
 
--- the parent words by place
+-- the parent words by rank
 abbrev pub Parents : List ℕ → List ℕ → Type 0
 Parents ws hashes = (p : ℕ) → p < itemTotal ws → getD hashes p 0 ≡ itemParent ws (fromLast ws p)
 
--- places in the order of their parents, and the first of each parent: those of one parent in order of creation
+-- the ranks in the order of their parents, and where those of each parent word start: siblings stand in order of creation
 pub record Siblings (ws order firsts : List ℕ) : Type 0 where
   pub long : length order ≡ numberedSlots
   pub wide : length firsts ≡ 1026
@@ -58,7 +58,7 @@ pub record NumberedStart (roster numbered : List ℕ) : Type 0 where
   pub long : length numbered ≡ numberedSize
   pub is : (k : ℕ) → k < numberedSize → getD numbered k 0 ≡ startWord roster k
 
--- the child words are the numbers of the places, as many as there are items; all else is as it was
+-- the child words are the laid indices of the items of the ranks, as many as there are items; all else is as it was
 pub record NumberedChildren (ws roster order before after : List ℕ) : Type 0 where
   pub long : length after ≡ length before
   pub is : (j : ℕ) → j < itemTotal ws → childWord after j ≡ itemIndex roster (fromLast ws (getD order j 0))
@@ -69,7 +69,7 @@ pub record NumberedChildren (ws roster order before after : List ℕ) : Type 0 w
 unfoldable pub childTest : List ℕ → ℕ → Bool
 childTest ws i = not (eqb (itemParent ws i) 0) && eqb (itemKind ws (itemParent ws i - 1)) containerKind
 
--- how much of its key its parent has
+-- how many bytes of its key are its parent's
 unfoldable pub skipped : List ℕ → ℕ → ℕ
 skipped ws i = pick (childTest ws i) (keySize ws (itemParent ws i - 1)) 0
 
@@ -89,7 +89,7 @@ module _ (ws roster : List ℕ) where
   unfoldable pub slotOf : ℕ → ℕ
   slotOf i = firstSlot roster (itemTable ws i) + itemIndex roster i
 
-  -- its parent is earlier, and its slot is one
+  -- its parent was made earlier, and its slot is one that there is
   pub record Slotted (i : ℕ) : Type 0 where
     pub long : 14600 ≤ length ws
     pub roster-long : length roster ≡ 3200
@@ -111,7 +111,7 @@ module _ (ws roster : List ℕ) where
     unfoldable pub slotWords : ℕ → List ℕ
     slotWords i = frontWords i ++ backWords i
 
--- the firsts ascend, up to the count of the child words
+-- `firsts` ascends, up to the count of the child words
 pub record Firsts (firsts : List ℕ) : Type 0 where
   pub wide : length firsts ≡ 1026
   pub up : (i : ℕ) → i < numberedSlots → getD firsts (i + 1) 0 ≤ getD firsts (i + 2) 0

@@ -34,7 +34,7 @@ hasEmpty state (suc d) t =
     someBelow (λ k. eqb (length (state t .key (itemOf plain (state t) k))) 0 || emptyHeld (λ u. hasEmpty state d u) (state t .content (itemOf plain (state t) k)))
     (length (state t .members))
 
--- the table is known and not placed
+-- a free-standing table: known and not placed
 unfoldable pub freeStanding : List ℕ → ℕ → Bool
 freeStanding ws t = ltb t (tableTotal ws) && eqb (tablePlaced ws t) 0
 

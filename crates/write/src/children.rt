@@ -1,4 +1,5 @@
-// The children of every container in order of creation: places in buckets by their parent words, the last item first.
+// The children of every container, in order of creation. They are found as items are put into buckets by their hashes: the parent words stand for
+// the hashes, and rank p stands for item n - 1 - p, since what comes last goes to the front of its bucket.
 use build_memory::fields::EMPTY;
 use build_memory::fields::ITEMS;
 use build_memory::fields::PARENT;
@@ -13,7 +14,7 @@ ghost use Rattle.build_memory.specs.Memory.{leastWords, itemTotal};
 ghost use Rattle.build_rules.specs.Valid.{fullyValid};
 ghost use Rattle.write.specs.NumberedAs.{Parents, Siblings, NumberedChildren};
 
-// The parent words, the last item's first.
+// The parent words by rank: that of the last item first.
 fn list_parents(words: &[usize], hashes: &mut [usize])
     requires { ⌜ (leastWords ≤ length (now words)) × (itemTotal (now words) ≤ mostItems) × (length (now hashes) ≡ 1024) ⌝ }
     ensures { λ _. ⌜ Parents (now (words .entry)) (now (hashes .exit)) ⌝ }
@@ -26,7 +27,8 @@ fn list_parents(words: &[usize], hashes: &mut [usize])
     }
 }
 
-// Orders the places of all items by their parents. `firsts` has the count of the items past the last.
+// Puts all items, by rank, in the order of their parents. `firsts` gets where those of each parent word start, and comes filled with the item count,
+// which it keeps past the last parent.
 pub fn order_siblings(words: &[usize], arena: &[u8], order: &mut [usize], firsts: &mut [usize])
     requires { ⌜ fullyValid (now words) (now arena) ≡ true ⌝ }
     requires { ⌜ (length (now order) ≡ 1024) × (length (now firsts) ≡ 1026) ⌝ }
@@ -40,7 +42,7 @@ pub fn order_siblings(words: &[usize], arena: &[u8], order: &mut [usize], firsts
     index_by_bucket(&hashes[..n], &mut links, order, firsts);
 }
 
-// Puts the numbers of all children, parent by parent.
+// Puts the laid indices of all children, parent by parent.
 pub fn put_children(words: &[usize], roster: &[usize], order: &[usize], numbered: &mut [usize])
     requires { ⌜ (leastWords ≤ length (now words)) × (itemTotal (now words) ≤ mostItems) ⌝ }
     requires { ⌜ (length (now roster) ≡ 3200) × (length (now numbered) ≡ 9344) ⌝ }

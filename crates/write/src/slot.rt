@@ -32,7 +32,7 @@ fn is_child(words: &[usize], i: usize) -> bool
     item_word(words, parent - 1, KIND) == CONTAINER_KIND
 }
 
-// How much of an item's key its parent has.
+// How many bytes of an item's key are its parent's.
 fn skip_of(words: &[usize], i: usize) -> usize
     requires { ⌜ (14600 ≤ length (now words)) × (i < 1024) × (itemParent (now words) i ≤ i) ⌝ }
     ensures { λ r. ⌜ r ≡ skipped (now (words .entry)) i ⌝ }
@@ -43,7 +43,7 @@ fn skip_of(words: &[usize], i: usize) -> usize
     item_word(words, item_word(words, i, PARENT) - 1, KEY_SIZE)
 }
 
-// The number of an item's parent, or the mark.
+// The laid index of an item's parent; 0xFFFFFFFF for a root.
 fn parent_word(words: &[usize], roster: &[usize], i: usize) -> usize
     requires { ⌜ (14600 ≤ length (now words)) × (i < 1024) × (itemParent (now words) i ≤ i) × (length (now roster) ≡ 3200) ⌝ }
     ensures { λ r. ⌜ r ≡ parentWord (now (words .entry)) (now (roster .entry)) i ⌝ }

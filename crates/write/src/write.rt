@@ -31,7 +31,7 @@ const HEADER: usize = 24;
 
 const DEPTH: usize = 8;
 
-// Whether a table is known and not placed.
+// Whether a table is free-standing: known and not placed.
 fn is_free_standing(words: &[usize], table: usize) -> bool
     requires { ⌜ (leastWords ≤ length (now words)) × (tableTotal (now words) ≤ mostTables) ⌝ }
     ensures { λ r. ⌜ r ≡ freeStanding (now (words .entry)) table ⌝ }
@@ -52,7 +52,7 @@ fn lay_into(numbered: &[usize], arena: &[u8], table: usize, image: &mut [u8], si
     lay_image(numbered, arena, table, &mut image[..size]);
 }
 
-// Lays a table of a numbered table, if its image is not too long.
+// Lays a table, given by its number in a numbered table, unless its image is too long (31).
 fn write_if_fits(numbered: &[usize], arena: &[u8], table: usize, image: &mut [u8]) -> Written
     requires { ⌜ NumberedFits (now numbered) (now arena) ⌝ }
     requires { ⌜ table < numberedTables ⌝ }
@@ -74,7 +74,7 @@ fn write_if_fits(numbered: &[usize], arena: &[u8], table: usize, image: &mut [u8
     }
 }
 
-// Lays a table by its roster, if no key is empty.
+// Lays a table by its roster, unless a key in it or in those nested in it is empty (30).
 fn write_unless_empty(
     words: &[usize],
     arena: &[u8],
@@ -96,7 +96,7 @@ fn write_unless_empty(
     write_if_fits(&numbered, arena, table, image)
 }
 
-// Lays a table that is known and not placed.
+// Lays a free-standing table: indexes the items of all tables first.
 fn index_and_write(words: &mut [usize], arena: &[u8], table: usize, image: &mut [u8]) -> Written
     requires { ⌜ fullyValid (now words) (now arena) ≡ true ⌝ }
     requires { ⌜ table < numberedTables ⌝ }

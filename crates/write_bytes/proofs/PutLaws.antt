@@ -16,7 +16,7 @@ use Rattle.image.proofs.PlanLaws.{length-words, words-more, fourth-word}
 use Rattle.write_bytes.specs.Numbered.{kindValue, slotWord, childWord}
 use Rattle.write_bytes.specs.Slot.{headBytes, slotCover, slotRecord, slotKey, plainValue}
 
--- a store right behind another is one store of both
+-- a store directly behind another is one store of both
 pub put-then : (l : List ℕ) (at : ℕ) (a b : List ℕ) {m n : List ℕ} {mid : ℕ} → mid ≡ at + length a → m ≡ putAt l at a → n ≡ putAt m mid b → n ≡ putAt l at (a ++ b)
 put-then l at a b e p q = q ∙ rw (p, e, put-append)
 

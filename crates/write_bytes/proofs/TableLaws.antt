@@ -81,7 +81,7 @@ module _ (p : Plan) where
       put-then l at (start ++ records p base n) (payload p base n) (omega (arith, size)) a (h .image-is) in
       record { end-is = h .end-is ∙ sym (plan-end p at); image-is = b ∙ ap (putAt l at) (regroup p at) }
 
--- ---- a numbered table's table as a plan, slot by slot
+-- ---- a table of a numbered table as a plan, slot by slot
 
 module _ (inner : ℕ → ℕ → List ℕ) (numbered arena : List ℕ) (t : ℕ) where
   pub plan-count : numberedPlan inner numbered arena t .count ≡ slotCount numbered t

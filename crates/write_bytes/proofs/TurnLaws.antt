@@ -1,4 +1,4 @@
--- The turns of the loop over a table's items, in the code's own terms: what each may ask, and what it leaves.
+-- The turns of the loop over a table's items, as the code has them: what each may ask, and what it leaves.
 use mathlib.Core.Path.{_≡_, sym, ap, _∙_}
 use mathlib.Core.List.{List, _++_}
 use Prim.Native.Nat.{ℕ, _+_, _*_, _-_, _≤_, _<_, _^_}
@@ -14,7 +14,7 @@ use Rattle.write_bytes.specs.Numbered.{numberedTables, numberedSlots, fi
 use Rattle.write_bytes.specs.Slot.{headBytes, slotStart, slotRecord, slotItem}
 use Rattle.write_bytes.proofs.TableLaws.{Half, half-none, half-more, half-all, offset-more, plan-count, plan-first, plan-start, plan-item, plan-record, table-none, table-plan}
 
--- table t where the depth left is d, and where its fragments and values begin
+-- table t where the depth left is d, and where its fragments and values start
 abbrev pub planAt : List ℕ → List ℕ → ℕ → ℕ → Plan
 planAt numbered arena d t = numberedPlan (numberedBytes numbered arena (d - 1)) numbered arena t
 

@@ -1,4 +1,4 @@
--- What a measure answers, and an image after a write.
+-- What measuring answers.
 use Prim.Native.Nat.{ℕ}
 use mathlib.Core.List.{List}
 use lib.Dec.{ltb}
@@ -8,6 +8,6 @@ use Rattle.words.specs.Store.{putAt}
 use Rattle.layout.specs.Table.{longestFile}
 use Rattle.write_bytes.specs.declared.Measured.{Measured}
 
--- where what is measured ends, if that is within the most that an image may have
+-- where what is measured ends, unless that is past the most bytes that an image may have
 unfoldable pub measured : ℕ → Measured
 measured end = pick (ltb longestFile end) Measured.TooLong (Measured.End end)

@@ -1,9 +1,10 @@
--- A numbered table: what is to be laid, flat in words, each table's items in the order of their numbers; and the bytes that it means.
+-- A numbered table: the array that a write lays from. It holds the tables by number, and each table's items in the order in which they are laid;
+-- below stand the bytes that it means. In words:
 --   2t, 2t + 1     table t (64 of them): its first slot, and its count of items, which stand in the slots behind one another
---   128 + 8s       slot s (1,024 of them): hash, parent's number (4294967295: none), fragment start and size in the arena, kind,
+--   128 + 8s       slot s (1,024 of them): hash, parent's laid index (4294967295: none), fragment start and size in the arena, kind,
 --                  then by kind: value start in the arena, guest, or first of its child words; value length, nothing, or count of its child words;
 --                  and the word of bucket (s - first slot)
---   8320 + j       child words (1,024 of them): the numbers of the children, container by container
+--   8320 + j       child words (1,024 of them): the laid indices of the children, container by container
 use Prim.Native.Nat.{ℕ, zero, suc, _+_, _*_, _≤_, _<_, _^_}
 use mathlib.Core.Path.{_≡_}
 use mathlib.Core.List.{List, [], _++_}
@@ -54,7 +55,7 @@ unfoldable pub byKind : {A : Type 0} → ℕ → A → A → A → A
 byKind kind value table container = pick (eqb kind kindValue) value (pick (eqb kind kindTable) table container)
 
 module _ (inner : ℕ → ℕ → List ℕ) (numbered arena : List ℕ) where
-  -- what slot s holds, if it starts at a place: a value's bytes, a nested table with all its chunks, or the children's numbers
+  -- what slot s holds, if it starts at an offset: a value's bytes, a nested table with all its chunks, or the children's indices
   unfoldable pub slotValue : ℕ → ℕ → List ℕ
   slotValue s at =
       byKind (slotWord numbered s 4) (part arena (slotWord numbered s 5) (slotWord numbered s 6)) (inner (slotWord numbered s 5) at)
@@ -64,7 +65,7 @@ module _ (inner : ℕ → ℕ → List ℕ) (numbered arena : List ℕ) where
   unfoldable pub slotCovers : ℕ → ℕ
   slotCovers s = byKind (slotWord numbered s 4) (slotWord numbered s 6) (chunkSize (slotCount numbered (slotWord numbered s 5))) (4 * slotWord numbered s 6)
 
-  -- table t, by number
+  -- table t, index by index
   unfoldable pub numberedPlan : ℕ → Plan
   numberedPlan t = record {
     count = slotCount numbered t;
@@ -87,7 +88,7 @@ numberedBytes numbered arena (suc d) t at = planBytes (numberedPlan (λ u start.
 unfoldable pub numberedImage : List ℕ → List ℕ → ℕ → List ℕ
 numberedImage numbered arena root = zeros headerSize ++ numberedBytes numbered arena depth root headerSize
 
--- ---- a numbered table that can be laid: every place lies where it should, and every number fits its field
+-- ---- a numbered table that can be laid: every part lies where it should, and every word fits its field
 
 pub record SlotFits (numbered arena : List ℕ) (s : ℕ) : Type 0 where
   pub hash : slotWord numbered s 0 < 2 ^ 32

@@ -34,7 +34,7 @@ module _ (numbered : List ℕ) where
 unfoldable pub slotKey : List ℕ → List ℕ → ℕ → ℕ → ℕ → List ℕ
 slotKey numbered arena s at start = part arena (slotWord numbered s 2) (slotWord numbered s 3) ++ zeros (start - (at + slotWord numbered s 3))
 
--- its value, where that is no nested table: bytes, or the children's numbers
+-- its value, where that is no nested table: bytes, or the children's indices
 unfoldable pub plainValue : List ℕ → List ℕ → ℕ → List ℕ
 plainValue numbered arena s =
     pick (eqb (slotWord numbered s 4) kindValue) (part arena (slotWord numbered s 5) (slotWord numbered s 6))
@@ -57,7 +57,7 @@ pub record CoverFits (numbered : List ℕ) (s : ℕ) : Type 0 where
   pub items : slotWord numbered s 4 ≡ kindTable → slotCount numbered (slotWord numbered s 5) ≤ numberedSlots
   pub children : (slotWord numbered s 4 ≡ kindValue → ⊥) → (slotWord numbered s 4 ≡ kindTable → ⊥) → slotWord numbered s 6 ≤ numberedSlots
 
--- the numbers of its record fit their fields
+-- the words of its record fit their fields
 pub record RecordFits (numbered : List ℕ) (s at start : ℕ) : Type 0 where
   pub hash : slotWord numbered s 0 < 2 ^ 32
   pub parent : slotWord numbered s 1 < 2 ^ 32

@@ -28,7 +28,7 @@ pub fn slot_word(numbered: &[usize], slot: usize, which: usize) -> usize
     numbered[128 + 8 * slot + which]
 }
 
-// A child word.
+// A child word: the laid index of a child.
 pub fn child_word(numbered: &[usize], place: usize) -> usize
     requires { ⌜ 8320 + place < length (now numbered) ⌝ }
     ensures { λ r. ⌜ r ≡ childWord (now (numbered .entry)) place ⌝ }

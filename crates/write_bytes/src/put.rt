@@ -28,7 +28,7 @@ fn lay_head(image: &mut [u8], count: usize, at: usize)
     put_word(image, at + 4, count as u32);
 }
 
-// Lays the bucket words of a table, whose slots begin with `first`.
+// Lays the bucket words of a table, whose slots start with `first`.
 fn lay_buckets(numbered: &[usize], image: &mut [u8], first: usize, count: usize, at: usize)
     requires { ⌜ (length (now numbered) ≡ numberedSize) × (first + count ≤ numberedSlots) ⌝ }
     requires { ⌜ ((b : ℕ) → b < count → slotWord (now numbered) (first + b) 7 < 2 ^ 32) ⌝ }
@@ -120,7 +120,7 @@ pub fn lay_key(
     put_zeros(image, end, start - end);
 }
 
-// Lays the numbers of a container's children as words. Answers where they end.
+// Lays the indices of a container's children as words. Answers where they end.
 fn lay_children(numbered: &[usize], image: &mut [u8], from: usize, count: usize, at: usize) -> usize
     requires { ⌜ (length (now numbered) ≡ numberedSize) × (from + count ≤ numberedSlots) ⌝ }
     requires { ⌜ ((j : ℕ) → j < count → childWord (now numbered) (from + j) < 2 ^ 32) ⌝ }

@@ -1,4 +1,4 @@
-// What a slot's words say of the place and the length of its value.
+// Where a slot's value starts in the image, and how long it is.
 use crate::numbered::slot_count;
 use crate::numbered::slot_word;
 use words::align::Alignment;

@@ -1,4 +1,4 @@
-// An image whole: zeros for the header, then the root table.
+// A whole image: zeros for the header, then the root table.
 use crate::Measured;
 use crate::measure::measure_table;
 use crate::table::lay_table;

@@ -71,7 +71,7 @@ module _ (ws ar : List ℕ) (t n : ℕ) (items firsts : List ℕ) (fit : Fit ws)
 
 -- ---- one table more
 
--- an item that is not among those that are numbered keeps its number
+-- an item that is not among those that get an index keeps the one that it has
 indices-other : (indices items : List ℕ) (i n : ℕ) → n ≤ length items → ((k : ℕ) → k < length items → getD items k 0 ≡ i → ⊥)
     → getD (indicesPut indices items n) i 0 ≡ getD indices i 0
 unfolding indicesPut

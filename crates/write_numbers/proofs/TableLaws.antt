@@ -1,4 +1,4 @@
--- Laws of one table's steps: collected, sorted, numbered.
+-- Laws of one table's steps: its items collected, sorted, and given their indices.
 use Prim.Native.Nat.{ℕ, _≤_}
 use native.Mathlib.Omega.{arith}
 use mathlib.Core.Path.{_≡_, sym, ap, _∙_}
@@ -63,7 +63,7 @@ module _ (ws : List ℕ) (t n : ℕ) (out out′ : List ℕ) (fit : Fit ws) (roo
     order = sorted ∙ ap (λ (l : List ℕ). keyOrder (keyed ws ar l)) (collected-is ∙ sym (state-members ws ar t)) ∙ order-keyed ws ar (stateOf ws ar t) (state-same ws ar t);
   }
 
--- ---- sorted, then numbered
+-- ---- sorted, then given their indices
 
 module _ (ws ar : List ℕ) (t n : ℕ) (run : List ℕ) (judged : Judged ws ar) (o : Ordered ws ar t n run) where
   pub ordered-few : n ≤ 1024

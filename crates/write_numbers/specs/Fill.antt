@@ -63,13 +63,13 @@ pub record Ordered (ws ar : List ℕ) (t n : ℕ) (run : List ℕ) : Type 0 wher
   pub count : n ≡ length (stateOf ws ar t .members)
   pub order : take n run ≡ keyOrder (stateOf ws ar t)
 
--- they are numbered: the item of each number, the word of each bucket
+-- they have their indices: the item at each index, the word of each bucket
 pub record IndexedAs (ws ar : List ℕ) (t n : ℕ) (items firsts : List ℕ) : Type 0 where
   pub count : n ≡ length (stateOf ws ar t .members)
   pub items-are : take n items ≡ byIndex plain (stateOf ws ar t)
   pub firsts-are : take n firsts ≡ starts (hashesOf plain (stateOf ws ar t))
 
--- they are put into the slots from `first` on, their numbers and the words of their buckets too
+-- they are put into the slots from `first` on, their indices and the words of their buckets too
 pub record Put (ws ar : List ℕ) (t first n : ℕ) (slots slots′ indices indices′ buckets buckets′ : List ℕ) : Type 0 where
   pub count : n ≡ length (stateOf ws ar t .members)
   pub slots-are : slots′ ≡ putAt slots first (byIndex plain (stateOf ws ar t))

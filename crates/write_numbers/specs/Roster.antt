@@ -1,7 +1,7 @@
--- A roster: the items of every table in the order of their numbers, flat in words.
+-- A roster: the items of every table in the order in which they are laid. In words:
 --   2t, 2t + 1   table t (64 of them): its first slot, and its count of items, which stand in the slots behind one another
 --   128 + s      the item in slot s (1,024 of them)
---   1152 + i     the number of item i in its table (1,024 of them)
+--   1152 + i     the laid index of item i (1,024 of them)
 --   2176 + s     the word of bucket (s - first slot) of the table that slot s is of (1,024 of them)
 use Prim.Native.Nat.{ℕ, _+_, _*_, _≤_, _<_}
 use mathlib.Core.Path.{_≡_}

@@ -1,4 +1,4 @@
-// The items of every table in the order of their numbers.
+// The items of every table in the order in which they are laid: the roster.
 pub mod collect;
 pub mod fill;
 pub mod table;

@@ -1,4 +1,4 @@
-// The items of one table by their numbers, and the words of its buckets.
+// The items of one table by laid index, and the words of its buckets.
 use crate::collect::in_order;
 use build_memory::fields::LEAST_WORDS;
 use build_memory::fields::LINKS_FROM;
@@ -16,7 +16,7 @@ ghost use Rattle.write_order.specs.Chain.{starts};
 ghost use Rattle.write_order.specs.Items.{hashesIn};
 ghost use Rattle.write_numbers.specs.Fill.{Fit, Judged, IndexedAs};
 
-// Numbers places by their hashes. The chains run through the links of the words, which hold the empty mark before and after.
+// Gives ranks their indices by their hashes. The chains run through the links of the words, which hold the empty mark before and after.
 fn index_links(words: &mut [usize], hashes: &[usize], order: &mut [usize], firsts: &mut [usize])
     requires { ⌜ Fit (now words) × (length (now hashes) ≤ mostItems) ⌝ }
     requires { ⌜ (mostItems ≤ length (now order)) × (mostItems ≤ length (now firsts)) ⌝ }
@@ -27,7 +27,7 @@ fn index_links(words: &mut [usize], hashes: &[usize], order: &mut [usize], first
     index_by_bucket(hashes, &mut words[LINKS_FROM..LEAST_WORDS], order, firsts);
 }
 
-// Numbers the items of `run`: `order` gets the place of each number, `firsts` the first number of each bucket.
+// Gives the items of `run` their indices: `order` gets the rank at each index, `firsts` the first index of each bucket.
 fn index_run(words: &mut [usize], run: &[usize], order: &mut [usize], firsts: &mut [usize])
     requires { ⌜ Fit (now words) × Known (now words) (now run) × (length (now run) ≤ mostItems) ⌝ }
     requires { ⌜ (mostItems ≤ length (now order)) × (mostItems ≤ length (now firsts)) ⌝ }
@@ -41,7 +41,7 @@ fn index_run(words: &mut [usize], run: &[usize], order: &mut [usize], firsts: &m
     index_links(words, &hashes[..n], order, firsts);
 }
 
-// Puts the item of each number of table t to the front of `items`, and the word of each bucket to that of `firsts`. Answers how many.
+// Puts the item at each index of table t to the front of `items`, and the word of each bucket to that of `firsts`. Answers how many.
 pub fn index_table(
     words: &mut [usize],
     arena: &[u8],

@@ -1,4 +1,4 @@
--- Laws of chains: places put at the front, chains taken apart, links that hold the empty mark again.
+-- Laws of chains: ranks put at the front, chains taken apart, links that hold the empty mark again.
 use mathlib.Core.Path.{_≡_, refl, sym, ap, _∙_}
 use mathlib.Core.Logic.{⊎-elim}
 use mathlib.Core.List.{List, [], _∷_, _++_}
@@ -23,7 +23,7 @@ not-first y x l none e = omega (arith, times-here y x l e)
 not-rest : (y x : ℕ) (l : List ℕ) → times y (x ∷ l) ≡ 0 → times y l ≡ 0
 not-rest y x l none = omega (arith, times-cons y x l)
 
--- a store at a place that a chain does not hold leaves the chain
+-- a store at a rank that a chain does not hold leaves the chain
 pub chain-set : (links : List ℕ) (y v h : ℕ) (l : List ℕ) → times y l ≡ 0 → Chain links h l → Chain (set links y v) h l
 unfolding Chain
 chain-set links y v h [] none c = c
@@ -45,7 +45,7 @@ chain-unique links h (x ∷ l) (y ∷ m) c d =
     let t : l ≡ m = chain-unique links (getD links x 0) l m (c .3) (rw e (d .3)) in
     rw (e, t)
 
--- ---- a place put at the front of its bucket's chain
+-- ---- a rank put at the front of its bucket's chain
 
 module _ (hashes : List ℕ) where
   pub chained-none : (heads links : List ℕ) → length hashes ≤ length heads → Empty heads → Chained hashes 0 heads links
@@ -116,7 +116,7 @@ cleared-other links [] y none = refl
 cleared-other links (x ∷ l) y none =
     cleared-other (set links x mark) l y (not-rest y x l none) ∙ getD-set-other links x y mark 0 (λ e. not-first y x l none (sym e))
 
--- a chain none of whose places is cleared stands
+-- a chain none of whose ranks is cleared stands
 chain-cleared : (links : List ℕ) (h : ℕ) (l m : List ℕ) → ((x : ℕ) → 0 < times x l → times x m ≡ 0) → Chain links h m → Chain (cleared links l) h m
 unfolding cleared
 chain-cleared links h [] m apart c = c
@@ -135,7 +135,7 @@ module _ (hashes : List ℕ) where
           (λ m. absurd (omega (arith, run-other hashes b k x m)))
           (eq-or-ne (bucketOf hashes x) b)
 
-  -- every place of the run is cleared
+  -- every rank of the run is cleared
   pub run-cleared : (links : List ℕ) (b k x : ℕ) → x < k → k ≤ length links → bucketOf hashes x ≡ b → getD (cleared links (run hashes b k)) x 0 ≡ mark
   unfolding cleared
   run-cleared links b zero x h l e = absurd (omega arith)

@@ -1,4 +1,4 @@
--- Laws of the lists that the writer works with: they are the hashes, the items by number and the numbers of the table's definition, and
+-- Laws of the lists that the writer works with: they are the hashes, the items by index and the indices of the table's definition, and
 -- the turns of the loops that make them.
 use mathlib.Core.Path.{_≡_, refl, sym, ap, _∙_}
 use mathlib.Core.Logic.{⊎-elim}
@@ -60,14 +60,14 @@ pub items-index : (rule : ℕ → ℕ) (table : Rows) → itemsAt (keyOrder tabl
 unfolding itemsAt byIndex
 items-index rule table = refl
 
--- the places of the numbers are places of the key order
+-- the ranks at the indices are ranks of the key order
 pub indexed-below : (rule : ℕ → ℕ) (table : Rows) → AllBelow (length (keyOrder table)) (byBucket (hashesOf rule table))
 unfolding AllBelow
 indexed-below rule table k h =
     let each = ranks-each rule table in
     omega (arith, each .within k (omega (arith, each .size)), length-order table)
 
--- ---- numbers of items
+-- ---- indices of items
 
 module _ (indices items : List ℕ) where
   pub length-indices : (k : ℕ) → length (indicesPut indices items k) ≡ length indices
@@ -83,7 +83,7 @@ module _ (indices items : List ℕ) where
   unfolding indicesPut
   indices-turn k = rw add-one
 
-  -- an item that stands once gets its number
+  -- an item that stands once gets its index
   indices-at : ((j k : ℕ) → j < length items → k < length items → getD items j 0 ≡ getD items k 0 → j ≡ k) → AllBelow (length indices) items
       → (n k : ℕ) → n ≤ length items → k < n → getD (indicesPut indices items n) (getD items k 0) 0 ≡ k
   unfolding indicesPut AllBelow
@@ -96,7 +96,7 @@ module _ (indices items : List ℕ) where
       ∙ indices-at once below n k (omega arith) less)
       (eq-or-lt-of-le (le-of-suc-le-suc l))
 
--- every member's number is that of the definition
+-- every member's index is that of the definition
 pub indices-of : (rule : ℕ → ℕ) (table : Rows) (indices : List ℕ) → ((x : ℕ) → times x (table .members) ≤ 1) → AllBelow (length indices) (byIndex rule table)
     → (i : ℕ) → Has (table .members) i → getD (indicesPut indices (byIndex rule table) (length (byIndex rule table))) i 0 ≡ laidIndex rule table i
 unfolding laidIndex

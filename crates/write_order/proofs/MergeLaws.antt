@@ -50,7 +50,7 @@ module _ (key : ℕ → List ℕ) where
   left-some [] (y ∷ r) e h = clash e
   left-some (x ∷ l) r e h = omega arith
 
-  -- the same by places in two lists
+  -- the same by indices into two lists
   module _ (l r : List ℕ) (i j : ℕ) where
     pub step-right : rightFirst key (drop i l) (drop j r) ≡ true → j < length r → merged key (drop i l) (drop j r) ≡ getD r j 0 ∷ merged key (drop i l) (drop (j + 1) r)
     step-right e h =

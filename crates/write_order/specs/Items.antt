@@ -1,4 +1,4 @@
--- The hashes of items, the items of places, and the numbers of items, as lists.
+-- The hashes of items, the items of ranks, and the indices of items, as lists.
 use Prim.Native.Nat.{ℕ, zero, suc, _<_}
 use mathlib.Core.List.{List, map}
 use lib.ListN.{length, getD, set}
@@ -12,11 +12,11 @@ AllBelow n l = (k : ℕ) → k < length l → getD l k 0 < n
 unfoldable pub hashesIn : List ℕ → List ℕ → List ℕ
 hashesIn words run = map (hashAt words) run
 
--- the items that stand at some places
+-- the items of some ranks
 unfoldable pub itemsAt : List ℕ → List ℕ → List ℕ
 itemsAt run places = map (λ (place : ℕ). getD run place 0) places
 
--- the numbers 0, 1, .. of the first k items, each stored at its item
+-- the indices 0, 1, .. of the first k items, each stored at its item
 unfoldable pub indicesPut : List ℕ → List ℕ → ℕ → List ℕ
 indicesPut indices items zero = indices
 indicesPut indices items (suc k) = set (indicesPut indices items k) (getD items k 0) k

@@ -9,11 +9,11 @@ use Rattle.model.specs.Table.{Content, Rows, Has, noItem}
 abbrev pub recordAt : ℕ → ℕ
 recordAt i = 1288 + 12 * i
 
--- its key: the third word of the record says where it starts, the fourth how long it is
+-- its key: word 3 of the record says where it starts in the arena, word 4 how long it is
 unfoldable pub keyAt : List ℕ → List ℕ → ℕ → List ℕ
 keyAt words arena i = part arena (getD words (recordAt i + 3) 0) (getD words (recordAt i + 4) 0)
 
--- its hash, which is the first word
+-- its hash: word 1 of the record
 unfoldable pub hashAt : List ℕ → ℕ → ℕ
 hashAt words i = getD words (recordAt i + 1) 0
 

@@ -1,4 +1,4 @@
-// Numbers for the items of one table, bucket by bucket. Items go by their places in ascending key order; `hashes` has the hash of each.
+// Indices for the items of one table, bucket by bucket. An item goes by its rank, which counts in ascending key order; `hashes` has the hash of each rank.
 // A chain runs from the head of its bucket through `links`.
 ghost use mathlib.Core.Path.{_≡_};
 ghost use Prim.Native.Nat.{_≤_, _<_};
@@ -10,7 +10,7 @@ ghost use Rattle.write_order.specs.Chain.{Chained, Ended, Drained, Empty
 // The empty mark of a chain's end.
 const EMPTY: usize = 0xFFFF_FFFF;
 
-// The bucket of a place.
+// The bucket of a rank.
 fn bucket_of(hashes: &[usize], place: usize) -> usize
     requires { ⌜ place < length (now hashes) ⌝ }
     ensures { λ r. ⌜ (r ≡ bucketOf (now (hashes .entry)) place) × (r < length (now (hashes .entry))) ⌝ }
@@ -18,7 +18,7 @@ fn bucket_of(hashes: &[usize], place: usize) -> usize
     hashes[place] % hashes.len()
 }
 
-// Puts each place, in ascending order, at the front of its bucket's chain.
+// Puts each rank, in ascending order, at the front of its bucket's chain.
 fn chain_all(hashes: &[usize], heads: &mut [usize], links: &mut [usize])
     requires { ⌜ (length (now hashes) ≤ 1024) × (length (now hashes) ≤ length (now heads)) × (length (now hashes) ≤ length (now links)) ⌝ }
     requires { ⌜ Empty (now heads) × Empty (now links) ⌝ }
@@ -34,7 +34,7 @@ fn chain_all(hashes: &[usize], heads: &mut [usize], links: &mut [usize])
     }
 }
 
-// Writes a chain's places to `order` from `at` on and takes the chain apart. Answers the end.
+// Writes a chain's ranks to `order` from `at` on and takes the chain apart. Answers the end.
 fn drain_chain(head: usize, links: &mut [usize], order: &mut [usize], at: usize) -> usize
     requires { ⌜ Ended (now links) head (length (now order)) at ⌝ }
     ensures { λ r. ⌜ Drained (now (links .entry)) (now (links .exit)) (now (order .entry)) (now (order .exit)) head at r ⌝ }
@@ -51,7 +51,7 @@ fn drain_chain(head: usize, links: &mut [usize], order: &mut [usize], at: usize)
     end
 }
 
-// Numbers the chained places bucket by bucket: `order` gets the place of each number, `firsts` the first number of each bucket.
+// Gives the chained ranks their indices, bucket by bucket: `order` gets the rank at each index, `firsts` the first index of each bucket.
 fn index_all(
     hashes: &[usize],
     heads: &[usize],
@@ -75,7 +75,7 @@ fn index_all(
     }
 }
 
-// Numbers the items of one table. The links hold the empty mark before and after.
+// Gives the items of one table their indices. The links hold the empty mark before and after.
 pub fn index_by_bucket(
     hashes: &[usize],
     links: &mut [usize],

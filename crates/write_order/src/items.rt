@@ -1,4 +1,4 @@
-// From places to items and numbers: the hash of each place, the item of each number, the number of each item.
+// From ranks to items and indices: the hash of each rank, the item at each index, the index of each item.
 use crate::key::hash_of;
 ghost use mathlib.Core.Path.{_≡_};
 ghost use Prim.Native.Nat.{_≤_};
@@ -19,7 +19,7 @@ pub fn hash_all(words: &[usize], run: &[usize], hashes: &mut [usize])
     }
 }
 
-// The items of the places in `order`; `run` has the item of each place.
+// The items of the ranks in `order`; `run` has the item of each rank.
 pub fn items_at(run: &[usize], order: &[usize], items: &mut [usize])
     requires { ⌜ AllBelow (length (now run)) (now order) × (length (now order) ≤ length (now items)) ⌝ }
     ensures { λ _. ⌜ now (items .exit) ≡ putAt (now (items .entry)) 0 (itemsAt (now (run .entry)) (now (order .entry))) ⌝ }
@@ -32,7 +32,7 @@ pub fn items_at(run: &[usize], order: &[usize], items: &mut [usize])
     }
 }
 
-// Stores the number of each item of `items` at the item's place in `numbers`.
+// Stores the index of each item of `items` at the item in `indices`.
 pub fn index_items(items: &[usize], indices: &mut [usize])
     requires { ⌜ AllBelow (length (now indices)) (now items) ⌝ }
     ensures { λ _. ⌜ now (indices .exit) ≡ indicesPut (now (indices .entry)) (now (items .entry)) (length (now (items .entry))) ⌝ }

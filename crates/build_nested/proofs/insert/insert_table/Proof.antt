@@ -1,4 +1,4 @@
--- `build_nested::insert::insert_table` meets its contract: 29, or what sound memory gives.
+-- `build_nested::insert::insert_table` meets its contract: 29, or what valid memory gives.
 use Rattle.build_nested.proofs.NestLaws.{table-invalid, nest-at-key}
 use Rattle.build_nested.specs.Nest.{nestAtKey}
 use Rattle.build_memory.proofs.MemoryLaws.{valid-facts}

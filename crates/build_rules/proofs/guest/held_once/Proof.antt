@@ -1,4 +1,4 @@
--- `build_rules::guest::held_once` meets its contract. The invariant: the marks are the tables that the items passed hold, and no item passed holds one twice.
+-- `build_rules::guest::held_once` meets its contract. The invariant: the flags are of the tables that the items passed hold, and no table is held by two of them.
 use Rattle.build_rules.proofs.ValidLaws.{guest-low, Met, met-none, met-pass, met-mark, once-pass, once-twice, once-first}
 use Rattle.build_rules.specs.Valid.{heldOnce}
 use Rattle.build_memory.specs.Memory.{itemTotal}

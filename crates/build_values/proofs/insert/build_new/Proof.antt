@@ -1,4 +1,4 @@
--- `build_values::insert::build_new` meets its contract: the containers, then the key's own item.
+-- `build_values::insert::build_new` meets its contract: the containers, then the item of the key itself.
 use Rattle.build_values.proofs.InsertLaws.{new-added}
 use native.Mathlib.Omega.{arith}
 use borrow.Author.Needs.{needs}

@@ -1,4 +1,4 @@
--- `build_values::insert::insert_value` meets its contract: 29, or what sound memory gives.
+-- `build_values::insert::insert_value` meets its contract: 29, or what valid memory gives.
 use Rattle.build_values.proofs.InsertLaws.{value-invalid, value-valid}
 use Rattle.build_values.specs.Insert.{insertAtKey}
 use Rattle.build_memory.proofs.MemoryLaws.{valid-facts}

@@ -1,4 +1,4 @@
--- `check_keys::front::raise` meets its contract: a place with bytes before it and none of its fragment left has a parent.
+-- `check_keys::front::raise` meets its contract: a front that has bytes, none of them in its item's fragment, has a parent.
 use mathlib.Core.Path.{sym, ap, _∙_}
 use native.Mathlib.Omega.{arith}
 use Rattle.layout.specs.declared.item.Item.{Item}

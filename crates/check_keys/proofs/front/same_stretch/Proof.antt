@@ -1,4 +1,4 @@
--- `check_keys::front::same_stretch` meets its contract: the bytes before the place are those of the fragment.
+-- `check_keys::front::same_stretch` meets its contract: the last bytes of the front are those of the fragment.
 use mathlib.Core.Path.{ap, _∙_}
 use native.Mathlib.Omega.{arith}
 use Rattle.layout.specs.declared.item.Item.{Item}

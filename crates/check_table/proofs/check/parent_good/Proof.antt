@@ -1,4 +1,4 @@
--- `check_table::check::parent_good` meets its contract: where the parent was walked, the mark says whether it lists the item.
+-- `check_table::check::parent_good` meets its contract: where the survey came past the parent, the bit says whether it lists the item.
 use mathlib.Core.Path.{sym, ap, _∙_}
 use Rattle.check_table.specs.Rules.{parentKeeps, listsIt}
 use Rattle.check_table.proofs.RuleLaws.{parent-keeps}

@@ -1,4 +1,4 @@
--- `check_table::survey::survey_children` meets its contract: the invariant says that the first `k` children are good and are marked.
+-- `check_table::survey::survey_children` meets its contract: the invariant says that the first `k` children are good and have their bits.
 use mathlib.Core.Path.{_≡_, refl, sym, _∙_}
 use native.Mathlib.Omega.{arith}
 use Prim.Native.Nat.{_≤_, _-_}

@@ -1,4 +1,4 @@
--- `read::chain::climb` meets its contract: each return is a case of the definition, with the fragment's place in the file's widths.
+-- `read::chain::climb` meets its contract: each return is a case of the definition, with the fragment's pointer in the file's widths.
 use mathlib.Core.Path.{sym, _∙_}
 use borrow.Author.Needs.{needs}
 use Rattle.layout.proofs.OpenLaws.{pointer-inside}

@@ -1,4 +1,4 @@
--- `words::store::put_zeros` meets its contract. The invariant: the first i zeros are laid, and the rest is as it was.
+-- `words::store::put_zeros` meets its contract. The invariant: the first i zeros are stored, and the rest is as it was.
 use mathlib.Core.Path.{_≡_, refl, _∙_}
 use Prim.Native.Nat.{_-_, _≤_}
 use native.Mathlib.Omega.{arith}

@@ -1,4 +1,4 @@
--- `write::children::list_parents` meets its contract. The invariant: the places passed have the parent words of their items.
+-- `write::children::list_parents` meets its contract. The invariant: the ranks passed have the parent words of their items.
 use borrow.Author.Needs.{needs}
 use Prim.Native.Nat.{ℕ, _≤_, _<_, _-_}
 use mathlib.Core.Path.{_≡_, refl}

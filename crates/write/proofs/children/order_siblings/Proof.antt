@@ -1,4 +1,4 @@
--- `write::children::order_siblings` meets its contract: places numbered in buckets by their parent words are the children in order of creation.
+-- `write::children::order_siblings` meets its contract: ranks in buckets by their parent words are the children in order of creation.
 use Prim.Native.Nat.{ℕ}
 use mathlib.Core.Path.{sym, _∙_}
 use native.Mathlib.Omega.{arith}

@@ -1,4 +1,4 @@
--- `write::children::put_children` meets its contract. The invariant: the child words passed have their numbers, all else is as it was.
+-- `write::children::put_children` meets its contract. The invariant: the child words passed have their indices, all else is as it was.
 use Prim.Native.Nat.{ℕ, _+_, _≤_, _<_, _-_}
 use mathlib.Core.Path.{_≡_, refl}
 use native.Mathlib.Omega.{arith}

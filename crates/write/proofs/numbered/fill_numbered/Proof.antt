@@ -1,4 +1,4 @@
--- `write::numbered table::fill_numbered` meets its contract: head, child words and slots make the numbered table of the memory.
+-- `write::numbered::fill_numbered` meets its contract: head, child words and slots make the numbered table of the memory.
 use Prim.Native.Nat.{ℕ}
 use native.Mathlib.Omega.{arith}
 use lib.ListN.{length-replicate, getD-replicate}

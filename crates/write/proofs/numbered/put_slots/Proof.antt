@@ -1,4 +1,4 @@
--- `write::numbered table::put_slots` meets its contract. The invariant: the slots of the items passed have their words, and every slot can be laid.
+-- `write::numbered::put_slots` meets its contract. The invariant: the slots of the items passed have their words, and every slot can be laid.
 use borrow.Author.Needs.{needs}
 use Prim.Native.Nat.{_≤_, _-_}
 use mathlib.Core.Path.{_≡_}

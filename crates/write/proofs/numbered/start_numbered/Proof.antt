@@ -1,4 +1,4 @@
--- `write::numbered table::start_numbered` meets its contract. The invariant: the words passed are the roster's, all behind them are 0.
+-- `write::numbered::start_numbered` meets its contract. The invariant: the words passed are the roster's, all behind them are 0.
 use borrow.Author.Needs.{needs}
 use Prim.Native.Nat.{ℕ, _≤_, _<_, _-_}
 use mathlib.Core.Path.{_≡_, refl}

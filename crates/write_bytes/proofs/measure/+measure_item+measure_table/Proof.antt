@@ -1,5 +1,5 @@
 -- The cycle of `write_bytes::measure::measure_table` and `write_bytes::measure::measure_item` meets both contracts. The measure is twice the depth left, and one
--- more for an item. The invariant of the loop: `end` is the place of item k, and within bounds.
+-- more for an item. The invariant of the loop: `end` is where item k starts, and within bounds.
 use mathlib.Core.Path.{_≡_, sym, ap, _∙_}
 use Prim.Native.Nat.{ℕ, _+_, _-_, _≤_, _<_}
 use native.Mathlib.Omega.{arith}

@@ -1,4 +1,4 @@
--- `write_numbers::fill::put_items` meets its contract: the table is numbered, then copied into its slots.
+-- `write_numbers::fill::put_items` meets its contract: the table's items get their indices, and are copied into its slots.
 use mathlib.Core.Path.{sym}
 use native.Mathlib.Omega.{arith}
 use lib.ListN.{length}

@@ -1,4 +1,4 @@
--- `write_numbers::table::index_run` meets its contract: the hashes of the run, then its numbers.
+-- `write_numbers::table::index_run` meets its contract: the hashes of the run, then its indices.
 use mathlib.Core.Path.{sym, ap, _∙_}
 use mathlib.Core.List.{List}
 use Prim.Native.Nat.{ℕ}

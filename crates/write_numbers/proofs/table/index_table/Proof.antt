@@ -1,4 +1,4 @@
--- `write_numbers::table::index_table` meets its contract: the items in order, their places by number, and the items there.
+-- `write_numbers::table::index_table` meets its contract: the items in key order, the rank at each index, and the items of the ranks.
 use mathlib.Core.Path.{sym}
 use native.Mathlib.Omega.{arith}
 use lib.ListN.{replicate}

@@ -1,4 +1,4 @@
--- `write_order::buckets::chain_all` meets its contract. The invariant: the places below p are chained, and the links from p on hold the empty mark.
+-- `write_order::buckets::chain_all` meets its contract. The invariant: the ranks below p are chained, and the links from p on hold the empty mark.
 use mathlib.Core.Path.{_≡_, refl}
 use Prim.Native.Nat.{_-_, _≤_, _<_}
 use native.Mathlib.Omega.{arith}

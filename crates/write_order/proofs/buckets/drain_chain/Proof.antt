@@ -1,4 +1,4 @@
--- `write_order::buckets::drain_chain` meets its contract. The invariant: the chain is split into the places passed, which are in `order` and whose
+-- `write_order::buckets::drain_chain` meets its contract. The invariant: the chain is split into the ranks passed, which are in `order` and whose
 -- links are cleared, and the rest, which is still chained.
 use mathlib.Core.Path.{_≡_, refl, sym, ap, _∙_}
 use mathlib.Core.List.{List, [], _∷_, _++_, append-assoc, append-nil}

@@ -1,4 +1,4 @@
--- `write_order::buckets::index_all` meets its contract. The invariant: the buckets before b are numbered and their links cleared, and the chains of
+-- `write_order::buckets::index_all` meets its contract. The invariant: the buckets before b have their indices and their links are cleared, and the chains of
 -- the others stand.
 use mathlib.Core.Path.{_≡_, refl, sym, ap, _∙_}
 use mathlib.Core.Logic.{⊎-elim}
@@ -27,7 +27,7 @@ record Buckets (hashes heads links₀ order₀ firsts₀ links order firsts : Li
   order-long : length order ≡ length order₀
   firsts-long : length firsts ≡ length firsts₀
 
--- at the first bucket nothing is numbered
+-- at the first bucket no rank has an index
 begin : (hashes heads links order firsts : List ℕ) → Chained hashes (length hashes) heads links → EmptyFrom (length hashes) links
     → Buckets hashes heads links order firsts links order firsts 0 0
 unfolding Chained EmptyFrom runsBelow startsBelow
@@ -69,7 +69,7 @@ module _ {hashes heads links₀ order₀ firsts₀ links order firsts : List ℕ
       (λ beyond. cleared-other links (run hashes b (length hashes)) i (run-above hashes b (length hashes) i beyond) ∙ s .clear i l (λ q. absurd (omega arith)))
       (lt-or-ge i (length hashes))
 
-  -- and once it is drained, one bucket more is numbered
+  -- and once it is drained, one bucket more has its indices
   step : {links′ order′ : List ℕ} {end′ : ℕ} → length hashes ≤ length links₀ → Drained links links′ order order′ (getD heads b 0) end end′
       → Buckets hashes heads links₀ order₀ firsts₀ links′ order′ (set firsts b end) (b + 1) end′
   unfolding Drained bucketStart

@@ -1,4 +1,4 @@
--- `write_order::items::index_items` meets its contract. The invariant: the numbers of the first k items are stored.
+-- `write_order::items::index_items` meets its contract. The invariant: the indices of the first k items are stored.
 use mathlib.Core.Path.{_≡_, refl}
 use Prim.Native.Nat.{_-_, _≤_}
 use native.Mathlib.Omega.{arith}

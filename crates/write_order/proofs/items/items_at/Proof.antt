@@ -1,4 +1,4 @@
--- `write_order::items::items_at` meets its contract. The invariant: the items of the first k places are stored.
+-- `write_order::items::items_at` meets its contract. The invariant: the items of the first k ranks are stored.
 use mathlib.Core.Path.{_≡_, refl, _∙_}
 use Prim.Native.Nat.{ℕ, _-_, _≤_}
 use native.Mathlib.Omega.{arith}

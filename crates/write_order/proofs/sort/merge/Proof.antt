@@ -90,7 +90,7 @@ left-side : (c : tie.Else1 Inv-loop μ-loop) → let s = c .before .before .befo
     rightFirst (keyAt (s .args .words .now) (s .args .arena .now)) (drop (l .i) (take (s .args .mid) (s .args .run .now))) (drop (l .j) (s .args .run .now)) ≡ false
 left-side c = sym (c .before .right-first .ensures) ∙ c .if1 .left
 
--- the places that a turn reads and writes
+-- the indices that a turn reads and writes
 right-turn : (c : tie.Then1 Inv-loop μ-loop) → let s = c .before .before .before .before .before .before .before .before in let l = c .before .before .before .loop in
     (l .j < length (s .args .run .now)) × (l .k < length (s .args .run .now)) × (l .k < length (l .out))
 right-turn c =
