@@ -43,6 +43,7 @@ fn is_item(words: &[usize], arena: &[u8], table: usize, hash: usize, key: &[u8],
     same_bytes(key_of(words, arena, i), key)
 }
 
+// gvdb-rs: SimpleHashTable::get, get_from_bucket; HashTableBuilder has a map for it.
 // The index of the table's item with the key, whose hash is given, or the count of all items where there is none.
 pub fn find_hashed(words: &[usize], arena: &[u8], table: usize, key: &[u8], hash: usize) -> usize
     requires { ⌜ (leastWords ≤ length (now words)) × (itemTotal (now words) ≤ mostItems) ⌝ }

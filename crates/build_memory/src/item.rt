@@ -94,6 +94,7 @@ pub struct NewItem {
     pub guest: usize,
 }
 
+// gvdb-rs: HashItemBuilder::new.
 // Makes the next item. Its key, whose hash is given, and its value are stored where the room used ends.
 pub fn make_item(
     words: &mut [usize],

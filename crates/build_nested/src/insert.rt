@@ -94,6 +94,7 @@ fn nest_at_key(
     insert_nested(words, arena, table, key, guest)
 }
 
+// gvdb-rs: HashTableBuilder::insert_table.
 // Inserts a table under a key of another: 29, 24 for the receiver, 24 for the guest, 25, 8, 20, 21, 26, 22, 23, or the news.
 pub fn insert_table(
     words: &mut [usize],

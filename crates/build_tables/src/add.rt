@@ -71,6 +71,7 @@ fn add_table(words: &mut [usize], arena: &[u8], separator: usize) -> Added
     Added::Table(narrow(t))
 }
 
+// gvdb-rs: HashTableBuilder::new, with_path_separator.
 // A new, empty table with the separator: 29, 28, 27.
 pub fn new_table(words: &mut [usize], arena: &[u8], separator: &[u8]) -> Added
     ensures { λ r. ⌜ outcome r (memory (now (words .exit)) (now (arena .entry))) ≡ newTable (now (words .entry)) (now (arena .entry)) (now (separator .entry)) ⌝ }

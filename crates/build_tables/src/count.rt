@@ -35,6 +35,7 @@ fn count_of(words: &[usize], table: usize) -> usize
     count
 }
 
+// gvdb-rs: HashTableBuilder::len, is_empty.
 // How many items a table has, containers included: 29, then 24 for a number that is unknown.
 pub fn item_count(words: &[usize], arena: &[u8], table: u32) -> Counted
     ensures { λ r. ⌜ r ≡ itemCount (now (words .entry)) (now (arena .entry)) table ⌝ }

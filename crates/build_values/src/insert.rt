@@ -194,6 +194,7 @@ fn insert_or_replace(
     insert_new(words, arena, job, key, value, walked, hash)
 }
 
+// gvdb-rs: insert_item_value.
 // Walks down the containers that are there (21), refuses what is too deep (26), and inserts.
 pub fn insert_below_path(
     words: &mut [usize],
@@ -248,6 +249,7 @@ fn insert_at_key(
     insert_below_path(words, arena, job, key, value, false)
 }
 
+// gvdb-rs: HashTableBuilder::insert_value; its insert, insert_string, insert_bytes and insert_gvariant encode the value first.
 // Inserts a value under a key: 29, 24, 8, 20, 21, 22, 23, or the news.
 pub fn insert_value(
     words: &mut [usize],

@@ -54,6 +54,8 @@ pub extern "C" fn gvdb_fresh(words: &mut [usize], arena: &[u8]) -> u32
     }
 }
 
+// gvdb-rs: HashTableBuilder::with_path_separator.
+// A new, empty table with the separator.
 #[no_mangle]
 pub extern "C" fn gvdb_new_table(words: &mut [usize], arena: &[u8], separator: &[u8]) -> GvdbTable
     ensures { λ r. ⌜ outcome r (memory (now (words .exit)) (now (arena .entry))) ≡ told addedAnswer (newTable (now (words .entry)) (now (arena .entry)) (now (separator .entry))) ⌝ }
@@ -87,6 +89,8 @@ fn inserted_of(inserted: Inserted) -> GvdbInserted
     }
 }
 
+// gvdb-rs: HashTableBuilder::insert_value.
+// Inserts a value under a key of a table.
 #[no_mangle]
 pub extern "C" fn gvdb_insert(
     words: &mut [usize],
@@ -101,6 +105,8 @@ pub extern "C" fn gvdb_insert(
     inserted_of(inserted)
 }
 
+// gvdb-rs: HashTableBuilder::insert_table.
+// Inserts a table under a key of another.
 #[no_mangle]
 pub extern "C" fn gvdb_insert_table(
     words: &mut [usize],
@@ -115,6 +121,8 @@ pub extern "C" fn gvdb_insert_table(
     inserted_of(inserted)
 }
 
+// gvdb-rs: HashTableBuilder::len.
+// How many items a table has, containers included.
 #[no_mangle]
 pub extern "C" fn gvdb_item_count(words: &[usize], arena: &[u8], table: u32) -> GvdbCount
     ensures { λ r. ⌜ r ≡ countedAnswer (itemCount (now (words .entry)) (now (arena .entry)) table) ⌝ }

@@ -15,6 +15,7 @@ pub struct GvdbCheck {
     pub item: usize,
 }
 
+// Checks the table at a pointer.
 #[no_mangle]
 pub extern "C" fn gvdb_check(file: &[u8], start: u32, end: u32) -> GvdbCheck
     ensures { λ r. ⌜ r ≡ checkedAnswer (checkTable plain (now (file .entry)) start end) ⌝ }

@@ -48,6 +48,8 @@ pub struct GvdbValue {
     pub next: usize,
 }
 
+// gvdb-rs: File::read_hash_table.
+// Opens the table at a pointer.
 #[no_mangle]
 pub extern "C" fn gvdb_open(file: &[u8], start: u32, end: u32) -> GvdbOpened
     ensures { λ r. ⌜ r ≡ openedAnswer (openTable (now (file .entry)) start end) ⌝ }
@@ -86,6 +88,8 @@ fn place_of(looked: Looked) -> GvdbPlace
     }
 }
 
+// gvdb-rs: get_bytes.
+// Looks up the value of a key.
 #[no_mangle]
 pub extern "C" fn gvdb_get(file: &[u8], start: u32, end: u32, key: &[u8]) -> GvdbPlace
     ensures { λ r. ⌜ r ≡ lookedAnswer (lookupValue plain (now (file .entry)) start end (now (key .entry))) ⌝ }
@@ -93,6 +97,8 @@ pub extern "C" fn gvdb_get(file: &[u8], start: u32, end: u32, key: &[u8]) -> Gvd
     place_of(read::lookup::lookup_value(file, start, end, key))
 }
 
+// gvdb-rs: get_hash_table.
+// Looks up the nested table of a key.
 #[no_mangle]
 pub extern "C" fn gvdb_get_table(file: &[u8], start: u32, end: u32, key: &[u8]) -> GvdbPlace
     ensures { λ r. ⌜ r ≡ lookedAnswer (lookupTable plain (now (file .entry)) start end (now (key .entry))) ⌝ }
@@ -100,6 +106,7 @@ pub extern "C" fn gvdb_get_table(file: &[u8], start: u32, end: u32, key: &[u8]) 
     place_of(read::lookup::lookup_table(file, start, end, key))
 }
 
+// gvdb-rs: Keys::next.
 // The key at a position, written to the front of `out`. A refusal writes nothing.
 #[no_mangle]
 pub extern "C" fn gvdb_next_key(
@@ -127,6 +134,7 @@ pub extern "C" fn gvdb_next_key(
     }
 }
 
+// gvdb-rs: Values::next.
 // The first value at or after a position.
 #[no_mangle]
 pub extern "C" fn gvdb_next_value(file: &[u8], start: u32, end: u32, position: usize) -> GvdbValue

@@ -15,6 +15,7 @@ pub struct GvdbImage {
     pub length: u32,
 }
 
+// gvdb-rs: write_to_vec_with_table.
 // The image of a table, laid into the front of `image`. The builder stays as it was (its link words are used and emptied again); a
 // refusal writes nothing.
 #[no_mangle]

@@ -18,6 +18,7 @@ pub struct Item {
     pub to: u32,
 }
 
+// gvdb-rs: get_hash_item_for_index.
 // The item at an index of a table that lies in the file.
 pub fn item_at(file: &[u8], table: Table, index: usize) -> Item
     requires { ⌜ InFile (now file) table × (index < table .count) ⌝ }

@@ -8,6 +8,7 @@ pub enum Kind {
     Container,
 }
 
+// gvdb-rs: From<HashItemType> for u8.
 // The byte of a kind: 'v', 'H', 'L'.
 pub fn byte_of(kind: Kind) -> u8
     ensures { λ r. ⌜ r ≡ kindByte kind ⌝ }
@@ -19,6 +20,7 @@ pub fn byte_of(kind: Kind) -> u8
     }
 }
 
+// gvdb-rs: TryFrom<u8> for HashItemType, HashItem::typ.
 // Whether a byte is that of a kind.
 pub fn kind_known(byte: u8) -> bool
     ensures { λ r. ⌜ r ≡ kindKnown byte ⌝ }

@@ -12,6 +12,7 @@ pub enum Pointed {
     Refused(Refusal),
 }
 
+// gvdb-rs: Data::dereference, File::dereference.
 // Whether the pointer from start to end opens in a file of `size` bytes: 2 for a start above the end, then 3, then 2 for an end past the file.
 pub fn open_pointer(size: usize, start: usize, end: usize, alignment: Alignment) -> Pointed
     ensures { λ r. ⌜ r ≡ openPointer size start end (alignmentOf alignment) ⌝ }

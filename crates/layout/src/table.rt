@@ -28,6 +28,7 @@ pub enum Opened {
     Refused(Refusal),
 }
 
+// gvdb-rs: HashTable::for_bytes, with try_from_bytes, read_bloom_words, read_buckets and read_items of HashHeader.
 // The table that fills the bytes from start to end: 4, 5, 6, 7, or its parts.
 fn table_in(file: &[u8], start: usize, end: usize) -> Opened
     requires { ⌜ (start ≤ end) × (end ≤ length (now file)) ⌝ }
@@ -60,6 +61,7 @@ fn table_in(file: &[u8], start: usize, end: usize) -> Opened
     })
 }
 
+// gvdb-rs: File::read_hash_table, and File::hash_table for the root pointer.
 // The table at the pointer from start to end: 1, the pointer's errors, 4, 5, 6, 7.
 pub fn open_table(file: &[u8], start: u32, end: u32) -> Opened
     ensures { λ r. ⌜ r ≡ openTable (now (file .entry)) start end ⌝ }

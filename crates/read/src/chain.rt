@@ -32,6 +32,7 @@ pub enum Matched {
     Rest { parent: usize, size: usize },
 }
 
+// gvdb-rs: HashItem::parent.
 // The parent that an item names, in a table of so many items.
 pub fn parent_of(count: usize, parent: u32) -> Step
     ensures { λ r. ⌜ r ≡ parentOf count parent ⌝ }
@@ -46,6 +47,7 @@ pub fn parent_of(count: usize, parent: u32) -> Step
     Step::Refused(Refusal::ParentOutside)
 }
 
+// gvdb-rs: key_for_item.
 // The step from an item, whose fragment has to open and be UTF-8: 2, 9, then 10 for its parent.
 pub fn climb(file: &[u8], count: usize, item: Item) -> Step
     ensures { λ r. ⌜ r ≡ climbFrom (now (file .entry)) count item ⌝ }
@@ -114,6 +116,7 @@ fn match_item(file: &[u8], table: Table, index: usize, key: &[u8], ascii: bool) 
     }
 }
 
+// gvdb-rs: check_key.
 // Whether the chain of the item at an index names a key. The key's tail is compared with each fragment on the way up.
 pub fn chain_names(file: &[u8], table: Table, index: usize, key: &[u8]) -> bool
     requires { ⌜ InFile (now file) table × (index < table .count) ⌝ }

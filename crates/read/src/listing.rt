@@ -20,6 +20,7 @@ ghost use Rattle.layout.specs.Table.{InFile};
 ghost use Rattle.read.specs.Chain.{keyOf};
 ghost use Rattle.read.specs.Listing.{measure, written, listed, keyIn, keyAt, nextValue, valueFrom, valueAt};
 
+// gvdb-rs: Keys, Values; keys and values start with a cursor at 0.
 // A position in a table's items.
 pub struct Cursor {
     pub at: usize,
@@ -157,6 +158,7 @@ fn next_value_index(file: &[u8], table: Table, from: usize) -> usize
     found
 }
 
+// gvdb-rs: get_item_bytes.
 // The value of the item at an index: 15, then 2 or 3 of its pointer.
 fn value_from(file: &[u8], table: Table, index: usize) -> Valued
     requires { ⌜ InFile (now file) table ⌝ }
@@ -188,6 +190,7 @@ fn value_from(file: &[u8], table: Table, index: usize) -> Valued
 }
 
 impl Cursor {
+    // gvdb-rs: Keys::next.
     // The key at the cursor, in the table at a pointer, written to the front of `out`. A refusal writes nothing.
     pub fn next_key(self, file: &[u8], start: u32, end: u32, out: &mut [u8]) -> Listed
         ensures said { λ r. ⌜ r ≡ listed (keyAt (now (file .entry)) start end (self .at)) (length (now (out .entry))) (self .at) ⌝ }
@@ -200,6 +203,7 @@ impl Cursor {
         }
     }
 
+    // gvdb-rs: Values::next.
     // The first value at or after the cursor, in the table at a pointer.
     pub fn next_value(self, file: &[u8], start: u32, end: u32) -> Valued
         ensures { λ r. ⌜ r ≡ valueAt (now (file .entry)) start end (self .at) ⌝ }

@@ -47,6 +47,7 @@ pub enum Looked {
     Refused(Refusal),
 }
 
+// gvdb-rs: bloom_filter.
 // Whether a hash may be in the table, by its bloom words.
 pub fn bloom_passes(file: &[u8], table: Table, hash: u32) -> bool
     requires { ⌜ InFile (now file) table ⌝ }
@@ -114,6 +115,7 @@ fn first_of(file: &[u8], table: Table, hash: u32, run: Run, key: &[u8]) -> Found
     Found::Nothing
 }
 
+// gvdb-rs: get_hash_item.
 // The item that a key names.
 pub fn find_item(file: &[u8], table: Table, key: &[u8]) -> Found
     requires { ⌜ InFile (now file) table ⌝ }
@@ -170,6 +172,7 @@ fn lookup_item(file: &[u8], start: u32, end: u32, key: &[u8]) -> Sought
     }
 }
 
+// gvdb-rs: get_item_bytes.
 // The value of an item: 13 for another kind, then 2 or 3 of its pointer.
 fn value_of(file: &[u8], item: Item) -> Looked
     ensures { λ r. ⌜ r ≡ valueOf (now (file .entry)) item ⌝ }
@@ -207,6 +210,7 @@ fn nested_of(file: &[u8], item: Item) -> Looked
     }
 }
 
+// gvdb-rs: get_bytes.
 // The pointer of a key's value, in the table at a pointer.
 pub fn lookup_value(file: &[u8], start: u32, end: u32, key: &[u8]) -> Looked
     ensures { λ r. ⌜ r ≡ lookupValue plain (now (file .entry)) start end (now (key .entry)) ⌝ }
@@ -217,6 +221,7 @@ pub fn lookup_value(file: &[u8], start: u32, end: u32, key: &[u8]) -> Looked
     }
 }
 
+// gvdb-rs: get_hash_table.
 // The pointer of a key's nested table, in the table at a pointer.
 pub fn lookup_table(file: &[u8], start: u32, end: u32, key: &[u8]) -> Looked
     ensures { λ r. ⌜ r ≡ lookupTable plain (now (file .entry)) start end (now (key .entry)) ⌝ }

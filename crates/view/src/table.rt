@@ -11,6 +11,7 @@ ghost use Rattle.words.specs.Hash.{plain};
 ghost use Rattle.check_table.specs.Rules.{checkTable};
 ghost use Rattle.view.specs.Views.{OpenedOf, ValueOf, NestedOf, ListedOf, KeyOf};
 
+// gvdb-rs: HashTable.
 // A table of a lent file: the file, and the pointer to the table.
 pub struct TableView<'a> {
     pub file: &'a [u8],
@@ -42,6 +43,7 @@ pub struct ListedView<'a> {
     pub bytes: &'a [u8],
 }
 
+// gvdb-rs: File::read_hash_table, HashTable::for_bytes.
 // The table of a file at a pointer.
 pub fn open_view<'a>(file: &'a [u8], start: u32, end: u32) -> OpenedView<'a>
     ensures { λ r. ⌜ OpenedOf (file .entry) start end r ⌝ }
@@ -61,6 +63,7 @@ pub fn open_view<'a>(file: &'a [u8], start: u32, end: u32) -> OpenedView<'a>
 }
 
 impl<'a> TableView<'a> {
+    // gvdb-rs: get_bytes.
     // The value of a key.
     pub fn value(self, key: &[u8]) -> ValueView<'a>
         ensures { λ r. ⌜ ValueOf (self .entry) (now (key .entry)) r ⌝ }
@@ -70,6 +73,7 @@ impl<'a> TableView<'a> {
         ValueView { answer, bytes }
     }
 
+    // gvdb-rs: get_hash_table.
     // The nested table of a key.
     pub fn nested(self, key: &[u8]) -> NestedView<'a>
         ensures { λ r. ⌜ NestedOf (self .entry) (now (key .entry)) r ⌝ }
@@ -88,6 +92,7 @@ impl<'a> TableView<'a> {
         }
     }
 
+    // gvdb-rs: Values::next.
     // The first value at or after the cursor.
     pub fn next_value(self, cursor: Cursor) -> ListedView<'a>
         ensures { λ r. ⌜ ListedOf (self .entry) (cursor .at) r ⌝ }
@@ -97,6 +102,7 @@ impl<'a> TableView<'a> {
         ListedView { answer, bytes }
     }
 
+    // gvdb-rs: Keys::next.
     // The key at the cursor, written to the front of `out`. A refusal writes nothing.
     pub fn next_key(self, cursor: Cursor, out: &mut [u8]) -> Listed
         ensures { λ r. ⌜ KeyOf (self .entry) (cursor .at) (now (out .entry)) r (now (out .exit)) ⌝ }

@@ -29,6 +29,8 @@ pub fn hash_on(start: u32, bytes: &[u8]) -> u32
     value
 }
 
+// gvdb-rs: djb_hash.
+// The hash of a key.
 pub fn djb_hash(key: &[u8]) -> u32
     ensures { λ r. ⌜ r ≡ hashOf (now (key .entry)) ⌝ }
 {

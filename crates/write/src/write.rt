@@ -42,6 +42,7 @@ fn is_free_standing(words: &[usize], table: usize) -> bool
     table_word(words, table, PLACED) == 0
 }
 
+// gvdb-rs: serialize_to_vec.
 // Lays the image of a table into the front of a buffer that is long enough.
 fn lay_into(numbered: &[usize], arena: &[u8], table: usize, image: &mut [u8], size: usize)
     requires { ⌜ NumberedFits (now numbered) (now arena) ⌝ }
@@ -96,6 +97,7 @@ fn write_unless_empty(
     write_if_fits(&numbered, arena, table, image)
 }
 
+// gvdb-rs: add_table_builder.
 // Lays a free-standing table: indexes the items of all tables first.
 fn index_and_write(words: &mut [usize], arena: &[u8], table: usize, image: &mut [u8]) -> Written
     requires { ⌜ fullyValid (now words) (now arena) ≡ true ⌝ }
@@ -109,6 +111,7 @@ fn index_and_write(words: &mut [usize], arena: &[u8], table: usize, image: &mut 
     write_unless_empty(words, arena, &roster, table, image)
 }
 
+// gvdb-rs: write_with_table, write_to_vec_with_table.
 // Writes the image of a table. The builder stays as it was: the links among its words are empty again.
 pub fn write(words: &mut [usize], arena: &[u8], table: u32, image: &mut [u8]) -> Written
     ensures { λ _. ⌜ now (words .exit) ≡ now (words .entry) ⌝ }

@@ -12,6 +12,7 @@ pub fn first_slot(numbered: &[usize], table: usize) -> usize
     numbered[2 * table]
 }
 
+// gvdb-rs: SimpleHashTable::n_items, n_buckets.
 // The count of a table's items.
 pub fn slot_count(numbered: &[usize], table: usize) -> usize
     requires { ⌜ 2 * table + 1 < length (now numbered) ⌝ }

@@ -19,6 +19,7 @@ ghost use Rattle.write_bytes.specs.Slot.{headBytes, slotRecord, slotKey,
 // The first word of every table: a shift of 5, and no bloom words.
 const MARK: u32 = 0x2800_0000;
 
+// gvdb-rs: HashHeader::new.
 // Lays a table's first word and its count of buckets.
 fn lay_head(image: &mut [u8], count: usize, at: usize)
     requires { ⌜ (at + 8 ≤ length (now image)) × (count < 2 ^ 32) ⌝ }
@@ -65,6 +66,7 @@ fn lay_three(image: &mut [u8], to: usize, a: usize, b: usize, c: usize)
     put_word(image, to + 8, c as u32);
 }
 
+// gvdb-rs: HashItem::new.
 // Lays the record of a slot whose key is at `at` and whose value is at `start`.
 pub fn lay_record(
     numbered: &[usize],
@@ -89,6 +91,7 @@ pub fn lay_record(
     lay_three(image, to + 12, size + 65536 * kind, start, stop);
 }
 
+// gvdb-rs: allocate_chunk_with_data.
 // Lays a part of the arena. Answers where it ends.
 fn lay_part(arena: &[u8], image: &mut [u8], start: usize, size: usize, at: usize) -> usize
     requires { ⌜ start + size ≤ length (now arena) ⌝ }
@@ -100,6 +103,7 @@ fn lay_part(arena: &[u8], image: &mut [u8], start: usize, size: usize, at: usize
     at + size
 }
 
+// gvdb-rs: add_string.
 // Lays a slot's fragment at `at`, and zeros up to its value at `start`.
 pub fn lay_key(
     numbered: &[usize],
@@ -136,6 +140,7 @@ fn lay_children(numbered: &[usize], image: &mut [u8], from: usize, count: usize,
     at + 4 * count
 }
 
+// gvdb-rs: add_value.
 // Lays a slot's value that is no nested table: bytes, or children. Answers where it ends.
 pub fn lay_plain(
     numbered: &[usize],

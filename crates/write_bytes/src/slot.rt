@@ -24,6 +24,7 @@ fn alignment_of(kind: usize) -> Alignment
     Alignment::Table
 }
 
+// gvdb-rs: allocate_chunk_with_data, its alignment.
 // Where a slot's value starts, if its key starts at `at`.
 pub fn value_start(numbered: &[usize], slot: usize, at: usize) -> usize
     requires { ⌜ SlotIn (now numbered) slot ⌝ }
@@ -36,6 +37,7 @@ pub fn value_start(numbered: &[usize], slot: usize, at: usize) -> usize
     align_offset(at + size, alignment)
 }
 
+// gvdb-rs: Pointer::size.
 // The length that a slot's value pointer covers: of a nested table its table chunk only.
 pub fn cover(numbered: &[usize], slot: usize) -> usize
     requires { ⌜ SlotIn (now numbered) slot ⌝ }

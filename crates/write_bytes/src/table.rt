@@ -15,6 +15,7 @@ ghost use Rattle.image.specs.Laid.{Laid};
 ghost use Rattle.write_bytes.specs.Numbered.{numberedTables, numberedSlots, numberedBytes, NumberedFits};
 ghost use Rattle.write_bytes.specs.Slot.{slotStart, slotRecord, slotItem};
 
+// gvdb-rs: add_simple_hash_table.
 // Lays a table at `at`. Answers where it ends. At depth 0 nothing is laid.
 pub fn lay_table(
     numbered: &[usize],
@@ -53,6 +54,7 @@ pub fn lay_table(
     end
 }
 
+// gvdb-rs: add_simple_hash_table, for one item; add_table_builder, for a nested table.
 // Lays a slot's record at `to`, its fragment at `at`, and its value behind it. Answers where the value ends.
 fn lay_item(
     numbered: &[usize],

@@ -14,6 +14,7 @@ const HEADER: usize = 24;
 
 const DEPTH: usize = 8;
 
+// gvdb-rs: file_size.
 // Measures the image of a table.
 pub fn measure(numbered: &[usize], arena: &[u8], table: usize) -> Measured
     requires { ⌜ NumberedFits (now numbered) (now arena) ⌝ }
@@ -23,6 +24,7 @@ pub fn measure(numbered: &[usize], arena: &[u8], table: usize) -> Measured
     measure_table(numbered, arena, table, HEADER, DEPTH)
 }
 
+// gvdb-rs: serialize, and allocate_empty_chunk for the header.
 // Lays the image of a table at the front of a buffer that has room for it.
 pub fn lay_image(numbered: &[usize], arena: &[u8], table: usize, image: &mut [u8])
     requires { ⌜ NumberedFits (now numbered) (now arena) ⌝ }

@@ -41,6 +41,7 @@ fn index_run(words: &mut [usize], run: &[usize], order: &mut [usize], firsts: &m
     index_links(words, &hashes[..n], order, firsts);
 }
 
+// gvdb-rs: HashTableBuilder::build.
 // Puts the item at each index of table t to the front of `items`, and the word of each bucket to that of `firsts`. Answers how many.
 pub fn index_table(
     words: &mut [usize],

@@ -10,6 +10,7 @@ ghost use Rattle.write_order.specs.Chain.{Chained, Ended, Drained, Empty
 // The empty mark of a chain's end.
 const EMPTY: usize = 0xFFFF_FFFF;
 
+// gvdb-rs: SimpleHashTable::hash_bucket.
 // The bucket of a rank.
 fn bucket_of(hashes: &[usize], place: usize) -> usize
     requires { ⌜ place < length (now hashes) ⌝ }
@@ -18,6 +19,7 @@ fn bucket_of(hashes: &[usize], place: usize) -> usize
     hashes[place] % hashes.len()
 }
 
+// gvdb-rs: SimpleHashTable::insert.
 // Puts each rank, in ascending order, at the front of its bucket's chain.
 fn chain_all(hashes: &[usize], heads: &mut [usize], links: &mut [usize])
     requires { ⌜ (length (now hashes) ≤ 1024) × (length (now hashes) ≤ length (now heads)) × (length (now hashes) ≤ length (now links)) ⌝ }
@@ -34,6 +36,7 @@ fn chain_all(hashes: &[usize], heads: &mut [usize], links: &mut [usize])
     }
 }
 
+// gvdb-rs: SimpleHashTable::iter_bucket.
 // Writes a chain's ranks to `order` from `at` on and takes the chain apart. Answers the end.
 fn drain_chain(head: usize, links: &mut [usize], order: &mut [usize], at: usize) -> usize
     requires { ⌜ Ended (now links) head (length (now order)) at ⌝ }
@@ -51,6 +54,7 @@ fn drain_chain(head: usize, links: &mut [usize], order: &mut [usize], at: usize)
     end
 }
 
+// gvdb-rs: SimpleHashTable::iter.
 // Gives the chained ranks their indices, bucket by bucket: `order` gets the rank at each index, `firsts` the first index of each bucket.
 fn index_all(
     hashes: &[usize],
@@ -75,6 +79,7 @@ fn index_all(
     }
 }
 
+// gvdb-rs: SimpleHashTable::with_n_buckets.
 // Gives the items of one table their indices. The links hold the empty mark before and after.
 pub fn index_by_bucket(
     hashes: &[usize],

@@ -32,6 +32,7 @@ pub fn items_at(run: &[usize], order: &[usize], items: &mut [usize])
     }
 }
 
+// gvdb-rs: HashItemBuilder::set_assigned_index.
 // Stores the index of each item of `items` at the item in `indices`.
 pub fn index_items(items: &[usize], indices: &mut [usize])
     requires { ⌜ AllBelow (length (now indices)) (now items) ⌝ }
