@@ -1,11 +1,27 @@
 -- The lent memory of a builder: two buffers, the words and the arena. Where each word stands, the rules behind refusal 29 that every call
 -- judges, and the fresh start.
---   word 0 length of the words, 1 length of the arena, 2 tables, 3 items, 4 room used of the arena, 5 to 7 unused
---   8 + 4t     table t: separator (256: none), placed (0: no), height once it is placed, unused
---   264 + b    head of bucket b: the last item made whose hash modulo 1,024 is b, or the empty mark
---   1288 + 12i item i: table, hash, older (the item before it in its bucket, or the empty mark), key start, key length, parent (its
---              index and 1; 0: none), kind ('v', 'H', 'L'), value start, value length, guest (the table it holds), two unused
---   13576 + j  link j, which holds the empty mark between calls
+--
+--      words
+--          0 +--------------------------------------------------------------------------------------------+
+--            | 0 length of the words   1 length of the arena   2 tables   3 items   4 room used           |
+--          8 +--------------------------------------------------------------------------------------------+
+--            | 64 tables of 4 words:                                                                      |
+--            |   0 separator (256: none)   1 placed (0: no)   2 height, once it is placed                 |
+--        264 +--------------------------------------------------------------------------------------------+
+--            | 1,024 heads: the last item made of each bucket (hash modulo 1,024), or the empty mark      |
+--       1288 +--------------------------------------------------------------------------------------------+
+--            | 1,024 items of 12 words:                                                                   |
+--            |   0 table   1 hash   2 older: the item made before it in its bucket, or the empty mark     |
+--            |   3 key start   4 key length   5 parent: its index plus 1 (0: none)                        |
+--            |   6 kind ('v', 'H', 'L')   7 value start   8 value length   9 guest: the table it holds    |
+--      13576 +--------------------------------------------------------------------------------------------+
+--            | 1,024 links, which hold the empty mark between calls                                       |
+--      14600 +--------------------------------------------------------------------------------------------+
+--
+--      arena
+--          0 | key of item 0 | its value | key of item 1 | its value | .. | room used: all behind it is free
+--
+-- A word that is not named is unused. A value that replaces another is stored behind all that is there.
 use Prim.Native.Nat.{ℕ, _+_, _*_, _≤_}
 use mathlib.Core.Path.{_≡_}
 use mathlib.Core.Bool.{Bool, true, _&&_}

@@ -7,7 +7,24 @@ ghost use Prim.Native.Nat.{_<_};
 ghost use Rattle.layout.specs.Table.{InFile};
 ghost use Rattle.layout.specs.Item.{itemAt};
 
-// One item's fields: hash, parent (0xFFFFFFFF: a root), key start and size, kind, value start and end.
+// gvdb-rs: HashItem.
+// The fields of one item. In the file, from its first byte on, numbers little endian:
+//
+//     +--------+-------+----------------------------------------------+
+//     | offset | bytes |                                              |
+//     +--------+-------+----------------------------------------------+
+//     |      0 |     4 | `hash` of its joined key                     |  hash_value
+//     |      4 |     4 | `parent`: its index, or 0xFFFFFFFF: a root   |  parent
+//     |      8 |     4 | `key`: where its key fragment starts         |  key_start, key_ptr
+//     |     12 |     2 | `size` of the fragment                       |  key_size
+//     |     14 |     1 | `kind`: 'v', 'H' or 'L'                      |  typ
+//     |     15 |     1 | unused                                       |
+//     |     16 |     4 | `from`: where its value starts               |  value_ptr
+//     |     20 |     4 | `to`: where its value ends                   |
+//     +--------+-------+----------------------------------------------+
+//
+// To the right: the names that HashItem has for it. A value is its bytes ('v'), a nested table ('H'), or the indices of a container's children,
+// a word each ('L').
 pub struct Item {
     pub hash: u32,
     pub parent: u32,

@@ -14,7 +14,23 @@ ghost use Rattle.layout.specs.Table.{tableIn, openTable};
 // The most bytes that a file may have.
 pub const LONGEST_FILE: usize = 16_777_216;
 
-// A table: where it starts, its counts, and where its items start.
+// gvdb-rs: HashTable, HashHeader.
+// An open table: where it starts, its counts, and where its items start. In the file, in bytes, numbers little endian:
+//
+//     start -> +-------------+----------------------------------------------+
+//              | 4           | low 27 bits: `blooms`; top five bits: shift  |  n_bloom_words
+//              +-------------+----------------------------------------------+
+//              | 4           | `buckets`                                    |  n_buckets
+//              +-------------+----------------------------------------------+
+//              | 4 * blooms  | bloom words                                  |  bloom_words_offset, bloom_words_len
+//              +-------------+----------------------------------------------+
+//              | 4 * buckets | bucket words: each the index of the bucket's |  buckets_offset, buckets_len
+//              |             | first item                                   |
+//     items -> +-------------+----------------------------------------------+
+//              | 24 * count  | items, up to the end of the pointer          |  items_offset
+//              +-------------+----------------------------------------------+
+//
+// To the right: the names that HashHeader has for it.
 pub struct Table {
     pub start: usize,
     pub blooms: usize,
