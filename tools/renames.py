@@ -386,6 +386,31 @@ GROUPS["build-fields"] = (
     + exact("by-place", "by-field")
 )
 
+# The laws of every history: a page is named by its subject.
+GROUPS["history-pages"] = [
+    rule
+    for old, new in [
+        ("Bytes", "Utf8Bytes"),
+        ("Index", "TidySearch"),
+        ("Made", "TidyMade"),
+        ("Replaced", "TidyReplaced"),
+        ("Low", "TidyTables"),
+        ("Way", "WayDown"),
+        ("Grow", "GoodContainers"),
+        ("Calls", "GoodInsert"),
+        ("Value", "HonestCalls"),
+        ("Nest", "HonestNesting"),
+        ("Found", "ModelSearch"),
+        ("Walking", "ModelWalk"),
+        ("Same", "ModelSteps"),
+        ("Alike", "ModelInsert"),
+        ("Model", "ModelCalls"),
+        ("Nested", "ModelNesting"),
+        ("Others", "OtherTables"),
+    ]
+    for rule in page("history", "proofs", old, new)
+]
+
 
 def turned(text, path, groups):
     for group in groups:

@@ -30,7 +30,7 @@ use Rattle.write_numbers.specs.Roster.{stateOf}
 use Rattle.write.specs.Write.{freeStanding, imageAfter}
 use Rattle.write.proofs.StateLaws.{content-is, item-below}
 use Rattle.history.specs.Honest.{Honest}
-use Rattle.history.proofs.Model.{count-alike}
+use Rattle.history.proofs.ModelCalls.{count-alike}
 use Rattle.history.proofs.Meaning.{listed-length}
 use Rattle.demands.specs.Calls.{Call, started, after}
 use Rattle.demands.specs.Last.{Held}

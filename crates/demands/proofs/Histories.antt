@@ -24,8 +24,8 @@ use Rattle.build_values.specs.Answer.{insertedNumber}
 use Rattle.history.specs.Honest.{Honest}
 use Rattle.history.specs.Reached.{Reached}
 use Rattle.history.proofs.History.{reached-honest}
-use Rattle.history.proofs.Model.{value-alike, table-alike, fresh-alike}
-use Rattle.history.proofs.Nested.{nest-alike}
+use Rattle.history.proofs.ModelCalls.{value-alike, table-alike, fresh-alike}
+use Rattle.history.proofs.ModelNesting.{nest-alike}
 use Rattle.demands.specs.Calls.{Call, answered, accepted, leaves, started, after}
 use Rattle.demands.specs.Last.{Held, orElse, puts, among, passes, isTable, madeBy, separator, last, passed, held}
 use Rattle.demands.proofs.Refusals.{refusal-changes-nothing}

@@ -19,9 +19,9 @@ use Rattle.build_nested.specs.Nest.{heldHeight}
 use Rattle.history.specs.Items.{Item, itemOf, tableOf}
 use Rattle.history.specs.Consistent.{heldItem, heldIn}
 use Rattle.history.specs.Honest.{Honest}
-use Rattle.history.proofs.Index.{false-true}
+use Rattle.history.proofs.TidySearch.{false-true}
 use Rattle.history.proofs.Consistent.{most-cong, item-cong}
-use Rattle.history.proofs.Nest.{held-is}
+use Rattle.history.proofs.HonestNesting.{held-is}
 use Rattle.history.proofs.Meaning.{contentFrom, entryFrom, itemsOf, items-count, tables-count, item-at}
 
 -- ---- how many indices below n pass

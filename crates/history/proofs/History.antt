@@ -27,9 +27,9 @@ use Rattle.history.specs.Items.{Item, itemOf, tableOf}
 use Rattle.history.specs.Consistent.{Consistent, heldIn}
 use Rattle.history.specs.Honest.{Honest}
 use Rattle.history.specs.Reached.{Reached, fresh, new-table, insert-value, insert-table}
-use Rattle.history.proofs.Index.{key-size, find-found, find-missing}
-use Rattle.history.proofs.Value.{fresh-honest, table-honest, value-honest, placed-word, height-word}
-use Rattle.history.proofs.Nest.{nest-honest}
+use Rattle.history.proofs.TidySearch.{key-size, find-found, find-missing}
+use Rattle.history.proofs.HonestCalls.{fresh-honest, table-honest, value-honest, placed-word, height-word}
+use Rattle.history.proofs.HonestNesting.{nest-honest}
 
 pub reached-honest : (ws ar : List ℕ) → Reached ws ar → Honest ws ar
 reached-honest w a (fresh ws ar long) = fresh-honest ws ar long

@@ -21,10 +21,10 @@ use Rattle.build_memory.specs.Meaning.{contentOf, entryOf, standingOf, listed, 
 use Rattle.build_memory.proofs.MadeLaws.{made-arena}
 use Rattle.history.specs.Items.{Item, item, itemOf, Table, tableOf}
 use Rattle.history.specs.Tidy.{Tidy}
-use Rattle.history.proofs.Made as made
-use Rattle.history.proofs.Replaced as old
-use Rattle.history.proofs.Grow.{Lows, lows-two}
-use Rattle.history.proofs.Value.{lows-table}
+use Rattle.history.proofs.TidyMade as made
+use Rattle.history.proofs.TidyReplaced as old
+use Rattle.history.proofs.GoodContainers.{Lows, lows-two}
+use Rattle.history.proofs.HonestCalls.{lows-table}
 
 -- ---- lists by index
 

@@ -15,11 +15,11 @@ use Rattle.image.specs.WellFormed.{Writable}
 use Rattle.image.specs.Laid.{Holds}
 use Rattle.image.specs.Fits.{openedAs}
 
--- table t at `at` ends, for its pointer, where its table chunk does
+-- where the pointer of table t at `at` ends: with its table chunk
 abbrev pub endOf : State → ℕ → ℕ → ℕ
 endOf state t at = at + chunkSize (length (state t .members))
 
--- what opens there: a table of as many items
+-- what opens there: a table of as many items as table t has
 abbrev pub tableOpened : State → ℕ → ℕ → Table
 tableOpened state t at = openedAs at (length (state t .members))
 

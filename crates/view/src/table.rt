@@ -1,5 +1,5 @@
-// A table as a view that borrows its file. Each function takes the view apart and calls covered functions: no branch, no arithmetic, no loop.
-// A view holds no proof that it is good: each call opens the table again, so a view of any numbers is harmless.
+// A table as a view that borrows its file. Each function takes the view apart and calls functions over slices and numbers: no branch, no arithmetic,
+// no loop. A view holds no proof that it is good: each call opens the table again, so a view of any numbers is harmless.
 use check_table::check::Checked;
 use layout::table::Opened;
 use read::listing::Cursor;

@@ -1,4 +1,4 @@
-// From a file to a value's bytes by way of the views. No parameter or result is a view, so a caller is covered.
+// From a file to a value's bytes by way of the views. No parameter or result is a view, so a caller needs no proof written by hand.
 use crate::table::open_view;
 ghost use Rattle.words.specs.Hash.{plain};
 ghost use Rattle.read.specs.Lookup.{lookupValue};

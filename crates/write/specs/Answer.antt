@@ -11,7 +11,7 @@ use Rattle.write_numbers.specs.Roster.{stateOf}
 use Rattle.write.specs.Write.{hasEmpty, tooLong, imageFor}
 use Rattle.write.specs.declared.Written.{Written}
 
--- the image of some size of a table of so many items
+-- 31, or the answer for an image of some size, of a table of so many items
 unfoldable pub sizeAnswer : ℕ → ℕ → ℕ → Written
 sizeAnswer room count size = pick (tooLong room size) (Written.Refused ImageTooLong) (Written.Image headerSize (headerSize + chunkSize count) size)
 

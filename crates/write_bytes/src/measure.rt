@@ -1,4 +1,4 @@
-// A table measured before a byte of it is laid: the cycle of laying, without an image.
+// A table measured before a byte of it is laid: two functions that call each other as in laying, without an image.
 use crate::Measured;
 use crate::numbered::first_slot;
 use crate::numbered::slot_count;

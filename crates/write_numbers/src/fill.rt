@@ -1,4 +1,4 @@
-// All tables, one behind the other.
+// The roster of all tables: their slots stand one behind the other.
 use crate::collect::has_items;
 use crate::table::index_table;
 use write_order::items::index_items;
@@ -24,7 +24,7 @@ fn copy_first(src: &[usize], n: usize, out: &mut [usize], at: usize)
     }
 }
 
-// Puts what is known of a table t that has items into its slots, which start at `first`. Answers how many items it has.
+// Puts the items of a table t that has some into its slots, which start at `first`, with their indices and bucket words. Answers how many there are.
 fn put_items(
     words: &mut [usize],
     arena: &[u8],
@@ -48,7 +48,7 @@ fn put_items(
     n
 }
 
-// Puts what is known of table t into its slots, which start at `first`. Answers how many items it has.
+// The same of any table t.
 fn put_table(
     words: &mut [usize],
     arena: &[u8],

@@ -1,4 +1,4 @@
--- On honest memory each insert answers what the model does, and the memory after means the model's builder after.
+-- On honest memory the steps of an insert are the model's: what an item holds, the way down, and the containers that are missing.
 use Prim.Native.Nat.{ℕ, zero, suc, _+_, _-_, _≤_, _<_}
 use native.Mathlib.Numerals.{add-one}
 use native.Mathlib.Omega.{arith}
@@ -32,12 +32,12 @@ use Rattle.model.specs.Walk as seen
 use Rattle.model.specs.Walk.{isThere, entry, Walked, walk}
 use Rattle.history.specs.Items.{Item, item, itemOf, Table}
 use Rattle.history.specs.Honest.{Good}
-use Rattle.history.proofs.Index.{false-true}
-use Rattle.history.proofs.Made as made
-use Rattle.history.proofs.Grow.{At, boxed}
+use Rattle.history.proofs.TidySearch.{false-true}
+use Rattle.history.proofs.TidyMade as made
+use Rattle.history.proofs.GoodContainers.{At, boxed}
 use Rattle.history.proofs.Meaning.{contentFrom, aboveOf, entryFrom, itemsOf, item-at, items-made}
-use Rattle.history.proofs.Found.{find-same, there-same}
-use Rattle.history.proofs.Walking as way
+use Rattle.history.proofs.ModelSearch.{find-same, there-same}
+use Rattle.history.proofs.ModelWalk as way
 
 -- ---- what an item holds, by its kind
 

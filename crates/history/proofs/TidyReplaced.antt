@@ -15,8 +15,8 @@ use Rattle.build_memory.specs.Memory.{word, itemAt, headAt, linkAt, itemTotal, 
 use Rattle.build_memory.specs.Item.{Stored, replaceItem}
 use Rattle.history.specs.Items.{item, itemOf}
 use Rattle.history.specs.Tidy.{lastIn, bucketOf, Tidy}
-use Rattle.history.proofs.Index.{last-cong}
-use Rattle.history.proofs.Made.{item-from}
+use Rattle.history.proofs.TidySearch.{last-cong}
+use Rattle.history.proofs.TidyMade.{item-from}
 
 module _ (ws ar : List ℕ) (i : ℕ) (c : Stored) (tidy : Tidy ws ar) (there : i < itemTotal ws) (room : roomUsed ws + length (c .value) ≤ length ar) where
   abbrev m : Memory

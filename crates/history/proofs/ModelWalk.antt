@@ -18,7 +18,7 @@ use Rattle.model.specs.Table.{Content, Entry, entryAt, isContainer}
 use Rattle.model.specs.Walk.{findKey, isThere, entry, putKey, Walked, walk, keyRoom}
 use Rattle.build_values.specs.Walk.{sum}
 use Rattle.build_values.proofs.WalkLaws.{further, last}
-use Rattle.history.proofs.Found.{hits-not, find-snoc}
+use Rattle.history.proofs.ModelSearch.{hits-not, find-snoc}
 
 -- the entries that the missing ends of a key become: a container for each but the last; n is the index of the first
 unfoldable pub newEntries : ℕ → List ℕ → Content → List ℕ → ℕ → ℕ → List Entry

@@ -35,14 +35,14 @@ use Rattle.model.specs.Builder.{Builder, Standing, noStanding, standingAt, Resu
 use Rattle.build_memory.specs.Meaning.{standingOf, meaning}
 use Rattle.history.specs.Items.{item, itemOf, Table}
 use Rattle.history.specs.Honest.{Good}
-use Rattle.history.proofs.Index.{find-within}
-use Rattle.history.proofs.Way.{end-sep, Missing, OnWay, way-consistent, item-found, item-missing}
-use Rattle.history.proofs.Grow.{At, Fit, grown}
-use Rattle.history.proofs.Calls.{gone-all}
+use Rattle.history.proofs.TidySearch.{find-within}
+use Rattle.history.proofs.WayDown.{end-sep, Missing, OnWay, way-consistent, item-found, item-missing}
+use Rattle.history.proofs.GoodContainers.{At, Fit, grown}
+use Rattle.history.proofs.GoodInsert.{gone-all}
 use Rattle.history.proofs.Meaning.{contentFrom, aboveOf, entryFrom, itemsOf, tablesOf, builder-same, tables-same, items-count, listed-at, item-at, meaning-made, meaning-replaced}
-use Rattle.history.proofs.Found.{find-same, there-same}
-use Rattle.history.proofs.Walking as way
-use Rattle.history.proofs.Same.{kind-content, extended-entries, Down, way-down}
+use Rattle.history.proofs.ModelSearch.{find-same, there-same}
+use Rattle.history.proofs.ModelWalk as way
+use Rattle.history.proofs.ModelSteps.{kind-content, extended-entries, Down, way-down}
 
 -- what a call leaves is what the model's leaves
 pub record Alike {A : Type 0} (o : Outcome A) (r : Result A) : Type 0 where

@@ -20,7 +20,7 @@ use Rattle.build_values.proofs.WalkLaws.{further, walk-end, walk-miss, walk-blo
 use Rattle.history.specs.Items.{Item, itemOf}
 use Rattle.history.specs.Tidy.{Tidy}
 use Rattle.history.specs.Consistent.{There, Above}
-use Rattle.history.proofs.Index.{false-true, find-found, find-missing}
+use Rattle.history.proofs.TidySearch.{false-true, find-found, find-missing}
 
 -- ---- between an index and the next end there is no separator
 gap-by : (q : Bool) (sep at x : ℕ) (r : List ℕ) → eqb x sep ≡ q → (n f : ℕ) → (suc at < f → f < n → getD r (f - suc (suc at)) 0 ≡ sep → ⊥)

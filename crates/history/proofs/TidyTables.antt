@@ -11,7 +11,7 @@ use Rattle.build_memory.specs.Memory.{word, copies, buckets, links, leastWords,
 use Rattle.build_memory.proofs.MemoryLaws.{length-copies, get-copies}
 use Rattle.history.specs.Items.{itemOf}
 use Rattle.history.specs.Tidy.{lastIn, bucketOf, Tidy}
-use Rattle.history.proofs.Index.{last-cong}
+use Rattle.history.proofs.TidySearch.{last-cong}
 
 module _ (ws w ar : List ℕ) (tidy : Tidy ws ar) (same-length : length w ≡ length ws) (w0 : word w 0 ≡ word ws 0) (w1 : word w 1 ≡ word ws 1)
     (w2 : tableTotal w ≤ 64) (w3 : itemTotal w ≡ itemTotal ws) (w4 : roomUsed w ≡ roomUsed ws) (high : (p : ℕ) → 264 ≤ p → word w p ≡ word ws p) where

@@ -34,17 +34,17 @@ use Rattle.build_memory.specs.Meaning.{entryOf, standingOf, listed, meaning}
 use Rattle.history.specs.Items.{Table, tableOf}
 use Rattle.history.specs.Tidy.{Tidy}
 use Rattle.history.specs.Honest.{Honest}
-use Rattle.history.proofs.Index.{false-true}
-use Rattle.history.proofs.Low as low
-use Rattle.history.proofs.Grow.{lows-two}
-use Rattle.history.proofs.Calls.{accepted}
-use Rattle.history.proofs.Value.{sep-same, placed-word}
-use Rattle.history.proofs.Nest as nest
+use Rattle.history.proofs.TidySearch.{false-true}
+use Rattle.history.proofs.TidyTables as low
+use Rattle.history.proofs.GoodContainers.{lows-two}
+use Rattle.history.proofs.GoodInsert.{accepted}
+use Rattle.history.proofs.HonestCalls.{sep-same, placed-word}
+use Rattle.history.proofs.HonestNesting as nest
 use Rattle.history.proofs.History.{honest-valid}
 use Rattle.history.proofs.Meaning.{contentFrom, entryFrom, entry-is, itemsOf, tablesOf, builder-same, listed-set, listed-cong}
-use Rattle.history.proofs.Alike.{Alike, alike-pick, alike-refused, meant-standing, walked-alike}
+use Rattle.history.proofs.ModelInsert.{Alike, alike-pick, alike-refused, meant-standing, walked-alike}
 use Rattle.history.proofs.Height.{height-same}
-use Rattle.history.proofs.Model.{free-standing-same, keyed-alike}
+use Rattle.history.proofs.ModelCalls.{free-standing-same, keyed-alike}
 
 -- ---- a table placed
 

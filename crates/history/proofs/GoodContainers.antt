@@ -23,10 +23,10 @@ use Rattle.build_values.proofs.WalkLaws.{further, last, make-end, make-more}
 use Rattle.history.specs.Items.{Item, item, itemOf, Table}
 use Rattle.history.specs.Consistent.{There, Above, Consistent}
 use Rattle.history.specs.Honest.{Good}
-use Rattle.history.proofs.Bytes.{byte-at, utf8-bytes}
-use Rattle.history.proofs.Made as made
+use Rattle.history.proofs.Utf8Bytes.{byte-at, utf8-bytes}
+use Rattle.history.proofs.TidyMade as made
 use Rattle.history.proofs.Consistent.{there-on, NewItem, consistent-add}
-use Rattle.history.proofs.Way.{gap, end-sep, Missing, Chain, chain-on}
+use Rattle.history.proofs.WayDown.{gap, end-sep, Missing, Chain, chain-on}
 
 sum-one : (n : ℕ) → sum (n ∷ []) ≡ n + 0
 unfolding sum

@@ -17,7 +17,7 @@ use Rattle.build_memory.specs.Item.{Stored, makeItem}
 use Rattle.build_memory.proofs.MadeLaws.{made-length, made-arena, made-items, made-used, made-low, made-head, other-head, its-word, other-word, made-behind, old-part, key-part, value-part}
 use Rattle.history.specs.Items.{item, itemOf}
 use Rattle.history.specs.Tidy.{lastIn, bucketOf, Tidy}
-use Rattle.history.proofs.Index.{last-cong}
+use Rattle.history.proofs.TidySearch.{last-cong}
 
 -- ---- an item from its words
 pub item-from : (ws ar : List ℕ) (i t ka kl parent kind va vl g : ℕ)

@@ -25,10 +25,10 @@ use Rattle.history.specs.Items.{Item, itemOf, Table, tableOf}
 use Rattle.history.specs.Consistent.{Consistent}
 use Rattle.layout.specs.declared.refusal.Refusal.the-variants.{MemoryBroken, TableUnknown, KeyNotUtf8, KeyTooLong}
 use Rattle.history.specs.Honest.{Honest}
-use Rattle.history.proofs.Low as low
+use Rattle.history.proofs.TidyTables as low
 use Rattle.history.proofs.Consistent.{consistent-grow, consistent-none}
-use Rattle.history.proofs.Grow.{Lows}
-use Rattle.history.proofs.Calls.{accepted, After, after-not, after-where, walked-after}
+use Rattle.history.proofs.GoodContainers.{Lows}
+use Rattle.history.proofs.GoodInsert.{accepted, After, after-not, after-where, walked-after}
 
 -- ---- the tables that the words say
 pub table-same : (ws w : List ℕ) (t : ℕ) → tableSeparator w t ≡ tableSeparator ws t → tablePlaced w t ≡ tablePlaced ws t → tableHeight w t ≡ tableHeight ws t

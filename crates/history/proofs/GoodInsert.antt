@@ -26,12 +26,12 @@ use Rattle.build_values.proofs.WalkLaws.{last}
 use Rattle.history.specs.Items.{item, itemOf, Table}
 use Rattle.history.specs.Consistent.{Consistent}
 use Rattle.history.specs.Honest.{Good}
-use Rattle.history.proofs.Index.{false-true}
-use Rattle.history.proofs.Made as made
-use Rattle.history.proofs.Replaced as old
+use Rattle.history.proofs.TidySearch.{false-true}
+use Rattle.history.proofs.TidyMade as made
+use Rattle.history.proofs.TidyReplaced as old
 use Rattle.history.proofs.Consistent.{NewItem, consistent-set}
-use Rattle.history.proofs.Way.{end-sep, Missing, OnWay, way-consistent, item-found, item-missing}
-use Rattle.history.proofs.Grow.{Lows, lows-two, made-good, At, Fit, new-item, grown}
+use Rattle.history.proofs.WayDown.{end-sep, Missing, OnWay, way-consistent, item-found, item-missing}
+use Rattle.history.proofs.GoodContainers.{Lows, lows-two, made-good, At, Fit, new-item, grown}
 
 -- an answer that is no refusal
 take-all′ : (k : List ℕ) → take (length k) k ≡ k

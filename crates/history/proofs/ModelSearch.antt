@@ -19,8 +19,8 @@ use Rattle.build_memory.specs.Memory.{itemTotal}
 use Rattle.build_memory.specs.Find as words
 use Rattle.history.specs.Items.{Item, itemOf, Table}
 use Rattle.history.specs.Honest.{Good}
-use Rattle.history.proofs.Index.{find-within}
-use Rattle.history.proofs.Way.{item-found, item-missing}
+use Rattle.history.proofs.TidySearch.{find-within}
+use Rattle.history.proofs.WayDown.{item-found, item-missing}
 use Rattle.history.proofs.Meaning.{entryFrom, itemsOf, items-count, item-at}
 
 -- ---- the model's search

@@ -28,11 +28,11 @@ use Rattle.history.specs.Consistent.{heldItem, heldIn, Consistent}
 use Rattle.layout.specs.declared.refusal.Refusal.the-variants.{MemoryBroken, TableUnknown, TableInItself, KeyNotUtf8, KeyTooLong, NotContainer, NestedTooDeep}
 use Rattle.build_nested.proofs.NestLaws.{held-other, held-kind, held-guest}
 use Rattle.history.specs.Honest.{Good, Honest}
-use Rattle.history.proofs.Low as low
-use Rattle.history.proofs.Index.{false-true}
+use Rattle.history.proofs.TidyTables as low
+use Rattle.history.proofs.TidySearch.{false-true}
 use Rattle.history.proofs.Consistent.{ranges-of, consistent-grow, most-cong, item-else, item-kind, item-holds}
-use Rattle.history.proofs.Calls.{accepted, After, walked-after}
-use Rattle.history.proofs.Value.{table-same, lows-table, sep-same, placed-word, height-word}
+use Rattle.history.proofs.GoodInsert.{accepted, After, walked-after}
+use Rattle.history.proofs.HonestCalls.{table-same, lows-table, sep-same, placed-word, height-word}
 
 -- each is at most the greatest
 pub most-upper : (f : ℕ → ℕ) (n i : ℕ) → i < n → f i ≤ most f n

@@ -29,11 +29,11 @@ use Rattle.build_tables.specs.Table as tables
 use Rattle.build_memory.specs.Meaning.{entryOf, standingOf, listed, meaning}
 use Rattle.history.specs.Items.{itemOf, Table, tableOf}
 use Rattle.history.specs.Honest.{Honest}
-use Rattle.history.proofs.Low as low
-use Rattle.history.proofs.Value.{sep-same, placed-word, tabled, two, three, kept-low, kept-high, size, loose, mark, same-table, sep-domain}
+use Rattle.history.proofs.TidyTables as low
+use Rattle.history.proofs.HonestCalls.{sep-same, placed-word, tabled, two, three, kept-low, kept-high, size, loose, mark, same-table, sep-domain}
 use Rattle.history.proofs.History.{honest-valid}
 use Rattle.history.proofs.Meaning.{contentFrom, entryFrom, standingFrom, standing-is, entry-is, itemsOf, tablesOf, builder, builder-same, items-count, tables-count, item-at, listed-more, listed-cong}
-use Rattle.history.proofs.Alike.{Alike, alike-pick, alike-refused, meant-standing, walked-alike}
+use Rattle.history.proofs.ModelInsert.{Alike, alike-pick, alike-refused, meant-standing, walked-alike}
 
 meant-count : (ws ar : List ℕ) → length (meaning ws ar .tables) ≡ tableTotal ws
 unfolding meaning
