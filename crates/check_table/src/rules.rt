@@ -3,6 +3,7 @@ use check_keys::search::find_joined;
 use check_keys::tally::JoinedKey;
 use check_keys::tally::joined_key;
 use layout::item::Item;
+use layout::item::open_value;
 use layout::pointer::Pointed;
 use layout::pointer::open_pointer;
 use layout::table::Opened;
@@ -39,12 +40,7 @@ pub fn key_rule(file: &[u8], table: Table, index: usize) -> u32
 fn value_inside(file: &[u8], item: Item) -> bool
     ensures { λ r. ⌜ r ≡ isInside (openPointer (length (now (file .entry))) (item .from) (item .to) 8) ⌝ }
 {
-    match open_pointer(
-        file.len(),
-        word_size(item.from),
-        word_size(item.to),
-        Alignment::Value,
-    ) {
+    match open_value(file, item, Alignment::Value) {
         Pointed::Refused(_) => false,
         Pointed::Inside => true,
     }

@@ -1,9 +1,16 @@
 // An item of a table: 24 bytes, read byte by byte into the format's widths.
+use crate::pointer::Pointed;
+use crate::pointer::open_pointer;
 use crate::table::Table;
+use words::align::Alignment;
 use words::field::half_at;
 use words::field::word_at;
+use words::wide::word_size;
 ghost use mathlib.Core.Path.{_≡_};
 ghost use Prim.Native.Nat.{_<_};
+ghost use lib.ListN.{length};
+ghost use Rattle.words.specs.Align.{alignmentOf};
+ghost use Rattle.layout.specs.Pointer.{openPointer};
 ghost use Rattle.layout.specs.Table.{InFile};
 ghost use Rattle.layout.specs.Item.{itemAt};
 
@@ -51,4 +58,17 @@ pub fn item_at(file: &[u8], table: Table, index: usize) -> Item
         from: word_at(file, at + 16),
         to: word_at(file, at + 20),
     }
+}
+
+// gvdb-rs: value_ptr.
+// Whether an item's value pointer opens in the file.
+pub fn open_value(file: &[u8], item: Item, alignment: Alignment) -> Pointed
+    ensures { λ r. ⌜ r ≡ openPointer (length (now (file .entry))) (item .from) (item .to) (alignmentOf alignment) ⌝ }
+{
+    open_pointer(
+        file.len(),
+        word_size(item.from),
+        word_size(item.to),
+        alignment,
+    )
 }

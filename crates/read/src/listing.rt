@@ -3,8 +3,8 @@ use crate::chain::Step;
 use crate::chain::climb;
 use crate::chain::parent_of;
 use layout::item::item_at;
+use layout::item::open_value;
 use layout::pointer::Pointed;
-use layout::pointer::open_pointer;
 use layout::refusal::Refusal;
 use layout::table::Opened;
 use layout::table::Table;
@@ -169,12 +169,7 @@ fn value_from(file: &[u8], table: Table, index: usize) -> Valued
     }
     let item = item_at(file, table, index);
     let after = index + 1;
-    match open_pointer(
-        file.len(),
-        word_size(item.from),
-        word_size(item.to),
-        Alignment::Value,
-    ) {
+    match open_value(file, item, Alignment::Value) {
         Pointed::Refused(why) => Valued::Unopened {
             why,
             index,

@@ -2,8 +2,8 @@
 use crate::chain::chain_names;
 use layout::item::Item;
 use layout::item::item_at;
+use layout::item::open_value;
 use layout::pointer::Pointed;
-use layout::pointer::open_pointer;
 use layout::refusal::Refusal;
 use layout::table::Opened;
 use layout::table::Table;
@@ -180,12 +180,7 @@ fn value_of(file: &[u8], item: Item) -> Looked
     if item.kind != b'v' {
         return Looked::Refused(Refusal::OtherKind);
     }
-    match open_pointer(
-        file.len(),
-        word_size(item.from),
-        word_size(item.to),
-        Alignment::Value,
-    ) {
+    match open_value(file, item, Alignment::Value) {
         Pointed::Refused(why) => Looked::Refused(why),
         Pointed::Inside => Looked::Pointer {
             start: item.from,

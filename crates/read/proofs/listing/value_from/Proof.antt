@@ -1,4 +1,4 @@
--- `read::listing::value_from` meets its contract: each return is a case of the definition, with the pointer widened.
+-- `read::listing::value_from` meets its contract: each return is a case of the definition.
 use mathlib.Core.Path.{sym, _∙_}
 use borrow.Author.Needs.{needs}
 use borrow.Author.Tests.{le-leb, lt-leb}
@@ -17,14 +17,8 @@ item-at-requires c κs = search needs
 add-after : tie.Need-add-after
 add-after c = search needs
 
-word-size-requires : tie.Need-word-size-requires
-word-size-requires c κs = search needs
-
-word-size-requires-2 : tie.Need-word-size-requires-2
-word-size-requires-2 c κs = search needs
-
-open-pointer-requires : tie.Need-open-pointer-requires
-open-pointer-requires c κs = search needs
+open-value-requires : tie.Need-open-value-requires
+open-value-requires c κs = search needs
 
 enum-known-why : tie.Need-enum-known-why
 enum-known-why c = search needs
@@ -36,13 +30,13 @@ returns-2 : tie.Need-returns-2
 unfolding valueFrom valueOpened pick
 returns-2 c =
     let at-open = c .before .before .before in
-    simp (lt-leb _ _ (at-open .before .before .before .before .if1 .left), ← (at-open .before .before .before .item-at .ensures), ← (at-open .before .before .word-size .ensures .0), ← (at-open .before .word-size2 .ensures .0), sym (at-open .open-pointer .ensures) ∙ c .before .why .given .1)
+    simp (lt-leb _ _ (at-open .before .before .if1 .left), ← (at-open .before .item-at .ensures), sym (at-open .open-value .ensures) ∙ c .before .why .given .1)
 
 returns-3 : tie.Need-returns-3
 unfolding valueFrom valueOpened pick
 returns-3 c =
     let at-open = c .before .before in
-    simp (lt-leb _ _ (at-open .before .before .before .before .if1 .left), ← (at-open .before .before .before .item-at .ensures), ← (at-open .before .before .word-size .ensures .0), ← (at-open .before .word-size2 .ensures .0), sym (at-open .open-pointer .ensures) ∙ c .enum-told .given .1)
+    simp (lt-leb _ _ (at-open .before .before .if1 .left), ← (at-open .before .item-at .ensures), sym (at-open .open-value .ensures) ∙ c .enum-told .given .1)
 
 pub value-from-spec : {M : Type 1} → statement M
 value-from-spec =
@@ -51,9 +45,7 @@ value-from-spec =
     returns
     item-at-requires
     add-after
-    word-size-requires
-    word-size-requires-2
-    open-pointer-requires
+    open-value-requires
     enum-known-why
     enum-told
     returns-2
