@@ -65,7 +65,7 @@ fn insert_nested(
     }
 }
 
-// Refuses a table that is not free-standing (24), one table for both (25), and a key that is not UTF-8 or too long (8, 20).
+// Inserts, unless a table is not free-standing (24), both are one table (25), or the key is not UTF-8 or too long (8, 20).
 fn nest_at_key(
     words: &mut [usize],
     arena: &mut [u8],

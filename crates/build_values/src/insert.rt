@@ -221,7 +221,7 @@ pub fn insert_below_path(
     insert_or_replace(words, arena, job, key, value, walked)
 }
 
-// Refuses a table that is not free-standing (24), and a key that is not UTF-8 or too long (8, 20).
+// Inserts, unless the table is not free-standing (24) or the key is not UTF-8 or too long (8, 20).
 fn insert_at_key(
     words: &mut [usize],
     arena: &mut [u8],

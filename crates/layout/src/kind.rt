@@ -8,7 +8,7 @@ pub enum Kind {
     Container,
 }
 
-// gvdb-rs: From<HashItemType> for u8.
+// gvdb-rs: u8::from of a HashItemType.
 // The byte of a kind: 'v', 'H', 'L'.
 pub fn byte_of(kind: Kind) -> u8
     ensures { λ r. ⌜ r ≡ kindByte kind ⌝ }
@@ -20,7 +20,7 @@ pub fn byte_of(kind: Kind) -> u8
     }
 }
 
-// gvdb-rs: TryFrom<u8> for HashItemType, HashItem::typ.
+// gvdb-rs: HashItemType::try_from, HashItem::typ.
 // Whether a byte is that of a kind.
 pub fn kind_known(byte: u8) -> bool
     ensures { λ r. ⌜ r ≡ kindKnown byte ⌝ }

@@ -1,4 +1,5 @@
-// Document 01's worked numbers and images as the code answers and lays them, its limits from both sides, and the boundary cases of UTF-8 and of opening. What it writes is held to the file stdout.
+// Document 01's worked numbers and images as the code answers and lays them, its limits from both sides, and the boundary cases of UTF-8 and of
+// opening. What it writes is held to the file stdout.
 mod laid;
 mod open;
 mod say;

@@ -1,5 +1,5 @@
--- A write, from document 01, 'Laying an image' and 'Order': 29, 24, 30 anywhere in the table or those nested in it, 31. A refusal writes nothing; the builder stays as
--- it was.
+-- A write, from document 01, 'Laying an image' and 'Order': 29, 24, 30 anywhere in the table or those nested in it, 31. A refusal writes nothing; the
+-- builder stays as it was.
 use Prim.Native.Nat.{ℕ, zero, suc, _+_}
 use mathlib.Core.Bool.{Bool, false, _&&_, _||_}
 use mathlib.Core.List.{List, []}

@@ -1,5 +1,5 @@
-// The children of every container, in order of creation. They are found as items are put into buckets by their hashes: the parent words stand for
-// the hashes, and rank p stands for item n - 1 - p, since what comes last goes to the front of its bucket.
+// The children of every container, in order of creation, by the code that puts items into buckets by their hashes. Parent words stand for the hashes,
+// and rank p for item n - 1 - p, since each goes to the front of its bucket.
 use build_memory::fields::EMPTY;
 use build_memory::fields::ITEMS;
 use build_memory::fields::PARENT;
@@ -27,8 +27,8 @@ fn list_parents(words: &[usize], hashes: &mut [usize])
     }
 }
 
-// Puts all items, by rank, in the order of their parents. `firsts` gets where those of each parent word start, and comes filled with the item count,
-// which it keeps past the last parent.
+// Puts all items, by rank, in the order of their parents. `firsts` gets where those of each parent word start; it comes filled with the item count,
+// and keeps that past the last parent word.
 pub fn order_siblings(words: &[usize], arena: &[u8], order: &mut [usize], firsts: &mut [usize])
     requires { ⌜ fullyValid (now words) (now arena) ≡ true ⌝ }
     requires { ⌜ (length (now order) ≡ 1024) × (length (now firsts) ≡ 1026) ⌝ }
