@@ -10,9 +10,10 @@ use Rattle.text.specs.Prefix.{endsFrom, prefixes}
 use Rattle.layout.specs.declared.kind.Kind.{Kind}
 use Rattle.layout.specs.declared.refusal.Refusal.{Refusal}
 use Rattle.model.specs.declared.Inserted.{Inserted}
+use Rattle.model.specs.declared.Added.{Added}
 use Rattle.model.specs.Table.{Content, entryAt, noItem}
 use Rattle.model.specs.Walk.{entry, findKey, putKey, walk, keyRoom}
-use Rattle.model.specs.Builder.{Builder, result, fresh, standingAt, freeStanding, separatorOf, newTable, news, usedAfter, counted, atWalked, put, keyed, insertValue}
+use Rattle.model.specs.Builder.{Builder, Result, result, fresh, standingAt, freeStanding, separatorOf, newTable, news, usedAfter, counted, atWalked, put, keyed, insertValue}
 
 -- a builder with an arena of 8 bytes and one table, whose separator is "/"
 unfoldable pub start : Builder
@@ -49,3 +50,24 @@ pub below : insertValue (insertValue (insertValue start 0 (97 ∷ 47 ∷ 98 ∷ 
     .answer ≡ Inserted.Refused Refusal.NotContainer
 unfolding start fresh insertValue newTable separatorOf standingAt freeStanding keyed put atWalked counted news usedAfter keyRoom walk putKey findKey entryAt sameBytes prefixes endsFrom pick isUtf8 firstBad goodFrom oneMore stepLen sequenceLen firstOf isTwo startsThree startsFour tail between
 below = refl
+
+-- ---- separators: none, 1 and 127 are taken; 0, 128 and two bytes are refused (28)
+
+-- a builder's first table
+abbrev pub firstTable : List ℕ → Result Added
+firstTable separator = newTable (fresh 8) separator
+
+abbrev pub withTable : ℕ → Result Added
+withTable separator = result (Added.Table 0) (record { room = 8; used = 0; tables = record { separator = separator; placed = false } ∷ []; items = [] })
+
+abbrev pub refusedTable : Result Added
+refusedTable = result (Added.Refused Refusal.SeparatorOutside) (fresh 8)
+
+-- no byte is 256, so that no key is parted
+pub separators-taken : (firstTable [] ≡ withTable 256) × (firstTable (1 ∷ []) ≡ withTable 1) × (firstTable (127 ∷ []) ≡ withTable 127)
+unfolding newTable separatorOf pick
+separators-taken = (refl, refl, refl)
+
+pub separators-refused : (firstTable (0 ∷ []) ≡ refusedTable) × (firstTable (128 ∷ []) ≡ refusedTable) × (firstTable (47 ∷ 47 ∷ []) ≡ refusedTable)
+unfolding newTable separatorOf pick
+separators-refused = (refl, refl, refl)

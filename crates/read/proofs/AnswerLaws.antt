@@ -175,6 +175,19 @@ module _ (file : List ℕ) (start end at room : ℕ) where
       unfolding listed listedNumber
       list-broken e = rw (list-key ∙ e)
 
+      -- the numbers of a key that does not read: 2, 9, 10, 11
+      pub list-2 : keyOf file t (t .count) at ≡ Joined.broken PointerOutside → listedNumber (listed (keyAt file start end at) room at) ≡ 2
+      list-2 e = list-broken e
+
+      pub list-9 : keyOf file t (t .count) at ≡ Joined.broken FragmentNotUtf8 → listedNumber (listed (keyAt file start end at) room at) ≡ 9
+      list-9 e = list-broken e
+
+      pub list-10 : keyOf file t (t .count) at ≡ Joined.broken ParentOutside → listedNumber (listed (keyAt file start end at) room at) ≡ 10
+      list-10 e = list-broken e
+
+      pub list-11 : keyOf file t (t .count) at ≡ Joined.broken ParentsEndless → listedNumber (listed (keyAt file start end at) room at) ≡ 11
+      list-11 e = list-broken e
+
       module _ {k : List ℕ} (key : keyOf file t (t .count) at ≡ Joined.joined k) where
         pub list-14 : room < length k → listedNumber (listed (keyAt file start end at) room at) ≡ 14
         unfolding listed listedNumber pick

@@ -8,5 +8,6 @@ pub mod LookupLaws
 pub mod SoughtLaws
 pub mod Plain
 pub mod SelfParent
+pub mod TwoFilterWords
 pub mod Unique
 pub mod AnswerLaws

@@ -3,3 +3,4 @@ pub mod Utf8
 pub mod Compare
 pub mod Order
 pub mod Prefix
+pub mod Worked

@@ -5,3 +5,4 @@ pub mod Field
 pub mod Hash
 pub mod Align
 pub mod Bits
+pub mod Worked
