@@ -11,6 +11,16 @@
  *   - no two buffers of one call overlap;
  *   - a buffer is not used by another thread during a call that may write to it.
  * Any address will do for a file, an arena or an image. A size_t has 64 bits.
+ *
+ * Every function is proved: any bytes, numbers and lengths are answered as its definition says, nothing outside the lent buffers is touched, and the call
+ * ends. Not proved:
+ *   - what the compiler's back end makes of the functions, and the C that calls them;
+ *   - a buffer that changes during a call, as a mapped file does that another program writes to or cuts short;
+ *   - time: a hostile file of 16 MiB can make one lookup take 40 minutes, and the check months (docs/BENCH.md);
+ *   - stack. Measured by tests/outside/stack.rs, a call needs no more than this:
+ *       gvdb_write: 176 KiB
+ *       gvdb_check: 96 KiB
+ *       every other call: 16 KiB
  */
 #ifndef GVDB_H
 #define GVDB_H
@@ -49,7 +59,7 @@ enum {
     GVDB_NESTED_TOO_DEEP = 26,    /* tables would nest over 8 deep */
     GVDB_TOO_MANY_TABLES = 27,    /* there would be over 64 tables */
     GVDB_SEPARATOR_OUTSIDE = 28,  /* the separator is neither none nor one byte from 1 to 127 */
-    GVDB_MEMORY_BROKEN = 29,      /* the builder's memory is too short, of another length than at the fresh start, or was changed between calls */
+    GVDB_MEMORY_BROKEN = 29,      /* the builder's words are too few, or the memory breaks a rule that the call judges (see 'Building') */
     GVDB_EMPTY_KEY = 30,          /* an item to be written has the empty key */
     GVDB_IMAGE_TOO_LONG = 31,     /* the image is longer than the lent buffer, or than 16,777,216 bytes */
     GVDB_CHECK_BROKEN = 40        /* an item of the table breaks a rule of the check */
@@ -149,14 +159,16 @@ gvdb_value gvdb_next_value(const uint8_t *file, size_t file_length, uint32_t sta
  * Checks a table, not those nested in it. The rules, for each item: (1) its key would list; (2) lookup of that key answers this item; (3) its kind is
  * known; (4) its value pointer opens, for 'H' as a table, for 'L' with a length divisible by 4; (5) of an 'L', each child index is below the count,
  * names this item as parent and appears once; (6) its parent, if any, is an 'L' that keeps rule 4 and lists it.
- * What it costs is linear for ordinary tables; a hostile file can make it quadratic and worse.
+ * What it costs is linear for ordinary tables; of a hostile file see 'time' above.
  */
 gvdb_checked gvdb_check(const uint8_t *file, size_t file_length, uint32_t start, uint32_t end);
 
 /*
  * Building. A builder is two lent buffers, words and arena, which every call gets whole, with the lengths of the fresh start. The words hold records, at
- * least gvdb_memory_words() of them; the arena holds keys and values and may have any length, 0 too. Whoever changes neither between calls never
- * meets 29, which comes first in every call. Both can be copied: a copy is a second builder.
+ * least gvdb_memory_words() of them; the arena holds keys and values and may have any length, 0 too. Both can be copied: a copy is a second builder.
+ *
+ * 29 comes first in every call. Whoever changes neither between calls never meets it. Of memory that was changed a write refuses what breaks any rule,
+ * so that all it lays is sound; the other calls refuse only lengths, counts and room used that cannot be, and else answer for the memory as it is.
  */
 
 /* The least length of a builder's words. */
