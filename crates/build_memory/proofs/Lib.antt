@@ -3,3 +3,4 @@ pub mod FindLaws
 pub mod ItemLaws
 pub mod MadeLaws
 pub mod Unique
+pub mod AnswerLaws

@@ -4,8 +4,9 @@ use mathlib.Core.Path.{_≡_}
 use mathlib.Core.Bool.{true, false}
 use mathlib.Core.List.{List}
 use lib.ListN.{length}
-use borrow.Author.Tests.{lt-ltb, le-ltb, le-leb, eq-eqb, ne-eqb}
+use borrow.Author.Tests.{lt-ltb, le-ltb, lt-leb, le-leb, eq-eqb, ne-eqb}
 use Rattle.words.specs.Choice.{pick}
+use Rattle.model.specs.declared.Added.{Added}
 use Rattle.model.specs.Builder.{mostTables, separatorOf}
 use Rattle.build_memory.specs.Memory.{itemTotal, tableTotal, valid}
 use Rattle.build_tables.specs.Table.{addTable, newTable, countOf, itemCount}
@@ -27,6 +28,10 @@ module _ (ws ar separator : List ℕ) where
       pub new-27 : mostTables ≤ tableTotal ws → addedNumber (newTable ws ar separator .answer) ≡ 27
       unfolding newTable addTable addedNumber pick
       new-27 h = simp (ok, ne-eqb _ _ inside, le-leb _ _ h)
+
+      pub new-0 : tableTotal ws < mostTables → newTable ws ar separator .answer ≡ Added.Table (tableTotal ws)
+      unfolding newTable addTable pick
+      new-0 h = simp (ok, ne-eqb _ _ inside, lt-leb _ _ h)
 
 -- ---- the item count: 29, 24
 

@@ -2,3 +2,4 @@ pub mod Reading
 pub mod Checking
 pub mod Building
 pub mod Writing
+pub mod Worked

@@ -1,7 +1,7 @@
 -- Inserts by hand: the definitions compute what document 01 says of "a/b" and of a container that is replaced.
 use Prim.Native.Nat.{ℕ}
 use mathlib.Core.Path.{_≡_, refl}
-use mathlib.Core.Bool.{true, false}
+use mathlib.Core.Bool.{false}
 use mathlib.Core.List.{List, [], _∷_}
 use Rattle.words.specs.Choice.{pick}
 use Rattle.text.specs.Compare.{sameBytes}

@@ -1,9 +1,7 @@
 -- Numbers by hand that the definitions compute.
-use Prim.Native.Nat.{ℕ}
 use mathlib.Core.Path.{_≡_, refl}
 use mathlib.Core.Bool.{true, false}
 use mathlib.Core.List.{[], _∷_}
-use lib.Dec.{eqb}
 use Rattle.words.specs.Hash.{hashFrom, hashBy, hashOf}
 use Rattle.words.specs.Bits.{bloomCount, bloomShift, bitSet}
 

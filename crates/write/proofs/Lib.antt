@@ -8,3 +8,5 @@ pub mod ItemLaws
 pub mod PlanLaws
 pub mod EmptyLaws
 pub mod AnswerLaws
+pub mod NumberLaws
+pub mod WhenLaws

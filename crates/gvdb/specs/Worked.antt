@@ -1,0 +1,87 @@
+-- Each C answer by hand, one line for each case: what its fields mean.
+use mathlib.Core.Path.{_≡_, refl}
+use Rattle.layout.specs.declared.kind.Kind.{Kind}
+use Rattle.layout.specs.declared.refusal.Refusal.{Refusal}
+use Rattle.layout.specs.declared.table.Opened.{Opened}
+use Rattle.read.specs.declared.lookup.Looked.{Looked}
+use Rattle.read.specs.declared.listing.Listed.{Listed}
+use Rattle.read.specs.declared.listing.Valued.{Valued}
+use Rattle.check_table.specs.declared.check.Checked.{Checked}
+use Rattle.check_table.specs.Answer.{checkedNumber, checkedRule, checkedItem}
+use Rattle.model.specs.declared.Inserted.{Inserted}
+use Rattle.model.specs.declared.Added.{Added}
+use Rattle.model.specs.declared.Counted.{Counted}
+use Rattle.build_memory.specs.declared.fresh.Started.{Started}
+use Rattle.build_memory.specs.Answer.{startedNumber}
+use Rattle.build_tables.specs.Answer.{addedNumber, addedTable, countedNumber, countedItems}
+use Rattle.build_values.specs.Answer.{insertedNumber, insertedKind}
+use Rattle.write.specs.declared.Written.{Written}
+use Rattle.gvdb.specs.Reading.{openedAnswer, lookedAnswer, listedAnswer, valuedAnswer}
+use Rattle.gvdb.specs.Checking.{checkedAnswer}
+use Rattle.gvdb.specs.Building.{addedAnswer, insertedAnswer, countedAnswer}
+use Rattle.gvdb.specs.Writing.{writtenAnswer}
+
+-- a table at 24 with 4 items in 3 buckets and 2 bloom words; or 7
+pub opened :
+    (openedAnswer (Opened.Table (record { start = 24; blooms = 2; buckets = 3; items = 52; count = 4 })) ≡ record { number = 0; items = 4; buckets = 3; blooms = 2 })
+    × (openedAnswer (Opened.Refused Refusal.ItemsUneven) ≡ record { number = 7; items = 0; buckets = 0; blooms = 0 })
+unfolding openedAnswer
+opened = (refl, refl)
+
+-- a place from 64 up to 66; or 12
+pub looked : (lookedAnswer (Looked.Pointer 64 66) ≡ record { number = 0; start = 64; end = 66 }) × (lookedAnswer (Looked.Refused Refusal.KeyNotFound) ≡ record { number = 12; start = 0; end = 0 })
+unfolding lookedAnswer
+looked = (refl, refl)
+
+-- a key of 5 bytes, the next at 8; or 14
+pub listed : (listedAnswer (Listed.Key 5 (record { at = 8 })) ≡ record { number = 0; length = 5; next = 8 }) × (listedAnswer (Listed.Refused Refusal.BufferTooShort) ≡ record { number = 14; length = 0; next = 0 })
+unfolding listedAnswer
+listed = (refl, refl)
+
+-- the value of item 7, from 64 up to 66, the next at 8; 3 of its pointer, with item and next; or 15
+pub valued :
+    (valuedAnswer (Valued.Value 7 64 66 (record { at = 8 })) ≡ record { number = 0; start = 64; end = 66; index = 7; next = 8 })
+    × (valuedAnswer (Valued.Unopened Refusal.Misaligned 7 (record { at = 8 })) ≡ record { number = 3; start = 0; end = 0; index = 7; next = 8 })
+    × (valuedAnswer (Valued.Refused Refusal.PastTheLast) ≡ record { number = 15; start = 0; end = 0; index = 0; next = 0 })
+unfolding valuedAnswer
+valued = (refl, refl, refl)
+
+-- sound; item 7 breaks rule 5; or 4
+pub checked :
+    (checkedAnswer Checked.Sound ≡ record { number = 0; rule = 0; item = 0 })
+    × (checkedAnswer (Checked.Broken 5 7) ≡ record { number = 40; rule = 5; item = 7 })
+    × (checkedAnswer (Checked.Refused Refusal.TableTooShort) ≡ record { number = 4; rule = 0; item = 0 })
+unfolding checkedAnswer checkedNumber checkedRule checkedItem
+checked = (refl, refl, refl)
+
+-- an empty builder; or 29
+pub started : (startedNumber Started.Ready ≡ 0) × (startedNumber (Started.Refused Refusal.MemoryBroken) ≡ 29)
+unfolding startedNumber
+started = (refl, refl)
+
+-- table 9; or 27
+pub added : (addedAnswer (Added.Table 9) ≡ record { number = 0; table = 9 }) × (addedAnswer (Added.Refused Refusal.TooManyTables) ≡ record { number = 27; table = 0 })
+unfolding addedAnswer addedNumber addedTable
+added = (refl, refl)
+
+-- a new key; a value ('v'), a table ('H') or a container ('L') replaced; or 21
+pub inserted :
+    (insertedAnswer Inserted.New ≡ record { number = 0; replaced = 0 })
+    × (insertedAnswer (Inserted.Replaced Kind.Value) ≡ record { number = 0; replaced = 118 })
+    × (insertedAnswer (Inserted.Replaced Kind.Table) ≡ record { number = 0; replaced = 72 })
+    × (insertedAnswer (Inserted.Replaced Kind.Container) ≡ record { number = 0; replaced = 76 })
+    × (insertedAnswer (Inserted.Refused Refusal.NotContainer) ≡ record { number = 21; replaced = 0 })
+unfolding insertedAnswer insertedNumber insertedKind
+inserted = (refl, refl, refl, refl, refl)
+
+-- 5 items; or 24
+pub counted : (countedAnswer (Counted.Items 5) ≡ record { number = 0; count = 5 }) × (countedAnswer (Counted.Refused Refusal.TableUnknown) ≡ record { number = 24; count = 0 })
+unfolding countedAnswer countedNumber countedItems
+counted = (refl, refl)
+
+-- a root table from 24 up to 88 in an image of 104 bytes; or 31
+pub written :
+    (writtenAnswer (Written.Image 24 88 104) ≡ record { number = 0; start = 24; end = 88; length = 104 })
+    × (writtenAnswer (Written.Refused Refusal.ImageTooLong) ≡ record { number = 31; start = 0; end = 0; length = 0 })
+unfolding writtenAnswer
+written = (refl, refl)

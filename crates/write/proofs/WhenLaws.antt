@@ -1,0 +1,159 @@
+-- Exactly when a write succeeds, and what it leaves beside the table.
+use Prim.Native.Nat.{ℕ, zero, suc, _+_, _*_, _≤_}
+use mathlib.Core.Path.{_≡_, refl, sym, ap, _∙_}
+use mathlib.Core.Bool.{Bool, true, false, _&&_, _||_}
+use mathlib.Core.Logic.{_⊎_, inl, inr, ⊎-elim}
+use mathlib.Core.List.{List}
+use native.Mathlib.Omega.{arith}
+use borrow.Author.Tests.{eq-eqb, ltb-true, ltb-false, eqb-true}
+use lib.Dec.{eqb, ltb}
+use lib.ListN.{length, take, drop, length-append}
+use lib.Seq.{take-at, take-take}
+use Rattle.words.specs.Choice.{pick}
+use Rattle.words.specs.Store.{putAt, zeros}
+use Rattle.words.specs.Hash.{plain}
+use Rattle.words.proofs.ChoiceLaws.{both}
+use Rattle.words.proofs.BelowLaws.{some-below, below-some}
+use Rattle.words.proofs.StoreLaws.{part-put, drop-after, length-zeros}
+use Rattle.layout.specs.declared.refusal.Refusal.the-variants.{MemoryBroken, TableUnknown, EmptyKey, ImageTooLong}
+use Rattle.layout.specs.Table.{longestFile}
+use Rattle.model.specs.Table.{Content, State, times}
+use Rattle.build_memory.specs.Memory.{tableTotal, tablePlaced}
+use Rattle.build_rules.specs.Valid.{fullyValid}
+use Rattle.image.specs.Index.{itemOf, laidIndex}
+use Rattle.image.specs.Image.{headerSize, depth, tableBytes, imageOf}
+use Rattle.image.proofs.IndexLaws.{item-within, index-within, item-index}
+use Rattle.write_numbers.specs.Roster.{stateOf}
+use Rattle.write.specs.declared.Written.{Written}
+use Rattle.write.specs.Write.{emptyHeld, hasEmpty, freeStanding, tooLong, imageFor, writeAnswer, writtenNumber, laidBy, imageAfter}
+use Rattle.write.specs.When.{EmptyIn, MayWrite, SucceedsExactly, SuccessKeepsRest, SuccessClearsHeader}
+use Rattle.write.proofs.StateLaws.{member-once}
+use Rattle.write.proofs.NumberLaws.{write-0}
+
+-- ---- 30 is given just where a key is empty
+
+either : (p q : Bool) → (p || q) ≡ true → (p ≡ true) ⊎ (q ≡ true)
+either true q e = inl refl
+either false q e = inr e
+
+or-right : (p : Bool) {q : Bool} → q ≡ true → (p || q) ≡ true
+or-right true e = refl
+or-right false e = e
+
+never : {A : Type 0} → false ≡ true → A
+never e = absurd (let z : _≡_ {A = ℕ} 0 1 = cc in omega arith)
+
+module _ (state : State) (one : (t x : ℕ) → times x (state t .members) ≤ 1) where
+  module _ (d : ℕ) where
+    -- what an item holds has an empty key
+    abbrev Below : Content → Type 0
+    Below c = (u : ℕ) × (c ≡ Content.nested u) × EmptyIn state d u
+
+    held-says : ((u : ℕ) → hasEmpty state d u ≡ true → EmptyIn state d u) → (c : Content) → emptyHeld (λ u. hasEmpty state d u) c ≡ true → Below c
+    unfolding emptyHeld
+    held-says says (Content.bytes value) e = never e
+    held-says says (Content.nested u) e = (u, refl, says u e)
+    held-says says Content.container e = never e
+
+    held-found : ((u : ℕ) → EmptyIn state d u → hasEmpty state d u ≡ true) → (size : ℕ) (c : Content) → (size ≡ 0) ⊎ Below c
+        → (eqb size 0 || emptyHeld (λ u. hasEmpty state d u) c) ≡ true
+    unfolding emptyHeld
+    held-found found size c (inl e) = simp (eq-eqb _ _ e)
+    held-found found size c (inr (u, is, empty)) = or-right (eqb size 0) (ap (emptyHeld (λ u. hasEmpty state d u)) is ∙ found u empty)
+
+  pub empty-says : (d t : ℕ) → hasEmpty state d t ≡ true → EmptyIn state d t
+  unfolding hasEmpty EmptyIn
+  empty-says zero t e = never e
+  empty-says (suc d) t e =
+      let (k, l, is) = some-below _ (length (state t .members)) e in
+      (itemOf plain (state t) k, item-within plain (state t) (one t) k l, ⊎-elim (λ p. inl (eqb-true _ _ p)) (λ q. inr (held-says d (empty-says d) _ q)) (either _ _ is))
+
+  pub empty-found : (d t : ℕ) → EmptyIn state d t → hasEmpty state d t ≡ true
+  unfolding hasEmpty EmptyIn
+  empty-found zero t e = absurd e
+  empty-found (suc d) t (i, has, why) =
+      below-some _ (length (state t .members)) (laidIndex plain (state t) i) (index-within plain (state t) (one t) i has)
+      (rw (item-index plain (state t) (one t) i has) (held-found d (empty-found d) _ _ why))
+
+-- ---- exactly when a write succeeds
+
+neither : (p q : Bool) → (p || q) ≡ false → (p ≡ false) × (q ≡ false)
+neither true q e = never (sym e)
+neither false q e = (refl, e)
+
+-- no test refused
+record Passed (whole free empty file room : Bool) : Type 0 where
+  pub whole-is : whole ≡ true
+  pub free-is : free ≡ true
+  pub empty-is : empty ≡ false
+  pub file-is : file ≡ false
+  pub room-is : room ≡ false
+
+passed : (whole free empty file room : Bool) (good : Written)
+    → writtenNumber (pick whole (pick free (pick empty (Written.Refused EmptyKey) (pick (file || room) (Written.Refused ImageTooLong) good)) (Written.Refused TableUnknown)) (Written.Refused MemoryBroken)) ≡ 0
+    → Passed whole free empty file room
+unfolding writtenNumber pick
+passed false free empty file room good e = absurd (omega (arith, e))
+passed true false empty file room good e = absurd (omega (arith, e))
+passed true true true file room good e = absurd (omega (arith, e))
+passed true true false true room good e = absurd (omega (arith, e))
+passed true true false false true good e = absurd (omega (arith, e))
+passed true true false false false good e = record { whole-is = refl; free-is = refl; empty-is = refl; file-is = refl; room-is = refl }
+
+module _ (ws ar : List ℕ) (t room : ℕ) where
+  succeeds : writtenNumber (writeAnswer ws ar t room) ≡ 0 → MayWrite ws ar t room
+  unfolding writeAnswer tooLong freeStanding
+  succeeds e =
+      let p = passed (fullyValid ws ar) (ltb t (tableTotal ws) && eqb (tablePlaced ws t) 0) (hasEmpty (stateOf ws ar) depth t) (ltb longestFile (length (imageFor ws ar t))) (ltb room (length (imageFor ws ar t))) _ e in
+      let (known, loose) = both (ltb t (tableTotal ws)) (eqb (tablePlaced ws t) 0) (p .free-is) in
+      record {
+        whole = p .whole-is;
+        known = ltb-true _ _ known;
+        loose = eqb-true _ _ loose;
+        named = λ empty. never (sym (p .empty-is) ∙ empty-found (stateOf ws ar) (member-once ws ar) depth t empty);
+        short = ltb-false _ _ (p .file-is);
+        fits = ltb-false _ _ (p .room-is);
+      }
+
+  not-empty : (EmptyIn (stateOf ws ar) depth t → ⊥) → (found : Bool) → hasEmpty (stateOf ws ar) depth t ≡ found → hasEmpty (stateOf ws ar) depth t ≡ false
+  not-empty none true e = absurd (none (empty-says (stateOf ws ar) (member-once ws ar) depth t e))
+  not-empty none false e = e
+
+  written : (m : MayWrite ws ar t room) → writeAnswer ws ar t room ≡ Written.Image 24 (24 + (8 + 28 * length (stateOf ws ar t .members))) (length (imageFor ws ar t))
+  written m = write-0 ws ar t room (m .whole) (m .known) (m .loose) (not-empty (m .named) _ refl) (m .short) (m .fits)
+
+pub succeeds-exactly : SucceedsExactly
+unfolding writtenNumber
+succeeds-exactly ws ar t room = (succeeds ws ar t room, λ m. ap writtenNumber (written ws ar t room m))
+
+-- ---- what it leaves
+
+module _ (ws ar buffer : List ℕ) (t start end size : ℕ) (e : writeAnswer ws ar t (length buffer) ≡ Written.Image start end size) where
+  may : MayWrite ws ar t (length buffer)
+  unfolding writtenNumber
+  may = succeeds ws ar t (length buffer) (ap writtenNumber e)
+
+  size-is : size ≡ length (imageFor ws ar t)
+  size-is = let same = sym e ∙ written ws ar t (length buffer) may in cc
+
+  after-is : imageAfter ws ar t buffer ≡ putAt buffer 0 (imageFor ws ar t)
+  unfolding imageAfter laidBy
+  after-is = ap (λ (answer : Written). laidBy answer (imageFor ws ar t) buffer) e
+
+image-header : (ws ar : List ℕ) (t : ℕ) → (24 ≤ length (imageFor ws ar t)) × (take 24 (imageFor ws ar t) ≡ zeros 24)
+unfolding imageFor imageOf
+image-header ws ar t =
+    let table = tableBytes plain (stateOf ws ar) depth t headerSize in
+    (omega (arith, length-append (zeros 24) table, length-zeros 24), take-at (zeros 24) table 24 (length-zeros 24))
+
+pub success-rest : SuccessKeepsRest
+success-rest ws ar buffer t start end size e =
+    ap (drop size) (after-is ws ar buffer t start end size e) ∙ drop-after buffer 0 (imageFor ws ar t) size (omega (arith, size-is ws ar buffer t start end size e))
+
+pub success-header : SuccessClearsHeader
+success-header ws ar buffer t start end size e =
+    let (long, clear) = image-header ws ar t in
+    let image = imageFor ws ar t in
+    let fits = may ws ar buffer t start end size e .fits in
+    ap (take 24) (after-is ws ar buffer t start end size e) ∙ sym (take-take 24 (length image) (putAt buffer 0 image) long)
+    ∙ ap (take 24) (part-put buffer 0 image (omega (arith, fits))) ∙ clear
