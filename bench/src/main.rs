@@ -210,7 +210,8 @@ fn median(mut times: Vec<f64>) -> f64 {
 /// The medians of both sides, whose turns alternate so that noise meets both; the first turn of each warms up.
 fn measure(rounds: usize, (mut ours, mut theirs): (Turn, Turn)) -> (f64, f64) {
     let per = |(time, operations): (Duration, usize)| time.as_nanos() as f64 / operations as f64;
-    (ours(), theirs());
+    ours();
+    theirs();
     let (mut a, mut b) = (Vec::new(), Vec::new());
     for _ in 0..rounds {
         a.push(per(ours()));

@@ -2,7 +2,7 @@
 
 use crate::lent::{File, Memory};
 use crate::ours;
-use crate::tally::Tally;
+use crate::tally::{Outcome, Tally};
 use crate::theirs;
 use crate::{document, ffi};
 use gvdb::write::{FileWriter, HashTableBuilder};
@@ -169,7 +169,7 @@ fn longest_image() {
     }
 }
 
-pub fn show(tally: &mut Tally) {
+pub fn show(tally: &mut Tally) -> Outcome {
     let corners: [fn(); 11] = [
         file_length,
         bloom_words_and_buckets,
@@ -187,4 +187,5 @@ pub fn show(tally: &mut Tally) {
         corner();
         tally.alone("corners of docs/DIFFERENCES.md", 1);
     }
+    Ok(())
 }

@@ -186,7 +186,7 @@ fn all(arguments: Arguments) -> Run {
     let mut run = Run { tally: Tally::default(), differences: 0 };
     let mut note = std::env::var("SEED_NOTE").ok().map(|path| std::fs::File::create(path).expect("a file for the seed"));
     let tally = &mut run.tally;
-    if let Err(difference) = caught(|| Ok(corners::show(tally))) {
+    if let Err(difference) = caught(|| corners::show(tally)) {
         run.counted();
         say(0, &difference, "a difference of docs/DIFFERENCES.md is not as it stands there");
     }

@@ -177,7 +177,8 @@ fn lay_items(dice: &Dice, items: &[Made], order: &[usize], end: usize, file: &mu
         let item = &items[index];
         let key = end + tail.len();
         tail.extend(&item.fragment);
-        while (end + tail.len()) % (if item.kind == b'v' { 8 } else { 4 }) != 0 {
+        let alignment = if item.kind == b'v' { 8 } else { 4 };
+        while !(end + tail.len()).is_multiple_of(alignment) {
             tail.push(0);
         }
         let start = end + tail.len();
@@ -255,7 +256,10 @@ fn damage_item(dice: &Dice, sound: &Case, table: &Table, put: &mut impl FnMut(us
         3 => put(at + 14, &[*dice.pick(b"vHLx\0h\xff")]),
         4 => put(at + 16, &odd_word(dice, field(at + 16)).to_le_bytes()),
         5 => put(at + 20, &odd_word(dice, field(at + 20)).to_le_bytes()),
-        6 => put(field(at + 8), *dice.pick(&BROKEN)),
+        6 => {
+            let broken = *dice.pick(&BROKEN);
+            put(field(at + 8), broken);
+        }
         7 | 8 => damage_children(dice, sound, table, put),
         _ => {
             let other = table.item(dice.below(table.count));

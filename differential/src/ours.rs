@@ -2,8 +2,7 @@
 
 use crate::ffi;
 use crate::lent::{buffer, untouched, Memory};
-
-pub type Place = Result<(u32, u32), u32>;
+use crate::tally::Place;
 
 pub fn open(file: &[u8], start: u32, end: u32) -> Result<(u32, u32, u32), u32> {
     let opened = ffi::open(file, start, end);

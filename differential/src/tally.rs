@@ -27,6 +27,9 @@ pub struct Difference {
     pub theirs: String,
 }
 
+/// Start and end of a stretch of a file, or the number of a refusal.
+pub type Place = Result<(u32, u32), u32>;
+
 pub type Outcome = Result<(), Difference>;
 
 #[derive(Default)]

@@ -1,5 +1,6 @@
 //! gvdb-rs's answers, with document 01's numbers for its errors.
 
+use crate::tally::Place;
 use gvdb::read::{oracle as raw, Error, File, HashTable};
 use gvdb::write::{FileWriter, HashTableBuilder};
 use std::borrow::Cow;
@@ -41,11 +42,11 @@ fn place(bytes: &[u8], at: usize, size: usize) -> (u32, u32) {
     (start as u32, (start + size) as u32)
 }
 
-pub fn get(bytes: &[u8], table: &HashTable, key: &str) -> Result<(u32, u32), u32> {
+pub fn get(bytes: &[u8], table: &HashTable, key: &str) -> Place {
     raw::raw_value(table, key).map(|(at, size)| place(bytes, at, size)).map_err(|error| number(&error))
 }
 
-pub fn get_table(table: &HashTable, key: &str) -> Result<(u32, u32), u32> {
+pub fn get_table(table: &HashTable, key: &str) -> Place {
     table.get_hash_table(key).map_err(|error| number(&error))?;
     let item = raw::item(table, key).expect("found before");
     let word = |at: usize| u32::from_le_bytes(item[at..at + 4].try_into().expect("four bytes"));
@@ -56,7 +57,7 @@ pub fn keys(table: &HashTable) -> Vec<Result<Vec<u8>, u32>> {
     table.keys().map(|key| key.map(String::into_bytes).map_err(|error| number(&error))).collect()
 }
 
-pub fn values(bytes: &[u8], table: &HashTable) -> Vec<Result<(u32, u32), u32>> {
+pub fn values(bytes: &[u8], table: &HashTable) -> Vec<Place> {
     raw::raw_values(table).into_iter().map(|value| value.map(|(at, size)| place(bytes, at, size)).map_err(|error| number(&error))).collect()
 }
 

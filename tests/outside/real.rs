@@ -85,6 +85,9 @@ fn main() {
             None => "sound".to_string(),
             Some((rule, item)) => format!("rule {rule} broken by item {item}"),
         };
-        println!("{name}: tables {}, items {}, values {}, found {}, not found {}, refused {}; {sound}", sum.tables, sum.items, sum.values, sum.found, sum.missed, sum.refused);
+        println!(
+            "{name}: tables {}, items {}, values {}, found {}, not found {}, refused {}; {sound}",
+            sum.tables, sum.items, sum.values, sum.found, sum.missed, sum.refused
+        );
     }
 }

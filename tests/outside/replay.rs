@@ -4,7 +4,7 @@
 
 mod ffi;
 
-use ffi::{check, Builder, get, get_table, next_key, next_value, open};
+use ffi::{check, get, get_table, next_key, next_value, open, Builder};
 use std::collections::BTreeMap;
 use std::io::Write;
 use std::process::ExitCode;
@@ -266,10 +266,15 @@ fn numbered(said: &str) -> Option<String> {
     if let Some(kind) = said.strip_prefix("err ") {
         return number(kind).map(|n| format!("err {n}"));
     }
-    Some(said.split(' ').map(|word| match word.split_once('!') {
-        Some((before, kind)) => format!("{before}!{}", number(kind).map_or(kind.to_string(), |n| n.to_string())),
-        None => word.to_string(),
-    }).collect::<Vec<_>>().join(" "))
+    Some(
+        said.split(' ')
+            .map(|word| match word.split_once('!') {
+                Some((before, kind)) => format!("{before}!{}", number(kind).map_or(kind.to_string(), |n| n.to_string())),
+                None => word.to_string(),
+            })
+            .collect::<Vec<_>>()
+            .join(" "),
+    )
 }
 
 fn main() -> ExitCode {
@@ -307,5 +312,9 @@ fn main() -> ExitCode {
     }
     let counts: Vec<String> = by.iter().map(|(name, n)| format!("{name} {n}")).collect();
     println!("{compared} answers compared ({}), {outside} outside what gvdb-rs answers, {wrong} differ", counts.join(", "));
-    if wrong == 0 && compared > 0 { ExitCode::SUCCESS } else { ExitCode::FAILURE }
+    if wrong == 0 && compared > 0 {
+        ExitCode::SUCCESS
+    } else {
+        ExitCode::FAILURE
+    }
 }

@@ -1,6 +1,7 @@
 //! The layout of a table, lookup, listing and the check's six rules.
 
 use super::hash;
+use crate::tally::Place;
 
 const ROOT: u32 = u32::MAX;
 
@@ -17,7 +18,7 @@ fn pointer(file: &[u8], start: usize, end: usize, alignment: usize) -> Result<()
     if start > end {
         return Err(2);
     }
-    if start % alignment != 0 {
+    if !start.is_multiple_of(alignment) {
         return Err(3);
     }
     if end > file.len() {
@@ -54,7 +55,7 @@ pub fn open(file: &[u8], start: u32, end: u32) -> Result<Table<'_>, u32> {
         return Err(6);
     }
     let rest = size - 8 - 4 * blooms - 4 * buckets;
-    if rest % 24 != 0 {
+    if !rest.is_multiple_of(24) {
         return Err(7);
     }
     Ok(Table { file, start, blooms, buckets, count: rest / 24 })
@@ -133,7 +134,7 @@ impl<'f> Table<'f> {
         self.run(hash).find(|index| self.hash(*index) == hash && self.key(*index).is_ok_and(|found| found == key))
     }
 
-    fn found(&self, key: &[u8], kind: u8) -> Result<(u32, u32), u32> {
+    fn found(&self, key: &[u8], kind: u8) -> Place {
         std::str::from_utf8(key).map_err(|_| 8u32)?;
         let index = self.find(key).ok_or(12u32)?;
         if self.kind(index) != kind {
@@ -142,21 +143,21 @@ impl<'f> Table<'f> {
         Ok(self.value(index))
     }
 
-    fn value_opens(&self, (start, end): (u32, u32)) -> Result<(u32, u32), u32> {
+    fn value_opens(&self, (start, end): (u32, u32)) -> Place {
         pointer(self.file, start as usize, end as usize, 8).map(|()| (start, end))
     }
 
-    pub fn get(&self, key: &[u8]) -> Result<(u32, u32), u32> {
+    pub fn get(&self, key: &[u8]) -> Place {
         self.value_opens(self.found(key, b'v')?)
     }
 
-    pub fn get_table(&self, key: &[u8]) -> Result<(u32, u32), u32> {
+    pub fn get_table(&self, key: &[u8]) -> Place {
         let (start, end) = self.found(key, b'H')?;
         open(self.file, start, end).map(|_| (start, end))
     }
 
     /// Each item of kind 'v', with its place or 2 or 3.
-    pub fn values(&self) -> Vec<(usize, Result<(u32, u32), u32>)> {
+    pub fn values(&self) -> Vec<(usize, Place)> {
         (0..self.count).filter(|index| self.kind(*index) == b'v').map(|index| (index, self.value_opens(self.value(index)))).collect()
     }
 
