@@ -146,7 +146,7 @@ fn lookups<'a>(ground: &'a Ground, table: &'a HashTable<'a, 'a>, keys: &'a [Stri
 }
 
 fn list_ours(ground: &Ground, items: usize) -> Duration {
-    let mut out = [0; 1024];
+    let mut out = [0; ffi::MAX_KEY];
     timed(|| {
         for i in 0..items {
             assert_eq!(ffi::next_key(black_box(&ground.image), 24, ground.end, i, black_box(&mut out)).number, 0);

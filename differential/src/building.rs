@@ -3,13 +3,16 @@
 use crate::dice::Dice;
 use crate::document::build as document;
 use crate::document::build::Held;
-use crate::ffi;
+use crate::ffi::{memory_words, MAX_FILE, MAX_ITEMS, MAX_NESTING, MAX_TABLES};
 use crate::lent::Memory;
 use crate::make;
 use crate::ours;
 use crate::reading::{hex, Case};
 use crate::tally::{Difference, Outcome, Tally, Who};
 use crate::theirs;
+
+/// The value of a call's answer, 0 for a write, or the number of a refusal.
+pub type Answer = Result<u32, u32>;
 
 #[derive(Clone, Debug)]
 pub enum Call {
@@ -21,7 +24,7 @@ pub enum Call {
 }
 
 impl Call {
-    fn describe(&self) -> String {
+    pub fn describe(&self) -> String {
         match self {
             Call::NewTable(separator) => format!("new table, separator [{}]", hex(separator)),
             Call::Insert(table, key, value) => format!("insert into {table}: [{}] = [{}]", hex(key), hex(value)),
@@ -58,10 +61,10 @@ impl History {
             _ => 1 << 17,
         };
         let many = dice.one_in(150);
-        let length = if many { 1400 } else { 2 + dice.below(*dice.pick(&[4, 10, 40])) };
+        let length = if many { MAX_ITEMS + 376 } else { 2 + dice.below(*dice.pick(&[4, 10, 40])) };
         let mut history = History { room, calls: vec![Call::NewTable(separator(dice))] };
         let (mut tables, mut keys) = (1, Vec::new());
-        let crowd = if dice.one_in(200) { 70 } else { 4 };
+        let crowd = if dice.one_in(200) { MAX_TABLES + 6 } else { 4 };
         for _ in 0..length {
             let table = dice.below(tables + usize::from(dice.one_in(30))) as u32;
             let call = match dice.below(if many { 100 } else { 24 }) {
@@ -86,10 +89,11 @@ impl History {
         history
     }
 
-    /// A chain of tables that each hold the one before, as deep as is allowed and one deeper.
+    /// A chain of tables that each hold the one before, as deep as is allowed and deeper.
     pub fn deep(dice: &Dice) -> History {
+        const DEEP: u32 = MAX_NESTING as u32 + 2;
         let mut calls = vec![Call::NewTable(separator(dice))];
-        for table in 1..10 {
+        for table in 1..DEEP {
             let size = dice.below(3);
             calls.push(Call::Insert(table - 1, make::key(dice, None, &[]), dice.bytes(size)));
             calls.push(Call::NewTable(separator(dice)));
@@ -98,7 +102,7 @@ impl History {
                 calls.push(Call::Write(table));
             }
         }
-        calls.extend((0..10).map(Call::Write));
+        calls.extend((0..DEEP).map(Call::Write));
         History { room: 1 << 17, calls }
     }
 
@@ -110,10 +114,7 @@ impl History {
     pub fn compare(&self, tally: &mut Tally) -> Result<Vec<Case>, Difference> {
         let mut state = State::fresh(self.room);
         for call in &self.calls {
-            state.step(call, tally).map_err(|mut difference| {
-                difference.question = format!("{} ({})", difference.question, call.describe());
-                difference
-            })?;
+            let _answer = state.step(call, tally)?;
         }
         Ok(state.images)
     }
@@ -132,46 +133,53 @@ fn fresh_key(dice: &Dice, many: bool, keys: &[Vec<u8>]) -> Vec<u8> {
 }
 
 /// The same builder three times.
-struct State {
+pub struct State {
     memory: Memory,
     paper: document::Builder,
-    rust: theirs::Builder,
-    images: Vec<Case>,
+    pub rust: theirs::Builder,
+    pub images: Vec<Case>,
 }
 
 impl State {
-    fn fresh(room: usize) -> State {
-        let mut memory = Memory::new(&vec![0x5A5A_5A5A; ffi::memory_words() + room % 3], &vec![0xC3; room]);
+    pub fn fresh(room: usize) -> State {
+        let mut memory = Memory::new(&vec![0x5A5A_5A5A; memory_words() + room % 3], &vec![0xC3; room]);
         assert_eq!(memory.fresh(), 0);
         State { memory, paper: document::Builder::fresh(room), rust: theirs::Builder::default(), images: Vec::new() }
     }
 
     /// One call; a refusal is held to change nothing.
-    fn step(&mut self, call: &Call, tally: &mut Tally) -> Outcome {
+    pub fn step(&mut self, call: &Call, tally: &mut Tally) -> Result<Answer, Difference> {
         let before = self.memory.clone();
-        let ours = match call {
+        let ours = self.ask(call, tally).map_err(|mut difference| {
+            difference.question = format!("{} ({})", difference.question, call.describe());
+            difference
+        })?;
+        tally.number(ours.err().unwrap_or(0));
+        let reads = matches!(call, Call::Count(_) | Call::Write(_));
+        assert!((ours.is_ok() && !reads) || self.memory == before, "a refusal, a count or a write changed the builder");
+        Ok(ours)
+    }
+
+    fn ask(&mut self, call: &Call, tally: &mut Tally) -> Result<Answer, Difference> {
+        match call {
             Call::NewTable(separator) => self.new_table(separator, tally),
             Call::Insert(table, key, value) => self.insert(*table, key, value, tally),
             Call::InsertTable(table, key, guest) => self.insert_table(*table, key, *guest, tally),
             Call::Count(table) => self.count(*table, tally),
             Call::Write(table) => self.write(*table, tally),
-        }?;
-        tally.number(ours);
-        let reads = matches!(call, Call::Count(_) | Call::Write(_));
-        assert!((ours == 0 && !reads) || self.memory == before, "a refusal, a count or a write changed the builder");
-        Ok(())
+        }
     }
 
-    fn new_table(&mut self, separator: &[u8], tally: &mut Tally) -> Result<u32, Difference> {
+    fn new_table(&mut self, separator: &[u8], tally: &mut Tally) -> Result<Answer, Difference> {
         let (ours, paper) = (self.memory.new_table(separator), self.paper.new_table(separator));
         tally.same(Who::Document, "new table", &ours, &paper.map(|table| table as u32), String::new)?;
         if ours.is_ok() {
             self.rust.new_table(separator);
         }
-        Ok(ours.err().unwrap_or(0))
+        Ok(ours)
     }
 
-    fn insert(&mut self, table: u32, key: &[u8], value: &[u8], tally: &mut Tally) -> Result<u32, Difference> {
+    fn insert(&mut self, table: u32, key: &[u8], value: &[u8], tally: &mut Tally) -> Result<Answer, Difference> {
         let (ours, paper) = (self.memory.insert(table, key, value), self.paper.insert(table, key, value));
         tally.same(Who::Document, "insert", &ours, &paper, String::new)?;
         if ours.is_ok() || ours == Err(21) {
@@ -179,10 +187,10 @@ impl State {
             let rust = self.rust.insert(table as usize, text, value);
             self.with_rust("insert", table, ours, rust, tally)?;
         }
-        Ok(ours.err().unwrap_or(0))
+        Ok(ours)
     }
 
-    fn insert_table(&mut self, table: u32, key: &[u8], guest: u32, tally: &mut Tally) -> Result<u32, Difference> {
+    fn insert_table(&mut self, table: u32, key: &[u8], guest: u32, tally: &mut Tally) -> Result<Answer, Difference> {
         let (ours, paper) = (self.memory.insert_table(table, key, guest), self.paper.insert_table(table, key, guest));
         tally.same(Who::Document, "insert table", &ours, &paper, String::new)?;
         if ours.is_ok() || ours == Err(21) {
@@ -190,37 +198,38 @@ impl State {
             let rust = self.rust.insert_table(table as usize, text, guest as usize);
             self.with_rust("insert table", table, ours, rust, tally)?;
         }
-        Ok(ours.err().unwrap_or(0))
+        Ok(ours)
     }
 
     /// gvdb-rs says nothing of what was replaced; its item count is compared, or 21.
-    fn with_rust(&mut self, kind: &'static str, table: u32, ours: Result<u32, u32>, rust: Result<u32, u32>, tally: &mut Tally) -> Outcome {
+    fn with_rust(&mut self, kind: &'static str, table: u32, ours: Answer, rust: Answer, tally: &mut Tally) -> Outcome {
         let counted = ours.and_then(|_| self.memory.item_count(table));
         tally.same(Who::Rust, kind, &counted, &rust, || "count or refusal".into())
     }
 
-    fn count(&mut self, table: u32, tally: &mut Tally) -> Result<u32, Difference> {
+    fn count(&mut self, table: u32, tally: &mut Tally) -> Result<Answer, Difference> {
         let (ours, paper) = (self.memory.item_count(table), self.paper.item_count(table));
         tally.same(Who::Document, "item count", &ours, &paper, String::new)?;
-        Ok(ours.err().unwrap_or(0))
+        Ok(ours)
     }
 
-    /// A write into a buffer with room to spare, one that just fits and one a byte too short.
-    fn write(&mut self, table: u32, tally: &mut Tally) -> Result<u32, Difference> {
+    /// A write into a buffer with room to spare, one that just fits and one a byte too short. Of an image over the limit gvdb-rs's is only measured.
+    fn write(&mut self, table: u32, tally: &mut Tally) -> Result<Answer, Difference> {
         let paper = self.paper.write(table);
-        let rust = paper.map_or(Err(24), |table| self.rust.write(table));
-        let rust = if paper == Err(30) { self.rust.write(table as usize) } else { rust };
+        let rust = if paper == Err(24) { Err(24) } else { self.rust.write(table as usize) };
         let room = rust.as_ref().map_or(64, Vec::len);
+        let expected = paper.and(if room > MAX_FILE { Err(31) } else { Ok(room) });
         let ours = self.memory.write(table, room + 40);
-        tally.same(Who::Document, "write", &ours.as_ref().map(|_| ()).map_err(|number| *number), &paper.map(|_| ()), String::new)?;
-        if paper == Err(24) {
-            return Ok(24);
+        let length = ours.as_ref().map(|(image, _)| image.len()).map_err(|number| *number);
+        tally.same(Who::Document, "write", &length, &expected, String::new)?;
+        if expected == Err(24) || expected == Err(31) {
+            return Ok(expected.map(|_| 0));
         }
         let body = ours.as_ref().map(|(image, _)| image[24..].to_vec()).map_err(|number| *number);
         tally.same(Who::Rust, "image", &body, &rust.map(|image| image[24..].to_vec()), String::new)?;
         let (image, end) = match ours {
             Ok(written) => written,
-            Err(number) => return Ok(number),
+            Err(number) => return Ok(Err(number)),
         };
         assert!(image[..24].iter().all(|byte| *byte == 0), "the header is not zero");
         assert!(self.memory.write(table, room) == Ok((image.clone(), end)), "a second write differs");
@@ -228,7 +237,7 @@ impl State {
         tally.same(Who::Document, "write", &self.memory.write(table, room - 1).map(|_| ()), &Err(31), || "a byte too few".into())?;
         let keys = self.reads_back(&image, 24, end, table as usize, tally)?;
         self.images.push(Case { file: image, start: 24, end, keys });
-        Ok(0)
+        Ok(Ok(0))
     }
 
     /// Each item of a table is found in the image as the builder holds it, nested ones too, and the tables pass the check.

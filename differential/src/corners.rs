@@ -1,15 +1,14 @@
 //! Every difference that docs/DIFFERENCES.md lists, with its smallest input, as both sides have it. What gvdb-rs cannot be asked is asked here alone.
 
+use crate::document;
+use crate::ffi::{memory_words, MAX_FILE, MAX_ITEMS, MAX_KEY, MAX_NESTING, MAX_TABLES};
 use crate::lent::{File, Memory};
 use crate::ours;
 use crate::tally::{Outcome, Tally};
 use crate::theirs;
-use crate::{document, ffi};
 use gvdb::write::{FileWriter, HashTableBuilder};
 use std::process::{Command, Stdio};
 use std::time::Duration;
-
-const MOST: usize = 16_777_216;
 
 /// A header with this root, and what follows it.
 fn file(start: u32, end: u32, body: &[u8]) -> Vec<u8> {
@@ -22,7 +21,7 @@ fn opens_there(bytes: &[u8]) -> Result<usize, u32> {
 
 fn file_length() {
     let mut bytes = file(24, 32, &[0; 8]);
-    for (size, ours) in [(MOST, Ok((0, 0, 0))), (MOST + 1, Err(1))] {
+    for (size, ours) in [(MAX_FILE, Ok((0, 0, 0))), (MAX_FILE + 1, Err(1))] {
         bytes.resize(size, 0);
         let lent = File::new(&bytes);
         assert_eq!((ours::open(lent.bytes(), 24, 32), opens_there(lent.bytes())), (ours, Ok(0)));
@@ -81,7 +80,7 @@ fn loops_of_parents() {
 }
 
 fn builder(room: usize) -> (Memory, theirs::Builder) {
-    let mut memory = Memory::new(&vec![0; ffi::memory_words()], &vec![0; room]);
+    let mut memory = Memory::new(&vec![0; memory_words()], &vec![0; room]);
     assert_eq!((memory.fresh(), memory.new_table(b"")), (0, Ok(0)));
     let mut rust = theirs::Builder::default();
     rust.new_table(b"");
@@ -117,31 +116,31 @@ fn long_keys() {
     let (mut memory, mut rust) = builder(1 << 18);
     let key = vec![b'k'; 65_537];
     let text = std::str::from_utf8(&key).expect("letters");
-    assert_eq!((memory.insert(0, &key[..1025], b""), rust.insert(0, &text[..1025], b"")), (Err(20), Ok(1)));
+    assert_eq!((memory.insert(0, &key[..MAX_KEY + 1], b""), rust.insert(0, &text[..MAX_KEY + 1], b"")), (Err(20), Ok(1)));
     assert_eq!((memory.insert(0, &key, b""), rust.insert(0, text, b"")), (Err(20), Ok(2)));
     let there = File::new(&rust.write(0).expect("an image"));
     let found = |key: &str| theirs::with_root(there.bytes(), |opened| theirs::get(there.bytes(), opened.expect("opens"), key).err());
-    assert_eq!((found(&text[..1025]), found(text), found("k")), (None, Some(12), Some(12)));
+    assert_eq!((found(&text[..MAX_KEY + 1]), found(text), found("k")), (None, Some(12), Some(12)));
 }
 
 /// One item, one table and one level too many.
 fn limits() {
     let (mut memory, mut rust) = builder(1 << 18);
-    for index in 0..1025 {
-        let (key, full) = (format!("{index}"), index == 1024);
-        assert_eq!((memory.insert(0, key.as_bytes(), b""), rust.insert(0, &key, b"")), (if full { Err(22) } else { Ok(0) }, Ok(index + 1)));
+    for index in 0..=MAX_ITEMS {
+        let (key, full) = (format!("{index}"), index == MAX_ITEMS);
+        assert_eq!((memory.insert(0, key.as_bytes(), b""), rust.insert(0, &key, b"")), (if full { Err(22) } else { Ok(0) }, Ok(index as u32 + 1)));
     }
     let (mut memory, mut rust) = builder(1 << 10);
-    for table in 1..65 {
+    for table in 1..=MAX_TABLES as u32 {
         rust.new_table(b"");
-        assert_eq!(memory.new_table(b""), if table == 64 { Err(27) } else { Ok(table) });
+        assert_eq!(memory.new_table(b""), if table == MAX_TABLES as u32 { Err(27) } else { Ok(table) });
     }
-    for table in 1..9 {
+    for table in 1..=MAX_NESTING as u32 {
         let ours = memory.insert_table(table, b"t", table - 1);
-        assert_eq!((ours, rust.insert_table(table as usize, "t", table as usize - 1)), (if table == 8 { Err(26) } else { Ok(0) }, Ok(1)));
+        assert_eq!((ours, rust.insert_table(table as usize, "t", table as usize - 1)), (if table == MAX_NESTING as u32 { Err(26) } else { Ok(0) }, Ok(1)));
     }
     assert_eq!((memory.insert_table(9, b"t", 9), memory.insert_table(9, b"t", 3), memory.insert(3, b"t", b"")), (Err(25), Err(24), Err(24)));
-    assert!(rust.write(8).is_ok());
+    assert!(rust.write(MAX_NESTING).is_ok());
 }
 
 fn separators() {
@@ -156,12 +155,12 @@ fn separators() {
 
 /// An image of just the longest length, and one byte more.
 fn longest_image() {
-    for (size, longer) in [(MOST - 64, false), (MOST - 63, true)] {
-        let (mut memory, mut rust) = builder(MOST);
+    for (size, longer) in [(MAX_FILE - 64, false), (MAX_FILE - 63, true)] {
+        let (mut memory, mut rust) = builder(MAX_FILE);
         let value = vec![7; size];
         assert_eq!((memory.insert(0, b"a", &value), rust.insert(0, "a", &value)), (Ok(0), Ok(1)));
-        let (ours, there) = (memory.write(0, MOST + 9), rust.write(0).expect("an image"));
-        assert_eq!(there.len(), MOST + usize::from(longer));
+        let (ours, there) = (memory.write(0, MAX_FILE + 9), rust.write(0).expect("an image"));
+        assert_eq!(there.len(), MAX_FILE + usize::from(longer));
         match ours {
             Ok((image, _)) => assert!(!longer && image[24..] == there[24..]),
             Err(number) => assert!(longer && number == 31),

@@ -1,4 +1,4 @@
-//! Document 01 read once more, in plain Rust over growing memory: what every call answers. It shares nothing with the library or with gvdb-rs.
+//! Document 01 read once more, in plain Rust over growing memory: what every call answers. It shares nothing with the library but its limits, and nothing with gvdb-rs.
 
 pub mod build;
 pub mod read;

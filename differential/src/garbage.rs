@@ -2,14 +2,21 @@
 
 use crate::building::Call;
 use crate::dice::Dice;
-use crate::ffi;
+use crate::ffi::{memory_words, MAX_ITEMS, MAX_TABLES};
 use crate::lent::Memory;
 use crate::make;
 use crate::ours;
 use crate::tally::{Outcome, Tally, Who};
 
-/// Where the words of a builder's memory stand: header and tables, heads of buckets, items of 12 words, links.
-const PARTS: [(usize, usize); 4] = [(0, 264), (264, 1024), (1288, 240), (13_576, 1024)];
+/// Where the words of a builder's memory stand: header, tables of 4 words, heads of buckets, items of 12 words, links.
+const TABLES: usize = 8;
+const HEADS: usize = TABLES + 4 * MAX_TABLES;
+const ITEMS: usize = HEADS + MAX_ITEMS;
+const LINKS: usize = ITEMS + 12 * MAX_ITEMS;
+const WORDS: usize = LINKS + MAX_ITEMS;
+
+/// Where a changed word may be met: of the items, the first twenty.
+const PARTS: [(usize, usize); 4] = [(0, HEADS), (HEADS, MAX_ITEMS), (ITEMS, 240), (LINKS, MAX_ITEMS)];
 
 fn any_word(dice: &Dice) -> usize {
     match dice.below(6) {
@@ -17,7 +24,7 @@ fn any_word(dice: &Dice) -> usize {
         1 => usize::MAX - dice.below(3),
         2 => 0xFFFF_FFFF,
         3 => dice.next() as usize,
-        4 => *dice.pick(&[72, 76, 118, 1024, 1025, 64, 65, 256, 0]),
+        4 => *dice.pick(&[72, 76, 118, MAX_ITEMS, MAX_ITEMS + 1, MAX_TABLES, MAX_TABLES + 1, 256, 0]),
         _ => dice.below(2000),
     }
 }
@@ -25,7 +32,7 @@ fn any_word(dice: &Dice) -> usize {
 /// Honest memory with some words changed.
 fn tampered(dice: &Dice) -> Memory {
     let room = 700;
-    let mut memory = Memory::new(&vec![0; ffi::memory_words()], &vec![0; room]);
+    let mut memory = Memory::new(&vec![0; memory_words()], &vec![0; room]);
     memory.fresh();
     memory.new_table(b"/").expect("room");
     memory.new_table(b"").expect("room");
@@ -46,13 +53,13 @@ fn tampered(dice: &Dice) -> Memory {
 /// Words at random, in whose header only what every call judges is right; the arena is random too.
 fn random(dice: &Dice) -> Memory {
     let room = dice.below(300);
-    let mut words: Vec<usize> = (0..ffi::memory_words()).map(|_| any_word(dice)).collect();
-    let header = [words.len(), room, dice.below(65), dice.below(*dice.pick(&[4, 40, 1025])), dice.below(room + 1)];
+    let mut words: Vec<usize> = (0..memory_words()).map(|_| any_word(dice)).collect();
+    let header = [words.len(), room, dice.below(MAX_TABLES + 1), dice.below(*dice.pick(&[4, 40, MAX_ITEMS + 1])), dice.below(room + 1)];
     words[..5].copy_from_slice(&header);
-    for table in 0..64 {
+    for table in 0..MAX_TABLES {
         if !dice.one_in(4) {
-            words[8 + 4 * table] = *dice.pick(&[47, 256]);
-            words[9 + 4 * table] = dice.below(2);
+            words[TABLES + 4 * table] = *dice.pick(&[47, 256]);
+            words[TABLES + 4 * table + 1] = dice.below(2);
         }
     }
     if dice.one_in(4) {
@@ -65,7 +72,7 @@ fn random(dice: &Dice) -> Memory {
 /// Memory of lengths that no fresh start had.
 fn of_other_length(dice: &Dice) -> Memory {
     let mut honest = tampered(dice);
-    let size = *dice.pick(&[0, 1, 4, 8, 263, 14_599]);
+    let size = *dice.pick(&[0, 1, 4, TABLES, HEADS - 1, WORDS - 1]);
     let words = honest.words()[..size].to_vec();
     let room = dice.below(9);
     Memory::new(&words, &dice.bytes(room))
@@ -114,7 +121,7 @@ pub fn compare(dice: &Dice, tally: &mut Tally, calls: &mut Vec<Call>) -> Outcome
 
 /// A fresh start on any words, too few or more than enough: 29, or an empty builder. Words past the least length and the arena stay.
 fn fresh(dice: &Dice, tally: &mut Tally) -> Outcome {
-    let least = ffi::memory_words();
+    let least = memory_words();
     let size = (least + *dice.pick(&[0, 0, 1, 50])).saturating_sub(*dice.pick(&[0, 0, 1, 14_000, 20_000]));
     let words: Vec<usize> = (0..size).map(|_| any_word(dice)).collect();
     let mut memory = Memory::new(&words, &dice.bytes(dice.below(40)));

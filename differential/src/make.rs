@@ -3,6 +3,7 @@
 use crate::dice::Dice;
 use crate::document::hash;
 use crate::document::read::{open, word, Table};
+use crate::ffi::MAX_KEY;
 use crate::reading::Case;
 
 /// "ab" and "bA" have one hash, and so have "Ez" and "FY", alone or within a key.
@@ -27,7 +28,7 @@ pub fn key(dice: &Dice, separator: Option<u8>, known: &[Vec<u8>]) -> Vec<u8> {
     match dice.below(60) {
         0..=6 => key.push(separator),
         7 => key.extend(*dice.pick(&BROKEN)),
-        8 => key.extend(vec![b'k'; *dice.pick(&[1020, 1023, 1024, 1025, 70_000])]),
+        8 => key.extend(vec![b'k'; *dice.pick(&[MAX_KEY - 4, MAX_KEY - 1, MAX_KEY, MAX_KEY + 1, 70_000])]),
         _ => {}
     }
     if key.is_empty() && !dice.one_in(4) {

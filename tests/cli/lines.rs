@@ -1,6 +1,7 @@
 //! dump and build.
 
 use crate::harness::*;
+use crate::limits::*;
 use crate::model::{self, random};
 use crate::oracle::Oracle;
 use std::ffi::OsStr;
@@ -81,14 +82,11 @@ fn lines_that_are_refused() {
         (b"\xff\t01\n", 1, "line 1: the given key is not UTF-8"),
         (b"\\xff\t01\n", 1, "line 1: the given key is not UTF-8"),
         (b"\t01\n", 1, "(30)"),
-        (b"1\t2\t3\t4\t5\t6\t7\t8\t9\t01\n", 1, "line 1: tables would be nested more than 8 deep"),
-        (b"1\t2\t3\t4\t5\t6\t7\t8\t{}\n", 1, "(26)"),
     ] {
         let (place, ran) = laid("refused-lines", lines);
         ran.ends(status).says(said);
         assert!(!place.exists() && names(place.parent().unwrap()).is_empty());
     }
-    laid("deep", b"1\t2\t3\t4\t5\t6\t7\tk\t01\n").1.ends(0);
     laid("crlf", b"a\t01\r\nb\t02\r\n").1.ends(0).prints("2 values");
     laid("blank", b"\n").1.ends(0).prints("0 values, 32 bytes");
 }
@@ -96,23 +94,30 @@ fn lines_that_are_refused() {
 #[test]
 fn limits_are_named() {
     let flat = |count: usize| (0..count).map(|i| format!("{i}\t00\n")).collect::<String>();
-    laid("items", flat(1024).as_bytes()).1.ends(0);
-    laid("items", flat(1025).as_bytes()).1.ends(1).says("(22)");
+    laid("items", flat(MAX_ITEMS).as_bytes()).1.ends(0);
+    laid("items", flat(MAX_ITEMS + 1).as_bytes()).1.ends(1).says("(22)");
     let tables = |count: usize| (0..count).map(|i| format!("{i}\t{{}}\n")).collect::<String>();
-    laid("tables", tables(63).as_bytes()).1.ends(0);
-    laid("tables", tables(64).as_bytes()).1.ends(1).says("(27)");
+    laid("tables", tables(MAX_TABLES - 1).as_bytes()).1.ends(0);
+    laid("tables", tables(MAX_TABLES).as_bytes()).1.ends(1).says("(27)");
     let key = |length: usize| format!("{}\t00\n", "k".repeat(length));
-    laid("keys", key(1024).as_bytes()).1.ends(0);
-    laid("keys", key(1025).as_bytes()).1.ends(1).says("(20)");
+    laid("keys", key(MAX_KEY).as_bytes()).1.ends(0);
+    laid("keys", key(MAX_KEY + 1).as_bytes()).1.ends(1).says("(20)");
+    let nested = |tables: usize, last: &str| format!("{}{last}\n", "t\t".repeat(tables));
+    laid("nested", nested(MAX_NESTING - 1, "k\t01").as_bytes()).1.ends(0);
+    for (last, said) in [("k\t01", format!("line 1: tables would be nested more than {MAX_NESTING} deep")), ("{}", "(26)".into())] {
+        let (place, ran) = laid("nested", nested(MAX_NESTING, last).as_bytes());
+        ran.ends(1).says(&said);
+        assert!(!place.exists() && names(place.parent().unwrap()).is_empty());
+    }
     let long = |size: usize| format!("a\t{}\n", "00".repeat(size));
-    let (place, ran) = laid("long", long(16_777_216 - 64).as_bytes());
-    let progress = ran.ends(0).stderr;
-    assert!(progress.contains("laying 16,777,152 bytes of values") && fs::metadata(&place).unwrap().len() == 16_777_216);
-    let check = gvdb(["check".as_ref(), place.as_os_str()]).ends(0);
-    assert!(check.stderr.contains("16,777,216 bytes read") && check.stderr.contains("root table: checking 1 item"));
-    let ran = laid("long", long(16_777_216 - 63).as_bytes()).1.ends(1);
+    let (place, ran) = laid("long", long(MAX_FILE - 64).as_bytes());
+    let progress = ran.ends(0).stderr.replace(',', "");
+    assert!(progress.contains(&format!("laying {} bytes of values", MAX_FILE - 64)) && fs::metadata(&place).unwrap().len() == MAX_FILE as u64);
+    let check = gvdb(["check".as_ref(), place.as_os_str()]).ends(0).stderr.replace(',', "");
+    assert!(check.contains(&format!("{MAX_FILE} bytes read")) && check.contains("root table: checking 1 item"));
+    let ran = laid("long", long(MAX_FILE - 63).as_bytes()).1.ends(1);
     assert!(ran.stderr.lines().last().unwrap().contains("(31)"));
-    let mut file = vec![0; 16_777_217];
+    let mut file = vec![0; MAX_FILE + 1];
     file[..8].copy_from_slice(b"GVariant");
     let place = folder("too-long").join("f");
     fs::write(&place, file).unwrap();

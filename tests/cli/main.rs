@@ -6,6 +6,8 @@ mod diff;
 mod harness;
 mod json;
 mod keys;
+#[path = "../../bindings/rust/src/limits.rs"]
+mod limits;
 mod lines;
 mod merge;
 mod model;

@@ -2,6 +2,7 @@
 
 use crate::harness::*;
 use crate::json::Json;
+use crate::limits::*;
 use crate::model::{self, random, Merged, Node, Table};
 use crate::oracle::Oracle;
 use std::collections::BTreeSet;
@@ -197,18 +198,18 @@ fn limits_end_the_merge_with_nothing_written() {
     let tables = |from: usize, count: usize| (from..from + count).map(|i| format!("{i}\t{{}}\n")).collect::<String>();
     let value = |key: &str, size: usize| format!("{key}\t{}\n", "00".repeat(size));
     for (own, other, number) in [
-        (flat(0, 600), flat(600, 425), 22),
-        (tables(0, 40), tables(40, 24), 27),
-        (value("a", 9_000_000), value("b", 9_000_000), 31),
-        ("1\t2\t3\t4\t5\t6\t7\tk\t00\n".to_string(), flat(0, 1024), 22),
+        (flat(0, 600), flat(600, MAX_ITEMS - 599), 22),
+        (tables(0, 40), tables(40, MAX_TABLES - 40), 27),
+        (value("a", MAX_FILE / 2), value("b", MAX_FILE / 2), 31),
+        (format!("{}k\t00\n", "t\t".repeat(MAX_NESTING - 1)), flat(0, MAX_ITEMS), 22),
     ] {
         let pair = Pair::new("limits", &own, &other);
         let ran = pair.merge(&["--keep=own"]).ends(1);
         assert!(ran.stderr.lines().last().unwrap().contains(&format!("({number})")) && ran.stdout.is_empty(), "{}", ran.stderr);
         pair.refused();
     }
-    let pair = Pair::new("fits", &flat(0, 600), &flat(600, 424));
-    pair.merge(&[]).ends(0).prints("1,024 values");
+    let pair = Pair::new("fits", &flat(0, 600), &flat(600, MAX_ITEMS - 600));
+    assert!(pair.merge(&[]).ends(0).text().replace(',', "").contains(&format!("{MAX_ITEMS} values")));
 }
 
 /// A key over 1,024 bytes, an item with the empty key and nine tables in each other can be in a file, but not in OUT.
@@ -216,10 +217,10 @@ fn limits_end_the_merge_with_nothing_written() {
 fn what_other_writers_lay_and_ours_refuses() {
     let Some(mut oracle) = Oracle::start() else { return };
     let mut deep = Table::from([("k".to_string(), Node::Value(vec![1]))]);
-    for _ in 0..8 {
+    for _ in 0..MAX_NESTING {
         deep = Table::from([("t".to_string(), Node::Table(deep))]);
     }
-    let long = Table::from([("k".repeat(1025), Node::Value(vec![1]))]);
+    let long = Table::from([("k".repeat(MAX_KEY + 1), Node::Value(vec![1]))]);
     for (table, number) in [(long, 20), (deep, 26)] {
         let pair = Pair::new("others", "a\t01\n", "");
         fs::write(pair.folder.join("other"), oracle.lay(&table)).unwrap();

@@ -1,6 +1,7 @@
 //! Usage, help, bad words, colours.
 
 use crate::harness::*;
+use crate::limits::*;
 use std::process::Command;
 
 const COMMANDS: [&str; 9] = ["check", "list", "tree", "get", "diff", "same", "merge", "dump", "build"];
@@ -23,6 +24,16 @@ fn every_command_has_help_with_an_example() {
             assert!(example.starts_with("    ") && example.contains(&format!("gvdb {command} ")), "{example}");
         }
     }
+}
+
+#[test]
+fn help_names_the_limits() {
+    let help = gvdb(["help", "merge"]).ends(0).text().replace(',', "").split_whitespace().collect::<Vec<_>>().join(" ");
+    let limits = format!(
+        "{MAX_ITEMS} items (containers included) in {MAX_TABLES} tables nested {MAX_NESTING} deep with keys of {MAX_KEY} bytes in {} MiB:",
+        MAX_FILE >> 20
+    );
+    assert!(help.contains(&format!("OUT holds at most {limits}")), "{help}");
 }
 
 #[test]

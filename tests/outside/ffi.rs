@@ -1,9 +1,12 @@
-//! The functions of libgvdb.a as the Rust crate binds them, and a builder over memory of its own.
-#![allow(dead_code)]
+//! The functions of libgvdb.a and their limits as the Rust crate has them, and a builder over memory of its own.
+#![allow(dead_code, unused_imports)]
 
 #[path = "../../bindings/rust/src/ffi.rs"]
 mod bound;
+#[path = "../../bindings/rust/src/limits.rs"]
+mod limits;
 pub use bound::*;
+pub use limits::*;
 
 #[link(name = "gvdb", kind = "static")]
 extern "C" {}

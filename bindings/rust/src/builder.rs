@@ -1,12 +1,13 @@
 //! Building and writing: tables in memory of their own, laid as an image.
 
 use crate::ffi;
+use crate::limits::{MAX_FILE, MAX_ITEMS, MAX_TABLES};
 use crate::refusal::{accepted, Refusal};
 use crate::table::Pointer;
 use std::fmt;
 
-/// Room beside keys and values in an image: 1,024 items with bucket, record, padding and child index, and 64 table heads take under 45,000 bytes.
-const IMAGE_FRAME: usize = 65_536;
+/// Room beside keys and values in an image, and more: an item takes 24 bytes of record, 4 of bucket, 4 of child index and at most 7 of padding, a table 8.
+const IMAGE_FRAME: usize = 64 * (MAX_ITEMS + MAX_TABLES);
 
 /// The kind of an item.
 #[derive(Clone, Copy, PartialEq, Eq, Hash, Debug)]
@@ -49,7 +50,8 @@ pub struct Image {
     pub root: Pointer,
 }
 
-/// Tables in the making. A builder holds at most 1,024 items and 64 tables, nested at most 8 deep, with keys of at most 1,024 bytes.
+/// Tables in the making. A builder holds at most [`MAX_ITEMS`] items and [`MAX_TABLES`] tables, nested at most [`MAX_NESTING`](crate::MAX_NESTING) deep, with keys
+/// of at most [`MAX_KEY`](crate::MAX_KEY) bytes.
 ///
 /// Whoever inserts is told whether something was replaced:
 ///
@@ -84,7 +86,7 @@ impl Builder {
     /// An empty builder with an arena of so many bytes. The arena holds each item's whole key, containers included, and each accepted value,
     /// replaced ones too; it does not grow, and an insert that would pass it is refused with 23.
     ///
-    /// `total of values + 1,048,576` is enough for every history that replaces nothing: 1,024 items have keys of at most 1,024 bytes.
+    /// `total of values + MAX_ITEMS * MAX_KEY` is enough for every history that replaces nothing.
     pub fn new(arena_bytes: usize) -> Builder {
         let mut words = vec![0; ffi::memory_words()];
         let mut arena = vec![0; arena_bytes];
@@ -117,7 +119,7 @@ impl Builder {
         Ok(counted.count as usize)
     }
 
-    /// Lays a table and those nested in it as an image. The builder stays as it was and usable. Refusals: 24, 30, 31 (over 16,777,216 bytes).
+    /// Lays a table and those nested in it as an image. The builder stays as it was and usable. Refusals: 24, 30, 31 (over [`MAX_FILE`] bytes).
     ///
     /// ```
     /// # use gvdb::{Builder, Refusal};
@@ -131,7 +133,7 @@ impl Builder {
     /// ```
     pub fn write(&mut self, table: TableNumber) -> Result<Image, Refusal> {
         // Keys and values of an image are in the arena, so this is room enough; a longer image is over the limit.
-        let room = self.arena.len().saturating_add(IMAGE_FRAME).min(crate::MAX_FILE);
+        let room = self.arena.len().saturating_add(IMAGE_FRAME).min(MAX_FILE);
         let mut bytes = vec![0; room];
         let written = ffi::write(&mut self.words, &self.arena, table.0, &mut bytes);
         accepted(written.number)?;

@@ -44,20 +44,11 @@ compile_error!("libgvdb.a is made for x86-64 Linux");
 
 mod builder;
 mod ffi;
+mod limits;
 mod refusal;
 mod table;
 
 pub use builder::{Builder, Image, Inserted, Kind, TableNumber};
+pub use limits::{MAX_FILE, MAX_ITEMS, MAX_KEY, MAX_NESTING, MAX_TABLES};
 pub use refusal::{Refusal, Unsound};
 pub use table::{Entries, Entry, Item, Keys, Pointer, Table, Tables, Values};
-
-/// The longest file that is read, and the longest image that is laid, in bytes.
-pub const MAX_FILE: usize = 16_777_216;
-/// The most items that a builder holds, over all its tables.
-pub const MAX_ITEMS: usize = 1024;
-/// The most tables that a builder holds.
-pub const MAX_TABLES: usize = 64;
-/// The deepest that a builder's tables nest, the root at 1.
-pub const MAX_NESTING: usize = 8;
-/// The longest key that a builder takes, in bytes.
-pub const MAX_KEY: usize = 1024;

@@ -228,7 +228,7 @@ impl<'a> Table<'a> {
             let key = ffi::next_key(self.file, self.pointer.start, self.pointer.end, index, buffer);
             match accepted(key.number) {
                 Err(Refusal::BufferTooShort) if buffer.len() < KEY_ROOM => {
-                    let room = (buffer.len() * 2).clamp(1024, KEY_ROOM);
+                    let room = (buffer.len() * 2).clamp(crate::MAX_KEY, KEY_ROOM);
                     buffer.resize(room, 0);
                 }
                 Err(refusal) => return Err(refusal),

@@ -1,6 +1,6 @@
-//! The crate from outside: growth of buffers, items that are passed over, limits, and the refusals' names.
+//! The crate from outside: growth of buffers, items that are passed over, and the refusals.
 
-use gvdb::{Builder, Image, Inserted, Item, Kind, Refusal, Table, MAX_FILE, MAX_ITEMS, MAX_KEY, MAX_TABLES};
+use gvdb::{Builder, Image, Inserted, Item, Kind, Refusal, Table, MAX_KEY};
 
 fn flat(entries: &[(&str, &[u8])]) -> Image {
     let mut builder = Builder::new(1 << 20);
@@ -71,7 +71,7 @@ fn tables_are_those_of_the_entries() {
 
 #[test]
 fn a_listed_key_longer_than_any_builder_takes() {
-    let (long, longer) = ("a".repeat(1000), "b".repeat(1024));
+    let (long, longer) = ("a".repeat(1000), "b".repeat(MAX_KEY));
     let mut image = flat(&[(&long, b""), (&longer, b"")]);
     let child = open(&image).keys().position(|key| key.unwrap() == longer).unwrap();
     let parent = record(&image, child) + 4;
@@ -107,46 +107,14 @@ fn kinds_of_entries_and_of_replaced_items() {
 }
 
 #[test]
-fn the_builders_limits() {
-    let mut builder = Builder::new(1 << 21);
-    let root = builder.new_table(None).unwrap();
-    assert_eq!(builder.insert(root, "k".repeat(MAX_KEY), ""), Ok(Inserted::New));
-    assert_eq!(builder.insert(root, "k".repeat(MAX_KEY + 1), ""), Err(Refusal::KeyTooLong));
+fn other_refusals_of_the_builder() {
+    let mut builder = Builder::new(3);
+    let root = builder.new_table(Some(b'/')).unwrap();
     assert_eq!(builder.insert(root, b"\xC3", ""), Err(Refusal::KeyNotUtf8));
-    for i in 1..MAX_ITEMS {
-        assert_eq!(builder.insert(root, i.to_string(), ""), Ok(Inserted::New));
-    }
-    assert_eq!(builder.insert(root, "one more", ""), Err(Refusal::TooManyItems));
-    assert_eq!(builder.item_count(root), Ok(MAX_ITEMS));
-    assert_eq!(builder.new_table(Some(0)), Err(Refusal::SeparatorOutside));
-    assert_eq!(builder.new_table(Some(128)), Err(Refusal::SeparatorOutside));
-    for _ in 1..MAX_TABLES {
-        builder.new_table(Some(b':')).unwrap();
-    }
-    assert_eq!(builder.new_table(None), Err(Refusal::TooManyTables));
+    assert_eq!(builder.insert(root, "a/b", ""), Err(Refusal::ArenaFull));
     assert_eq!(builder.insert_table(root, "1", root), Err(Refusal::TableInItself));
-    let mut small = Builder::new(3);
-    let root = small.new_table(Some(b'/')).unwrap();
-    assert_eq!(small.insert(root, "a/b", ""), Err(Refusal::ArenaFull));
-}
-
-/// The room that a write lends is enough for every image: keys of 1,024 bytes that share nothing, each with a value that needs padding.
-#[test]
-fn the_largest_frame_and_the_longest_image() {
-    let mut builder = Builder::new(1024 * 1025);
-    let root = builder.new_table(None).unwrap();
-    for i in 0..MAX_ITEMS {
-        assert_eq!(builder.insert(root, format!("{i:01024}"), [1]), Ok(Inserted::New));
-    }
-    assert!(builder.write(root).unwrap().bytes.len() > 1024 * 1024);
-
-    let frame = flat(&[("a", b"")]).bytes.len();
-    let longest = MAX_FILE - frame;
-    for (size, answer) in [(longest, Ok(MAX_FILE)), (longest + 1, Err(Refusal::ImageTooLong))] {
-        let mut builder = Builder::new(MAX_FILE + 1);
-        let root = builder.new_table(None).unwrap();
-        assert_eq!(builder.insert(root, "a", vec![0xFF; size]), Ok(Inserted::New));
-        assert_eq!(builder.write(root).map(|image| image.bytes.len()), answer);
+    for separator in [0, 128] {
+        assert_eq!(builder.new_table(Some(separator)), Err(Refusal::SeparatorOutside));
     }
 }
 

@@ -1,5 +1,6 @@
 //! The builder: what each call answers, from what was accepted before.
 
+use crate::ffi::{MAX_ITEMS, MAX_KEY, MAX_NESTING, MAX_TABLES};
 use std::collections::BTreeMap;
 
 #[derive(Clone, PartialEq, Eq, Debug)]
@@ -51,7 +52,7 @@ impl Builder {
             [byte @ 1..=127] => Some(*byte),
             _ => return Err(28),
         };
-        if self.tables.len() == 64 {
+        if self.tables.len() == MAX_TABLES {
             return Err(27);
         }
         self.tables.push(Table { separator, items: BTreeMap::new(), placed: false });
@@ -68,7 +69,7 @@ impl Builder {
     /// 8, 20, 21.
     fn path<'k>(&self, table: usize, key: &'k [u8]) -> Result<Vec<&'k [u8]>, u32> {
         std::str::from_utf8(key).map_err(|_| 8u32)?;
-        if key.len() > 1024 {
+        if key.len() > MAX_KEY {
             return Err(20);
         }
         let path = prefixes(key, self.tables[table].separator);
@@ -82,7 +83,7 @@ impl Builder {
     /// 22, 23, or the kind that was replaced.
     fn put(&mut self, table: usize, path: Vec<&[u8]>, held: Held) -> Result<u32, u32> {
         let missing: Vec<&[u8]> = path.iter().copied().filter(|prefix| !self.tables[table].items.contains_key(*prefix)).collect();
-        if self.items + missing.len() > 1024 {
+        if self.items + missing.len() > MAX_ITEMS {
             return Err(22);
         }
         let value = if let Held::Value(bytes) = &held { bytes.len() } else { 0 };
@@ -120,7 +121,7 @@ impl Builder {
             return Err(25);
         }
         let path = self.path(table, key)?;
-        if self.height(guest) + 1 > 8 {
+        if self.height(guest) + 1 > MAX_NESTING {
             return Err(26);
         }
         let news = self.news(table, path, Held::Table(guest))?;

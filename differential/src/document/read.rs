@@ -1,6 +1,7 @@
 //! The layout of a table, lookup, listing and the check's six rules.
 
 use super::hash;
+use crate::ffi::MAX_FILE;
 use crate::tally::Place;
 
 const ROOT: u32 = u32::MAX;
@@ -37,7 +38,7 @@ pub struct Table<'f> {
 
 /// 1, the pointer's errors, 4, 5, 6, 7.
 pub fn open(file: &[u8], start: u32, end: u32) -> Result<Table<'_>, u32> {
-    if file.len() > 16_777_216 {
+    if file.len() > MAX_FILE {
         return Err(1);
     }
     let (start, end) = (start as usize, end as usize);
