@@ -1,7 +1,7 @@
-//! Every difference that docs/DIFFERENCES.md lists, with its smallest input, as both sides have it. What gvdb-rs cannot be asked is asked here alone.
+//! Every difference that docs/DIFFERENCES.md lists, with its smallest input, as both sides have it; those of the limits are in limits.rs. What gvdb-rs cannot be asked is asked here alone.
 
 use crate::document;
-use crate::ffi::{memory_words, MAX_FILE, MAX_ITEMS, MAX_KEY, MAX_NESTING, MAX_TABLES};
+use crate::ffi::{memory_words, MAX_FILE};
 use crate::lent::{File, Memory};
 use crate::ours;
 use crate::tally::{Outcome, Tally};
@@ -111,38 +111,6 @@ fn headers_and_buffers() {
     assert_eq!((memory.insert(0, b"b", b""), memory.write(0, 999).is_ok()), (Ok(0), true));
 }
 
-/// Keys over 1,024 bytes; over 65,535 gvdb-rs cuts their length to sixteen bits.
-fn long_keys() {
-    let (mut memory, mut rust) = builder(1 << 18);
-    let key = vec![b'k'; 65_537];
-    let text = std::str::from_utf8(&key).expect("letters");
-    assert_eq!((memory.insert(0, &key[..MAX_KEY + 1], b""), rust.insert(0, &text[..MAX_KEY + 1], b"")), (Err(20), Ok(1)));
-    assert_eq!((memory.insert(0, &key, b""), rust.insert(0, text, b"")), (Err(20), Ok(2)));
-    let there = File::new(&rust.write(0).expect("an image"));
-    let found = |key: &str| theirs::with_root(there.bytes(), |opened| theirs::get(there.bytes(), opened.expect("opens"), key).err());
-    assert_eq!((found(&text[..MAX_KEY + 1]), found(text), found("k")), (None, Some(12), Some(12)));
-}
-
-/// One item, one table and one level too many.
-fn limits() {
-    let (mut memory, mut rust) = builder(1 << 18);
-    for index in 0..=MAX_ITEMS {
-        let (key, full) = (format!("{index}"), index == MAX_ITEMS);
-        assert_eq!((memory.insert(0, key.as_bytes(), b""), rust.insert(0, &key, b"")), (if full { Err(22) } else { Ok(0) }, Ok(index as u32 + 1)));
-    }
-    let (mut memory, mut rust) = builder(1 << 10);
-    for table in 1..=MAX_TABLES as u32 {
-        rust.new_table(b"");
-        assert_eq!(memory.new_table(b""), if table == MAX_TABLES as u32 { Err(27) } else { Ok(table) });
-    }
-    for table in 1..=MAX_NESTING as u32 {
-        let ours = memory.insert_table(table, b"t", table - 1);
-        assert_eq!((ours, rust.insert_table(table as usize, "t", table as usize - 1)), (if table == MAX_NESTING as u32 { Err(26) } else { Ok(0) }, Ok(1)));
-    }
-    assert_eq!((memory.insert_table(9, b"t", 9), memory.insert_table(9, b"t", 3), memory.insert(3, b"t", b"")), (Err(25), Err(24), Err(24)));
-    assert!(rust.write(MAX_NESTING).is_ok());
-}
-
 fn separators() {
     let mut memory = builder(9).0;
     let mut there = HashTableBuilder::with_path_separator(Some("::"));
@@ -153,35 +121,10 @@ fn separators() {
     }
 }
 
-/// An image of just the longest length, and one byte more.
-fn longest_image() {
-    for (size, longer) in [(MAX_FILE - 64, false), (MAX_FILE - 63, true)] {
-        let (mut memory, mut rust) = builder(MAX_FILE);
-        let value = vec![7; size];
-        assert_eq!((memory.insert(0, b"a", &value), rust.insert(0, "a", &value)), (Ok(0), Ok(1)));
-        let (ours, there) = (memory.write(0, MAX_FILE + 9), rust.write(0).expect("an image"));
-        assert_eq!(there.len(), MAX_FILE + usize::from(longer));
-        match ours {
-            Ok((image, _)) => assert!(!longer && image[24..] == there[24..]),
-            Err(number) => assert!(longer && number == 31),
-        }
-    }
-}
-
 pub fn show(tally: &mut Tally) -> Outcome {
-    let corners: [fn(); 11] = [
-        file_length,
-        bloom_words_and_buckets,
-        address,
-        loops_of_parents,
-        small_ones,
-        headers_and_buffers,
-        long_keys,
-        limits,
-        separators,
-        longest_image,
-        || assert_eq!(document::hash("\u{e9}".as_bytes()), 5_866_513),
-    ];
+    let corners: [fn(); 8] = [file_length, bloom_words_and_buckets, address, loops_of_parents, small_ones, headers_and_buffers, separators, || {
+        assert_eq!(document::hash("\u{e9}".as_bytes()), 5_866_513)
+    }];
     for corner in corners {
         corner();
         tally.alone("corners of docs/DIFFERENCES.md", 1);

@@ -1,12 +1,12 @@
-//! Memory that no history made: every call answers, a refusal changes nothing, and what is written passes the check.
+//! Memory that no history made: every call answers, a refusal changes nothing, and what is written passes the check. Each rule that a write judges, broken by one word.
 
 use crate::building::Call;
 use crate::dice::Dice;
-use crate::ffi::{memory_words, MAX_ITEMS, MAX_TABLES};
+use crate::ffi::{memory_words, MAX_ITEMS, MAX_KEY, MAX_NESTING, MAX_TABLES};
 use crate::lent::Memory;
 use crate::make;
 use crate::ours;
-use crate::tally::{Outcome, Tally, Who};
+use crate::tally::{Difference, Outcome, Tally, Who};
 
 /// Where the words of a builder's memory stand: header, tables of 4 words, heads of buckets, items of 12 words, links.
 const TABLES: usize = 8;
@@ -29,19 +29,29 @@ fn any_word(dice: &Dice) -> usize {
     }
 }
 
-/// Honest memory with some words changed.
-fn tampered(dice: &Dice) -> Memory {
-    let room = 700;
+/// A fresh builder with so much room and these tables.
+fn fresh_tables(room: usize, separators: &[&[u8]]) -> Memory {
     let mut memory = Memory::new(&vec![0; memory_words()], &vec![0; room]);
-    memory.fresh();
-    memory.new_table(b"/").expect("room");
-    memory.new_table(b"").expect("room");
+    assert_eq!(memory.fresh(), 0);
+    separators.iter().for_each(|separator| assert!(memory.new_table(separator).is_ok()));
+    memory
+}
+
+/// A builder of two tables with a few items.
+fn honest(dice: &Dice) -> Memory {
+    let mut memory = fresh_tables(700, &[b"/", b""]);
     for index in 0..dice.below(14) {
         let _ = memory.insert((index % 2) as u32, format!("p/{}/{}", index % 3, dice.below(9)).as_bytes(), b"value");
     }
     if dice.one_in(2) {
         let _ = memory.insert_table(0, b"p/t", 1);
     }
+    memory
+}
+
+/// Honest memory with some words changed.
+fn tampered(dice: &Dice) -> Memory {
+    let mut memory = honest(dice);
     for _ in 0..dice.below(4) {
         let (from, size) = *dice.pick(&PARTS);
         let at = from + dice.below(size);
@@ -78,6 +88,26 @@ fn of_other_length(dice: &Dice) -> Memory {
     Memory::new(&words, &dice.bytes(room))
 }
 
+/// Honest memory with words changed that are mostly not used, with an arena that is a byte shorter than it was, or with small words alone.
+pub fn slightly(dice: &Dice) -> Memory {
+    let mut memory = honest(dice);
+    match dice.below(4) {
+        0 => memory.words().iter_mut().for_each(|word| *word = dice.below(3)),
+        1 => return memory.lend(|words, arena| Memory::new(words, &arena[..arena.len() - 1])),
+        _ => (0..dice.below(4)).for_each(|_| memory.words()[dice.below(WORDS)] = any_word(dice)),
+    }
+    memory
+}
+
+/// The kinds of memory that every seed has.
+pub fn any(dice: &Dice) -> Memory {
+    match dice.below(5) {
+        0 => of_other_length(dice),
+        1 | 2 => random(dice),
+        _ => tampered(dice),
+    }
+}
+
 fn any_call(dice: &Dice) -> Call {
     let table = if dice.one_in(9) { u32::MAX } else { dice.below(4) as u32 };
     match dice.below(8) {
@@ -105,16 +135,12 @@ fn answer(memory: &mut Memory, call: &Call, room: usize) -> (u32, Option<(Vec<u8
 }
 
 /// A few calls on one memory, which are noted before they are made.
-pub fn compare(dice: &Dice, tally: &mut Tally, calls: &mut Vec<Call>) -> Outcome {
-    let mut memory = match dice.below(5) {
-        0 => of_other_length(dice),
-        1 | 2 => random(dice),
-        _ => tampered(dice),
-    };
+pub fn compare(dice: &Dice, memory: fn(&Dice) -> Memory, tally: &mut Tally, calls: &mut Vec<Call>) -> Outcome {
+    let mut memory = memory(dice);
     for _ in 0..1 + dice.below(6) {
         let call = any_call(dice);
         calls.push(call.clone());
-        step(&mut memory, &call, *dice.pick(&[0, 24, 100, 4096]), tally)?;
+        let _number = step(&mut memory, &call, *dice.pick(&[0, 24, 100, 4096]), tally)?;
     }
     fresh(dice, tally)
 }
@@ -139,7 +165,8 @@ fn fresh(dice: &Dice, tally: &mut Tally) -> Outcome {
     Ok(())
 }
 
-fn step(memory: &mut Memory, call: &Call, room: usize, tally: &mut Tally) -> Outcome {
+/// One call, and the number of its answer.
+fn step(memory: &mut Memory, call: &Call, room: usize, tally: &mut Tally) -> Result<u32, Difference> {
     let before = memory.clone();
     let mut twin = memory.clone();
     let (number, image) = answer(memory, call, room);
@@ -148,8 +175,89 @@ fn step(memory: &mut Memory, call: &Call, room: usize, tally: &mut Tally) -> Out
     let reads = matches!(call, Call::Count(_) | Call::Write(_));
     assert!((number == 0 && !reads) || *memory == before, "a refusal, a count or a write changed garbage memory");
     assert!(answer(&mut twin, call, room) == (number, image.clone()) && twin == *memory, "the same call on the same memory differs");
-    match image {
-        Some((image, end)) => tally.same(Who::Document, "image passes", &ours::check(&image, 24, end), &Ok(None), || "of garbage memory".into()),
-        None => Ok(()),
+    if let Some((image, end)) = image {
+        tally.same(Who::Document, "image passes", &ours::check(&image, 24, end), &Ok(None), || "of garbage memory".into())?;
     }
+    Ok(number)
+}
+
+fn refused(mut memory: Memory, tally: &mut Tally, what: impl FnOnce() -> String) -> Outcome {
+    let number = step(&mut memory, &Call::Write(0), 999, tally)?;
+    tally.same(Who::Document, "a broken rule", &number, &29, what)
+}
+
+/// Where a word of an item and of a table stands.
+fn item(index: usize, word: usize) -> usize {
+    ITEMS + 12 * index + word
+}
+
+fn table(number: usize, word: usize) -> usize {
+    TABLES + 4 * number + word
+}
+
+/// Each rule, broken by one word.
+fn one_word(tally: &mut Tally) -> Outcome {
+    let mut honest = fresh_tables(4096, &[b"/", b""]);
+    for (table, key) in [(0, &b"a/b"[..]), (0, b"a/c"), (0, b"d"), (1, b"x")] {
+        assert_eq!(honest.insert(table, key, b"value"), Ok(0));
+    }
+    assert_eq!(honest.insert_table(0, b"t", 1), Ok(0));
+    assert!(honest.clone().write(0, 999).is_ok());
+    let holder = 5;
+    assert_eq!((honest.words().len(), honest.words()[item(holder, 6)]), (WORDS, 72));
+    let broken = [
+        (item(0, 0), 2),
+        (item(0, 1), 7),
+        (item(1, 3), 4000),
+        (item(1, 4), MAX_KEY + 1),
+        (item(1, 3), usize::MAX),
+        (item(0, 5), 2),
+        (item(1, 5), 4),
+        (item(2, 6), 0),
+        (item(2, 7), 5000),
+        (item(2, 8), usize::MAX),
+        (item(holder, 9), 2),
+        (item(holder, 9), 0),
+        (item(2, 6), 72),
+        (table(1, 1), 0),
+        (table(1, 2), 0),
+        (table(1, 2), MAX_NESTING),
+        (LINKS, 0),
+        (WORDS - 1, 1),
+        (2, MAX_TABLES + 1),
+        (3, MAX_ITEMS + 1),
+        (4, 4097),
+        (0, WORDS + 1),
+        (1, 4095),
+    ];
+    for (at, word) in broken {
+        let mut memory = honest.clone();
+        memory.words()[at] = word;
+        refused(memory, tally, || format!("word {at} set to {word}"))?;
+    }
+    Ok(())
+}
+
+/// As many tables as may nest, each of whose items holds the next: refused at once, and not after 128^8 steps.
+fn many_holders(tally: &mut Tally) -> Outcome {
+    let mut memory = fresh_tables(1 << 16, &[&b""[..]; MAX_NESTING]);
+    let each = MAX_ITEMS / MAX_NESTING;
+    for index in 0..MAX_ITEMS {
+        assert_eq!(memory.insert((index / each) as u32, (index % each).to_string().as_bytes(), b""), Ok(0));
+    }
+    let words = memory.words();
+    for index in 0..MAX_ITEMS - each {
+        words[item(index, 6)] = 72;
+        words[item(index, 9)] = index / each + 1;
+    }
+    for number in 1..MAX_NESTING {
+        words[table(number, 1)] = 1;
+        words[table(number, 2)] = MAX_NESTING - number;
+    }
+    refused(memory, tally, || "items that hold one table".into())
+}
+
+pub fn rules(tally: &mut Tally) -> Outcome {
+    one_word(tally)?;
+    many_holders(tally)
 }

@@ -10,6 +10,7 @@ mod document;
 mod ffi;
 mod garbage;
 mod lent;
+mod limits;
 mod make;
 mod ours;
 mod reading;
@@ -18,12 +19,13 @@ mod theirs;
 
 use building::History;
 use dice::Dice;
+use lent::Memory;
 use reading::Case;
 use std::io::{Seek, Write};
 use std::panic::{catch_unwind, AssertUnwindSafe};
 use std::process::ExitCode;
 use std::time::{Duration, Instant};
-use tally::{Difference, Tally, Who};
+use tally::{Difference, Outcome, Tally, Who};
 
 /// As many seeds as take about two minutes.
 const SEEDS: std::ops::Range<u64> = 0..50_000;
@@ -125,9 +127,18 @@ impl Run {
         Vec::new()
     }
 
-    fn garbage(&mut self, seed: u64, dice: &Dice) {
+    /// What is no history of a seed.
+    fn fixed(&mut self, show: fn(&mut Tally) -> Outcome, input: &str) {
+        let tally = &mut self.tally;
+        if let Err(difference) = caught(|| show(tally)) {
+            self.counted();
+            say(0, &difference, input);
+        }
+    }
+
+    fn garbage(&mut self, seed: u64, dice: &Dice, memory: fn(&Dice) -> Memory) {
         let (tally, mut calls) = (&mut self.tally, Vec::new());
-        let Err(difference) = caught(|| garbage::compare(dice, tally, &mut calls)) else { return };
+        let Err(difference) = caught(|| garbage::compare(dice, memory, tally, &mut calls)) else { return };
         if self.counted() {
             say(seed, &difference, &format!("garbage memory: {}", building::described(&calls)));
         }
@@ -153,7 +164,10 @@ impl Run {
             self.read(seed, &damaged);
             let random = make::random(dice);
             self.read(seed, &random);
-            self.garbage(seed, dice);
+            self.garbage(seed, dice, garbage::any);
+        }
+        if dice.one_in(12) {
+            self.garbage(seed, dice, garbage::slightly);
         }
     }
 }
@@ -185,11 +199,9 @@ fn all(arguments: Arguments) -> Run {
     let start = Instant::now();
     let mut run = Run { tally: Tally::default(), differences: 0 };
     let mut note = std::env::var("SEED_NOTE").ok().map(|path| std::fs::File::create(path).expect("a file for the seed"));
-    let tally = &mut run.tally;
-    if let Err(difference) = caught(|| corners::show(tally)) {
-        run.counted();
-        say(0, &difference, "a difference of docs/DIFFERENCES.md is not as it stands there");
-    }
+    run.fixed(corners::show, "a difference of docs/DIFFERENCES.md is not as it stands there");
+    run.fixed(limits::show, "a limit is not as it should be");
+    run.fixed(garbage::rules, "a write takes memory that breaks a rule");
     let mut seed = arguments.seeds.start;
     while seed < arguments.seeds.end || start.elapsed() < arguments.time {
         if let Some(file) = &mut note {
