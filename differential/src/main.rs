@@ -1,5 +1,5 @@
 //! This library, gvdb-rs and a third reading of document 01, asked the same questions in one process.
-//! Use: differential [--seeds A..B] [--minutes N]. A seed is a history of builder calls with its images and damaged copies of them, tables made by hand and
+//! Use: differential [--lists FOLDER] [--seeds A..B] [--minutes N]. The lists are the oracle's stored questions. A seed is a history of builder calls with its images and damaged copies of them, tables made by hand and
 //! at random, and a builder on garbage memory. With --minutes it goes on from the last seed for that long.
 
 mod building;
@@ -14,6 +14,7 @@ mod limits;
 mod make;
 mod ours;
 mod reading;
+mod stored;
 mod tally;
 mod theirs;
 
@@ -136,6 +137,17 @@ impl Run {
         }
     }
 
+    /// The questions of a list.
+    fn stored(&mut self, list: &str) {
+        let (histories, cases) = stored::read(list);
+        for history in &histories {
+            self.build(0, history).iter().for_each(|image| self.read(0, image));
+        }
+        cases.iter().for_each(|case| self.read_one(0, case));
+        self.tally.alone("stored histories", histories.len() as u64);
+        self.tally.alone("stored tables", cases.len() as u64);
+    }
+
     fn garbage(&mut self, seed: u64, dice: &Dice, memory: fn(&Dice) -> Memory) {
         let (tally, mut calls) = (&mut self.tally, Vec::new());
         let Err(difference) = caught(|| garbage::compare(dice, memory, tally, &mut calls)) else { return };
@@ -173,12 +185,13 @@ impl Run {
 }
 
 struct Arguments {
+    lists: Option<String>,
     seeds: std::ops::Range<u64>,
     time: Duration,
 }
 
 fn arguments() -> Option<Arguments> {
-    let mut found = Arguments { seeds: SEEDS, time: Duration::ZERO };
+    let mut found = Arguments { lists: None, seeds: SEEDS, time: Duration::ZERO };
     let mut rest = std::env::args().skip(1);
     while let Some(flag) = rest.next() {
         let value = rest.next()?;
@@ -187,6 +200,7 @@ fn arguments() -> Option<Arguments> {
                 let (from, to) = value.split_once("..")?;
                 found.seeds = from.parse().ok()?..to.parse().ok()?;
             }
+            "--lists" => found.lists = Some(value),
             "--minutes" => found.time = Duration::from_secs_f64(60.0 * value.parse::<f64>().ok()?),
             _ => return None,
         }
@@ -202,6 +216,9 @@ fn all(arguments: Arguments) -> Run {
     run.fixed(corners::show, "a difference of docs/DIFFERENCES.md is not as it stands there");
     run.fixed(limits::show, "a limit is not as it should be");
     run.fixed(garbage::rules, "a write takes memory that breaks a rule");
+    for list in arguments.lists.iter().flat_map(|folder| std::fs::read_dir(folder).expect("the lists")) {
+        run.stored(&std::fs::read_to_string(list.expect("a list").path()).expect("a list"));
+    }
     let mut seed = arguments.seeds.start;
     while seed < arguments.seeds.end || start.elapsed() < arguments.time {
         if let Some(file) = &mut note {
@@ -220,7 +237,7 @@ fn main() -> ExitCode {
         return ExitCode::SUCCESS;
     }
     let Some(arguments) = arguments() else {
-        println!("use: differential [--seeds A..B] [--minutes N]");
+        println!("use: differential [--lists FOLDER] [--seeds A..B] [--minutes N]");
         return ExitCode::from(2);
     };
     std::panic::set_hook(Box::new(|_| {}));
