@@ -1,4 +1,4 @@
-//! The tour of the README: every command of it is run, and prints what stands there.
+//! docs/TOUR.md: every command of it is run, and prints what stands there.
 
 use crate::harness::*;
 use std::env;
@@ -7,9 +7,8 @@ use std::fs;
 use std::process::Command;
 
 #[test]
-fn the_readme_shows_what_is_printed() {
-    let readme = fs::read_to_string(root().join("README.md")).unwrap();
-    let tour = readme.split("\n## A tour\n").nth(1).expect("the tour").split("\n## ").next().unwrap();
+fn the_tour_shows_what_is_printed() {
+    let tour = fs::read_to_string(root().join("docs/TOUR.md")).unwrap();
     let folder = folder("tour");
     let mut path = OsString::from(program().parent().unwrap());
     path.push(":");
