@@ -5,34 +5,12 @@ use crate::content::{self, Content, Node};
 use crate::failure::{name, Failure};
 use crate::header::ByteOrder;
 use crate::out::{same_place, Out, Pending};
-use crate::report::{Both, Outcome, Report};
+use crate::report::{Both, Outcome, Report, Side};
 use crate::source::Source;
 use crate::text;
 use std::ffi::OsStr;
 use std::io::Write;
 use std::path::Path;
-
-#[derive(Clone, Copy, PartialEq, Eq, Debug)]
-pub enum Side {
-    Own,
-    Other,
-}
-
-impl Side {
-    pub fn name(self) -> &'static str {
-        match self {
-            Side::Own => "own",
-            Side::Other => "other",
-        }
-    }
-
-    pub fn dropped(self) -> Side {
-        match self {
-            Side::Own => Side::Other,
-            Side::Other => Side::Own,
-        }
-    }
-}
 
 pub fn run(args: &Args, out: &mut Out) -> Result<u8, Failure> {
     let place = Path::new(args.needed("-o")?);

@@ -4,7 +4,6 @@ use crate::content::{self, Content, Node, Place};
 use crate::failure::Failure;
 use crate::header::ByteOrder;
 use crate::json::Json;
-use crate::merge::Side;
 use crate::out::{Colour, Out};
 use crate::source::Source;
 use crate::text;
@@ -12,6 +11,28 @@ use std::path::Path;
 
 /// Values of so many bytes are printed whole; the report's file and JSON have every byte.
 const SHORT: usize = 32;
+
+#[derive(Clone, Copy, PartialEq, Eq, Debug)]
+pub enum Side {
+    Own,
+    Other,
+}
+
+impl Side {
+    pub fn name(self) -> &'static str {
+        match self {
+            Side::Own => "own",
+            Side::Other => "other",
+        }
+    }
+
+    pub fn dropped(self) -> Side {
+        match self {
+            Side::Own => Side::Other,
+            Side::Other => Side::Own,
+        }
+    }
+}
 
 #[derive(Clone, Copy, PartialEq, Eq, Debug)]
 pub enum Outcome {
