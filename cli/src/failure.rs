@@ -49,6 +49,12 @@ impl Failure {
         Failure { status, line: format!("{what}: refusal {number}: {sentence}"), number: Some(number) }
     }
 
+    /// The failure, with what it means for the file that was to be written. Nobody may read standard output any more; then that is said too.
+    pub fn so(self, meaning: &str) -> Failure {
+        let line = if self.line.is_empty() { "standard output: nobody reads it any more" } else { &self.line };
+        Failure { line: format!("{line}; {meaning}"), ..self }
+    }
+
     /// A file or folder that the system does not let us read or write.
     pub fn system(path: &Path, error: io::Error) -> Failure {
         Failure::usage(format!("{}: {error}", name(path.as_os_str())))

@@ -94,9 +94,10 @@ pub fn names(folder: &Path) -> Vec<String> {
     names
 }
 
-/// Lays a file from lines.
+/// Lays a file from lines, where there may be one.
 #[track_caller]
 pub fn build(place: &Path, lines: &str) {
+    let _ = fs::remove_file(place);
     gvdb_fed(["build".as_ref(), "--empty".as_ref(), OsStr::new("-o"), place.as_os_str()], lines.as_bytes()).ends(0);
 }
 
