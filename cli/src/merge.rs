@@ -2,7 +2,7 @@
 
 use crate::args::Args;
 use crate::both::Side;
-use crate::content::{self, Content};
+use crate::content::{self, Content, Place};
 use crate::decide::Decisions;
 use crate::failure::{name, Failure};
 use crate::header::ByteOrder;
@@ -15,6 +15,7 @@ use crate::report::{End, Heading, Listener, Report};
 use crate::source::Source;
 use crate::target::{self, Target};
 use crate::text;
+use std::collections::BTreeSet;
 use std::ffi::OsStr;
 use std::fs;
 
@@ -33,12 +34,18 @@ pub fn run(args: &Args, out: &mut Out) -> Result<u8, Failure> {
     let merged = Merging::new(&decisions, job.keep, &mut report).tables(&base, &own, &other);
     report.idle = decisions.idle();
     report.values = content::values(&merged).len();
-    report.unmade = content::unmade(&merged, job.separator);
+    report.unmade = unmade([&own, &other], &merged, job.separator);
     report.lost = old.as_ref().map_or(Vec::new(), |old| replace::lost(old, &old_content, &merged, order));
 
     let mut error = Out::error();
     let told = if places.out.is_standard() { &mut error } else { out };
     carry_out(&job, &places, &report, told, |name| job.lay(name, &report, &merged, order))
+}
+
+/// The containers that cannot be in OUT. One that the keys below it made in its own file goes with them.
+fn unmade(files: [&Content; 2], merged: &Content, separator: Option<u8>) -> Vec<Place> {
+    let before: BTreeSet<Place> = files.into_iter().flat_map(|file| content::unmade(file, separator)).collect();
+    content::unmade(merged, separator).into_iter().filter(|place| before.contains(place)).collect()
 }
 
 /// The options.

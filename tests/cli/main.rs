@@ -3,6 +3,7 @@
 mod damage;
 mod harness;
 mod json;
+mod keeper;
 mod lines;
 mod merge;
 mod model;

@@ -94,6 +94,45 @@ fn drop_values(node: &Node, place: &[String], merged: &mut Merged) {
     }
 }
 
+/// What a merge since a base makes of two tables, and where it is in conflict.
+pub fn merge_since(base: &Table, own: &Table, other: &Table, keep_own: bool, path: &[String], conflicts: &mut BTreeSet<Vec<String>>) -> Table {
+    let mut out = Table::new();
+    for key in own.keys().chain(other.keys()).collect::<BTreeSet<_>>() {
+        let place = [path, std::slice::from_ref(key)].concat();
+        let stands = match (base.get(key), own.get(key), other.get(key)) {
+            (before, Some(Node::Table(a)), Some(Node::Table(b))) => {
+                let nothing = Table::new();
+                let before = if let Some(Node::Table(before)) = before { before } else { &nothing };
+                Some(Node::Table(merge_since(before, a, b, keep_own, &place, conflicts)))
+            }
+            (_, a, b) if a == b => a.cloned(),
+            (before, a, b) if a == before => b.cloned(),
+            (before, a, b) if b == before => a.cloned(),
+            (_, a, b) => {
+                conflicts.insert(place);
+                if keep_own { a } else { b }.cloned()
+            }
+        };
+        out.extend(stands.map(|node| (key.clone(), node)));
+    }
+    out
+}
+
+/// A table with some keys removed, changed and new.
+pub fn changed(table: &Table, dice: &mut Dice) -> Table {
+    let mut out = random(dice, 1);
+    out.retain(|_, _| dice.below(6) == 0);
+    for (key, node) in table {
+        match (node, dice.below(4)) {
+            (_, 0) => {}
+            (Node::Table(nested), 1 | 2) => drop(out.insert(key.clone(), Node::Table(changed(nested, dice)))),
+            (_, 1) => drop(out.insert(key.clone(), Node::Value(vec![dice.below(3) as u8]))),
+            (node, _) => drop(out.insert(key.clone(), node.clone())),
+        }
+    }
+    out
+}
+
 /// A table of a few keys that often meet those of another.
 pub fn random(dice: &mut Dice, depth: u32) -> Table {
     let mut table = Table::new();
