@@ -10,7 +10,7 @@ use crate::input::{self, Input};
 use crate::json::Json;
 use crate::lay::lay;
 use crate::out::Out;
-use crate::report::{lost_line, told, why_unmade, Listener};
+use crate::report::{lost_line, told, why_unmade};
 use crate::source::Source;
 use crate::target::{self, Target};
 use crate::{replace, text};
@@ -101,7 +101,7 @@ pub fn build(args: &Args, out: &mut Out) -> Result<u8, Failure> {
     let out = if target.is_standard() { &mut error } else { out };
     let lost = old.as_ref().map_or(Vec::new(), |old| replace::lost(old, &old_content, &lines.content, order));
     let lost = lost.iter().map(|(place, leaf)| lost_line(place, leaf, usize::MAX)).collect();
-    let lost = told(lost, Listener { json: false, dropped_whole: true, whole: true, out: Some(out) });
+    let lost = told(lost, Some(out));
     let left_out = unmade.iter().map(|(path, key)| format!("note container {} is left out: {}\n", text::path(path, key), why_unmade(key, separator)));
     out.tell(&(lost + &left_out.collect::<String>())).map_err(|failure| failure.so(&format!("{} is not written", target.name)))?;
     image.put()?;
@@ -174,39 +174,36 @@ impl Lines {
             value if value == CONTAINER.as_bytes() => Node::Container,
             hex => Node::Value(Cow::Owned(text::unhex(hex).ok_or_else(|| bad("the value is neither pairs of hex digits nor {} nor []"))?)),
         };
-        for depth in 0..keys.len() {
-            self.item(&keys[..depth], keys[depth].clone(), Node::Table(Content::new()), number)?;
-        }
-        self.item(&keys, key, node, number)
+        self.item(keys, key, node, number)
     }
 
-    /// Puts an item in its table. One that is there already may only be a table again.
-    fn item(&mut self, path: &[String], key: String, node: Node<'static>, number: usize) -> Result<(), Failure> {
-        let kind = |node: &Node| match node {
-            Node::Value(_) => "a value",
-            Node::Table(_) => "a table",
-            Node::Container => "a container",
-        };
-        let table = path.iter().try_fold(&mut self.content, |table, key| match table.get_mut(key) {
-            Some(Node::Table(nested)) => Some(nested),
-            _ => None,
-        });
-        let Some(table) = table else { return Ok(()) };
-        let place = (path.to_vec(), key);
-        match (table.get(&place.1), &node) {
-            (Some(Node::Table(_)), Node::Table(_)) => return Ok(()),
-            (Some(there), node) => {
-                let named = text::cut(&text::path(&place.0, &place.1));
-                let before = self.numbers.get(&place).copied().unwrap_or_default();
-                return Err(Failure::usage(match kind(there) == kind(node) {
-                    true => format!("line {number}: key {named} stands on line {before} too"),
-                    false => format!("line {number}: key {named} is {} here and {} on line {before}", kind(node), kind(there)),
-                }));
+    /// Puts an item in its table, with the tables around it. What stands on a line already may only be a table again.
+    fn item(&mut self, keys: Vec<String>, key: String, node: Node<'static>, number: usize) -> Result<(), Failure> {
+        let Lines { content, numbers, .. } = self;
+        let mut place = (Vec::new(), String::new());
+        let mut table = content;
+        for key in keys {
+            place.1.clone_from(&key);
+            let there = table.entry(key).or_insert_with(|| {
+                numbers.insert(place.clone(), number);
+                Node::Table(Content::new())
+            });
+            match there {
+                Node::Table(nested) => table = nested,
+                there => return Err(clash(&place, there, "a table", numbers, number)),
             }
-            (None, _) => table.insert(place.1.clone(), node),
-        };
-        self.numbers.insert(place, number);
-        Ok(())
+            place.0.push(std::mem::take(&mut place.1));
+        }
+        place.1.clone_from(&key);
+        match (table.get(&key), &node) {
+            (None, _) => {
+                table.insert(key, node);
+                numbers.insert(place, number);
+                Ok(())
+            }
+            (Some(Node::Table(_)), Node::Table(_)) => Ok(()),
+            (Some(there), node) => Err(clash(&place, there, kind(node), numbers, number)),
+        }
     }
 
     /// An item, for a message.
@@ -214,4 +211,22 @@ impl Lines {
         let number = self.numbers.get(&(path.to_vec(), key.to_string())).copied().unwrap_or_default();
         format!("line {number}: key {}", text::cut(&text::path(path, key)))
     }
+}
+
+fn kind(node: &Node) -> &'static str {
+    match node {
+        Node::Value(_) => "a value",
+        Node::Table(_) => "a table",
+        Node::Container => "a container",
+    }
+}
+
+/// A key that is on a line already.
+fn clash(place: &Place, there: &Node, here: &str, numbers: &BTreeMap<Place, usize>, number: usize) -> Failure {
+    let named = text::cut(&text::path(&place.0, &place.1));
+    let before = numbers.get(place).copied().unwrap_or_default();
+    Failure::usage(match kind(there) {
+        there if there == here => format!("line {number}: key {named} stands on line {before} too"),
+        there => format!("line {number}: key {named} is {here} here and {there} on line {before}"),
+    })
 }

@@ -13,7 +13,7 @@ use crate::out::Out;
 use crate::replace;
 use crate::report::{End, Heading, Listener, Report};
 use crate::source::Source;
-use crate::target::{self, Target};
+use crate::target::{self, Pending, Target};
 use crate::text;
 use std::collections::BTreeSet;
 use std::ffi::OsStr;
@@ -124,26 +124,12 @@ fn carry_out(job: &Job, places: &Places, report: &Report, out: &mut Out, lay: im
     let untold = |failure: Failure| failure.so(&format!("{name} is not written"));
     // The first line goes ahead, so that a reader who wants no more has gone when the others follow.
     out.tell(&report.head(job.listener(Some(out)))).map_err(untold)?;
-    let laid = lay(name);
-    let mut done = Ok(());
-    let mut image = None;
-    let mut file = None;
-    match laid.and_then(|bytes| if job.dry_run { Ok(None) } else { places.out.write(bytes).map(Some) }) {
-        Ok(pending) => image = pending,
-        Err(failure) => done = Err(failure),
-    }
-    let bytes = || report.head(job.listener(None)) + &report.body(job.listener(None));
-    match places.report.as_ref().map(|target| target.write(bytes().into_bytes())).transpose() {
-        Ok(pending) => file = pending,
-        Err(failure) => done = Err(failure),
-    }
+    let image = lay(name).and_then(|bytes| if job.dry_run { Ok(None) } else { places.out.write(bytes).map(Some) });
+    let text = || report.head(job.listener(None)) + &report.body(job.listener(None));
+    let file = places.report.as_ref().map(|target| target.write(text().into_bytes())).transpose();
     out.tell(&report.body(job.listener(Some(out)))).map_err(untold)?;
-    if let Some(Err(failure)) = file.as_mut().map(|file| file.put()) {
-        (file, done) = (None, Err(failure));
-    }
-    if let (Ok(()), Some(image)) = (&done, &mut image) {
-        done = image.put();
-    }
+
+    let (file, done) = put(file, image);
     let end = match &done {
         Ok(()) if job.dry_run => End::WouldBe,
         Ok(()) => End::Merged,
@@ -157,6 +143,18 @@ fn carry_out(job: &Job, places: &Places, report: &Report, out: &mut Out, lay: im
     added.map_err(|error| Failure::usage(format!("--report: {error}")).so(&written))?;
     told.map_err(|failure| failure.so(&written))?;
     Ok(0)
+}
+
+/// The last steps: the report, then OUT. The report is written for a refused merge too, and is handed back for its last line; without it nothing is merged.
+fn put<'t>(file: Result<Option<Pending<'t>>, Failure>, image: Result<Option<Pending<'t>>, Failure>) -> (Option<Pending<'t>>, Result<(), Failure>) {
+    let put = |pending: Option<Pending<'t>>| match pending {
+        Some(mut pending) => pending.put().map(|()| Some(pending)),
+        None => Ok(None),
+    };
+    match file.and_then(put) {
+        Ok(file) => (file, image.and_then(put).map(|_| ())),
+        Err(failure) => (None, Err(failure)),
+    }
 }
 
 /// Where the merge writes.

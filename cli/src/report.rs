@@ -97,7 +97,7 @@ impl<'a> Report<'a> {
             return "{".to_string() + &inner(vec![("own", Json::text(own)), ("other", Json::text(other))]);
         }
         let base = base.as_ref().map_or(String::new(), |base| format!(" since base {base}"));
-        told(vec![line("merge", None, format!(" of own {own} and other {other}{base}"))], listener)
+        told(vec![line("merge", None, format!(" of own {own} and other {other}{base}"))], listener.out)
     }
 
     /// All that is known before OUT is in its place.
@@ -118,7 +118,7 @@ impl<'a> Report<'a> {
             lines.push(line("note", Colour::Yellow, rest));
         }
         lines.extend(self.lost.iter().map(|(place, leaf)| lost_line(place, leaf, room.dropped)));
-        told(lines, listener)
+        told(lines, listener.out)
     }
 
     /// The last line, or the last fields: they say what came of it.
@@ -133,7 +133,7 @@ impl<'a> Report<'a> {
             End::Refused(None) => ("refused", Colour::Red, format!(": {out} is not written")),
             End::Refused(Some(why)) => ("refused", Colour::Red, format!(": {out} is not written ({why})")),
         };
-        told(vec![line(word, colour, format!("{rest}; {}", self.counts()))], listener)
+        told(vec![line(word, colour, format!("{rest}; {}", self.counts()))], listener.out)
     }
 
     fn counts(&self) -> String {
@@ -214,9 +214,9 @@ pub fn why_unmade(key: &str, separator: Option<u8>) -> String {
     }
 }
 
-/// Lines as the listener gets them.
-pub fn told(lines: Vec<Line>, listener: Listener) -> String {
-    let paint = |word: &str, colour: Option<Colour>| match (listener.out, colour) {
+/// Lines with the colours of where they go.
+pub fn told(lines: Vec<Line>, out: Option<&Out>) -> String {
+    let paint = |word: &str, colour: Option<Colour>| match (out, colour) {
         (Some(out), Some(colour)) => out.paint(colour, word),
         _ => word.to_string(),
     };
