@@ -45,9 +45,9 @@ impl Lock {
 }
 
 impl Drop for Lock {
-    /// The file goes while it is still locked: nobody else removes it then.
+    /// The file goes while it is still locked: nobody else removes it then. One that is not empty is not ours.
     fn drop(&mut self) {
-        if leads_to(&self.path, &self.file) {
+        if leads_to(&self.path, &self.file) && self.file.metadata().is_ok_and(|held| held.len() == 0) {
             let _ = fs::remove_file(&self.path);
         }
     }

@@ -122,8 +122,8 @@ impl Job {
 fn carry_out(job: &Job, places: &Places, report: &Report, out: &mut Out, lay: impl Fn(&str) -> Result<Vec<u8>, Failure>) -> Result<u8, Failure> {
     let name = &places.out.name;
     let untold = |failure: Failure| failure.so(&format!("{name} is not written"));
-    // The first line goes ahead, so that a reader who wants no more has gone when the others follow.
     out.tell(&report.head(job.listener(Some(out)))).map_err(untold)?;
+    out.pause();
     let image = lay(name).and_then(|bytes| if job.dry_run { Ok(None) } else { places.out.write(bytes).map(Some) });
     let text = || report.head(job.listener(None)) + &report.body(job.listener(None));
     let file = places.report.as_ref().map(|target| target.write(text().into_bytes())).transpose();

@@ -1,10 +1,17 @@
 //! Where things are told: standard output, and progress on standard error.
 
 use crate::failure::Failure;
+use std::fs::File;
 use std::io::{self, BufWriter, IsTerminal, Write};
+use std::os::fd::AsFd;
+use std::os::unix::fs::FileTypeExt;
+use std::thread;
+use std::time::Duration;
 
 /// Files longer than this are worth a line of progress.
 const LONG: usize = 1_000_000;
+/// What a reader needs to end.
+const MOMENT: Duration = Duration::from_millis(20);
 
 #[derive(Clone, Copy)]
 pub enum Colour {
@@ -49,6 +56,14 @@ impl Out {
 
     pub fn line(&mut self, line: impl AsRef<str>) -> Result<(), Failure> {
         Ok(writeln!(self.stdout, "{}", line.as_ref())?)
+    }
+
+    /// Gives a reader who wants no more than the first line the time to go: what is written then fails, while a pipe would hold it for nobody.
+    pub fn pause(&self) {
+        let stream = io::stdout().as_fd().try_clone_to_owned().map(File::from);
+        if stream.and_then(|stream| stream.metadata()).is_ok_and(|found| found.file_type().is_fifo()) {
+            thread::sleep(MOMENT);
+        }
     }
 
     /// Writes text on its way, so that whoever goes on knows that it was taken.

@@ -14,6 +14,7 @@ use std::path::{Path, PathBuf};
 
 /// No file of ours is longer: 16 MiB of values in hex, twice, and keys.
 const LONGEST: u64 = 128 << 20;
+
 /// A place to write to.
 pub struct Target {
     /// As it is printed.
@@ -75,7 +76,7 @@ impl Target {
             None => hidden::usual_mode(place).map_err(failed)?,
         };
         let (beside, file) = hidden::temporary(place, 0o600).map_err(failed)?;
-        let mut pending = Pending { target: self, state: State::Beside { beside, file, mode } };
+        let mut pending = Pending { target: self, state: State::Beside { place, beside, file, mode } };
         pending.add(&bytes).map_err(failed)?;
         Ok(pending)
     }
@@ -108,11 +109,12 @@ pub fn take_turns<'t>(targets: impl IntoIterator<Item = &'t mut Target>) -> Resu
 /// A file that is written and not yet in its place. Dropped, it leaves nothing beside it.
 pub struct Pending<'t> {
     target: &'t Target,
-    state: State,
+    state: State<'t>,
 }
 
-enum State {
+enum State<'t> {
     Beside {
+        place: &'t Path,
         beside: PathBuf,
         file: File,
         mode: u32,
@@ -125,8 +127,9 @@ impl Pending<'_> {
     /// The last step: puts the file in its place, if that is still as it was.
     pub fn put(&mut self) -> Result<(), Failure> {
         let failed = |error| Failure::usage(format!("{}: {error}", self.target.name));
-        match (&self.state, &self.target.place) {
-            (State::Beside { beside, file, mode }, Some(place)) => {
+        match &self.state {
+            State::Bytes(bytes) => io::stdout().write_all(bytes).and_then(|()| io::stdout().flush()).map_err(failed),
+            State::Beside { place, beside, file, mode } => {
                 self.target.unchanged(place)?;
                 dress(file, self.target.before.as_ref(), *mode);
                 match self.target.before {
@@ -140,8 +143,6 @@ impl Pending<'_> {
                 let _ = File::open(folder(place)).and_then(|folder| folder.sync_all());
                 Ok(())
             }
-            (State::Bytes(bytes), _) => io::stdout().write_all(bytes).and_then(|()| io::stdout().flush()).map_err(failed),
-            (State::Beside { .. }, None) => Ok(()),
         }
     }
 

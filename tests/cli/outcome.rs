@@ -141,7 +141,7 @@ fn a_reader_that_wants_one_line() {
         assert_eq!(err, expected);
         said[usize::from(out)] += 1;
     }
-    assert!(said[0] > 0, "{said:?}");
+    assert!(said[0] > said[1], "{said:?}");
     // a report that a pipe does not hold: nothing is ever written
     let lines: String = (0..200).map(|i| format!("{i}\t{}\n", "ab".repeat(500))).collect();
     build(&folder.join("long"), &lines);
