@@ -88,9 +88,8 @@ pub fn build(args: &Args, out: &mut Out) -> Result<u8, Failure> {
     let lines = Lines::parse(&input::standard()?, args.flag("--empty"))?;
     let order = if args.flag("--big-endian") { ByteOrder::Big } else { lines.order };
     let unmade = content::unmade(&lines.content, separator);
-    if let Some((path, key)) = unmade.first().filter(|_| !args.flag("--without-containers")) {
-        let why = why_unmade(key, separator);
-        return Err(Failure::no(format!("{}: the container cannot be laid: {why} (--without-containers leaves it out)", lines.named(path, key))));
+    if !args.flag("--without-containers") {
+        lines.all_laid(&unmade, separator)?;
     }
     target::take_turns([&mut target])?;
     let bytes = lay(&target.name, &lines.content, separator, order, &|path, key| lines.named(path, key))?;
@@ -206,9 +205,22 @@ impl Lines {
         }
     }
 
+    /// Refuses containers that cannot be laid: the first with the reason, the others by their lines.
+    fn all_laid(&self, unmade: &[Place], separator: Option<u8>) -> Result<(), Failure> {
+        let Some(((path, key), more)) = unmade.split_first() else { return Ok(()) };
+        let lines: Vec<String> = more.iter().map(|place| self.number(place).to_string()).collect();
+        let more = if lines.is_empty() { String::new() } else { format!(", nor can those of line {}", text::cut(&lines.join(", "))) };
+        let why = why_unmade(key, separator);
+        Err(Failure::no(format!("{}: the container cannot be laid: {why}{more} (--without-containers leaves out what cannot)", self.named(path, key))))
+    }
+
+    fn number(&self, place: &Place) -> usize {
+        self.numbers.get(place).copied().unwrap_or_default()
+    }
+
     /// An item, for a message.
     fn named(&self, path: &[String], key: &str) -> String {
-        let number = self.numbers.get(&(path.to_vec(), key.to_string())).copied().unwrap_or_default();
+        let number = self.number(&(path.to_vec(), key.to_string()));
         format!("line {number}: key {}", text::cut(&text::path(path, key)))
     }
 }

@@ -31,6 +31,11 @@ impl Lock {
                 Err(_) => match opened(&path) {
                     Ok(file) => file,
                     Err(error) if error.kind() == ErrorKind::NotFound => continue,
+                    // Another user makes it just now, and has not opened it for all.
+                    Err(error) if error.kind() == ErrorKind::PermissionDenied && begun.elapsed() < PATIENCE => {
+                        thread::sleep(STEP);
+                        continue;
+                    }
                     Err(error) => return Ok(without(name, error)),
                 },
             };

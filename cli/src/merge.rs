@@ -91,8 +91,8 @@ impl Job {
     }
 
     fn heading(&self, args: &Args, files: &Files, places: &Places, order: ByteOrder) -> Heading {
-        let base = args.value("--base").map(name);
         let [own, other] = [&files.own, &files.other].map(|source| source.name.clone());
+        let base = files.base.as_ref().map(|source| source.name.clone()).or_else(|| args.value("--base").map(name));
         Heading { own, other, base, out: places.out.name.clone(), keep: self.keep, separator: self.separator, order }
     }
 

@@ -101,7 +101,11 @@ fn lines_that_are_refused() {
         (b"a\t01\nt\t\tx\t01\n", 1, "line 2: key \"t\" > \"\": refusal 30"),
         (b"1\t2\t3\t4\t5\t6\t7\t8\t9\t01\n", 1, "line 1: refusal 26"),
         (b"a\t01\n1\t2\t3\t4\t5\t6\t7\t8\t{}\n", 1, "line 2: key \"1\": refusal 26"),
-        (b"a\t01\nb:\t[]\n", 1, "line 2: key \"b:\": the container cannot be laid: the separator '/' does not make it (--without-containers leaves it out)"),
+        (
+            b"a\t01\nb:\t[]\n",
+            1,
+            "line 2: key \"b:\": the container cannot be laid: the separator '/' does not make it (--without-containers leaves out what cannot)",
+        ),
         (b"a\t01\nt\t\t[]\n", 1, "line 2: key \"t\" > \"\": the container cannot be laid: no item with the empty key can be laid (30)"),
     ] {
         let (place, ran) = laid("refused-lines", lines);
@@ -179,7 +183,7 @@ fn containers_and_byte_order_survive() {
     assert_eq!(shell(&folder, "\"$GVDB\" dump f --separator :").ends(0).text(), format!("big-endian\n{lines}"));
     shell(&folder, "\"$GVDB\" dump f | \"$GVDB\" build --separator : -o g && cmp f g").ends(0);
     let refused = shell(&folder, "\"$GVDB\" dump f | \"$GVDB\" build -o h").ends(1);
-    refused.says("line 2: key \"a:\": the container cannot be laid: the separator '/' does not make it (--without-containers leaves it out)");
+    refused.says("line 2: key \"a:\": the container cannot be laid: the separator '/' does not make it, nor can those of line 5 (--without-containers leaves out what cannot)");
     let left_out = shell(&folder, "\"$GVDB\" dump f | \"$GVDB\" build --without-containers -o h").ends(0);
     left_out.prints("note container \"t\" > \"c:\" is left out: the separator '/' does not make it\n").prints("h: 2 values, ");
     assert_eq!(shell(&folder, "\"$GVDB\" dump h").ends(0).text(), format!("big-endian\n{lines}"));

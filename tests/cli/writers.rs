@@ -239,6 +239,37 @@ fn owner_and_mode_are_kept() {
     assert_eq!((fs::read(&place).unwrap(), fs::metadata(&place).unwrap().mode() & 0o777), (bytes, 0o440));
 }
 
+/// Another user may write the file and its folder, and cannot give it away: the file stays as open as it was, and no more. A lock that the first user left is no
+/// hindrance, though it cannot be removed in a sticky folder.
+#[test]
+fn another_user_writes_it() {
+    let (folder, place) = register("another-user");
+    if fs::metadata(&folder).unwrap().uid() != 0 || Command::new("setpriv").arg("--version").output().is_err() {
+        println!("skipped: another user needs the superuser, and setpriv");
+        return;
+    }
+    build(&folder.join("a"), "a\t01\n");
+    fs::set_permissions(&folder, Permissions::from_mode(0o777)).unwrap();
+    fs::set_permissions(&place, Permissions::from_mode(0o676)).unwrap();
+    fs::write(folder.join(".r.gvdb-lock"), "").unwrap();
+    let merge = "umask 077; setpriv --reuid=54321 --regid=54321 --clear-groups \"$GVDB\" merge r a -o r";
+    assert!(shell(&folder, merge).ends(0).stderr.is_empty());
+    let after = fs::metadata(&place).unwrap();
+    assert_eq!((after.uid(), after.gid(), after.mode() & 0o7777), (54321, 54321, 0o666));
+    // what the system does not let them write is write-protected for them
+    fs::set_permissions(&place, Permissions::from_mode(0o644)).unwrap();
+    std::os::unix::fs::chown(&place, Some(0), Some(0)).unwrap();
+    shell(&folder, merge).ends(2).says("gvdb: r: it is write-protected; nothing is written");
+    assert_eq!(names(&folder), ["a", "r"]);
+    fs::set_permissions(&place, Permissions::from_mode(0o666)).unwrap();
+    fs::set_permissions(&folder, Permissions::from_mode(0o1777)).unwrap();
+    fs::write(folder.join(".r.gvdb-lock"), "").unwrap();
+    fs::set_permissions(folder.join(".r.gvdb-lock"), Permissions::from_mode(0o666)).unwrap();
+    let ran = shell(&folder, merge).ends(2);
+    assert!(ran.text().lines().last().unwrap().starts_with("refused: r is not written (r: Operation not permitted"), "{}", ran.text());
+    assert_eq!(names(&folder), [".r.gvdb-lock", "a", "r"]);
+}
+
 /// A merge that stands before its last step, since nobody reads its report.
 fn stuck(folder: &Path) -> Child {
     let lines: String = (0..200).map(|i| format!("{i}\t{}\n", "ab".repeat(1000))).collect();
