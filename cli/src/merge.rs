@@ -32,7 +32,7 @@ pub fn run(args: &Args, out: &mut Out) -> Result<u8, Failure> {
 
     let mut report = Report::new(job.heading(args, &files, &places, order));
     let merged = Merging::new(&decisions, job.keep, &mut report).tables(&base, &own, &other);
-    report.idle = decisions.idle();
+    report.notes = decisions.idle().into_iter().chain(places.old_report.clone()).collect();
     report.values = content::values(&merged).len();
     report.unmade = unmade([&own, &other], &merged, job.separator);
     report.lost = old.as_ref().map_or(Vec::new(), |old| replace::lost(old, &old_content, &merged, order));
@@ -161,6 +161,8 @@ fn put<'t>(file: Result<Option<Pending<'t>>, Failure>, image: Result<Option<Pend
 struct Places {
     out: Target,
     report: Option<Target>,
+    /// The report that is replaced, for a note.
+    old_report: Option<String>,
 }
 
 impl Places {
@@ -170,11 +172,11 @@ impl Places {
         if job.whole && out.is_standard() {
             return Err(Failure::usage("merge: OUT and the report cannot both be standard output"));
         }
-        let Some(report_word) = args.value("--report").filter(|_| job.report_file) else { return Ok(Places { out, report: None }) };
+        let Some(report_word) = args.value("--report").filter(|_| job.report_file) else { return Ok(Places { out, report: None, old_report: None }) };
         let report = Target::find(report_word)?;
         match read_words(args).chain([word]).any(|file| report.is_at(file)) {
             true => Err(Failure::usage(format!("merge: --report {} is one of the files merged", name(report_word)))),
-            false => Ok(Places { out, report: Some(report) }),
+            false => Ok(Places { out, report: Some(report), old_report: None }),
         }
     }
 
@@ -198,7 +200,8 @@ impl Places {
         self.out.look()?;
         let Some(report) = &mut self.report else { return Ok(()) };
         report.look()?;
-        replace::report(report, job.replace)
+        self.old_report = replace::report(report, job.replace)?;
+        Ok(())
     }
 
     /// Whether OUT is one of the files that are merged: then the merge names what it loses.

@@ -6,6 +6,7 @@ use crate::header::ByteOrder;
 use crate::report::Report;
 use crate::source::Source;
 use crate::target::Target;
+use crate::text;
 
 /// The file that is at OUT's place, if it is to be written over.
 pub fn old(target: &Target, replace: bool) -> Result<Option<Source>, Failure> {
@@ -34,12 +35,17 @@ fn unnamed(failure: Failure) -> Failure {
     Failure { line: format!("{}; what would be lost cannot be named, so it is not written over: move it away", failure.line), ..failure }
 }
 
-/// Whether a report may be written to its place: nothing is there, or with `--replace` a report.
-pub fn report(target: &Target, replace: bool) -> Result<(), Failure> {
+/// Whether a report may be written to its place: nothing is there, or with `--replace` a report. Which one is told, for the new report.
+pub fn report(target: &Target, replace: bool) -> Result<Option<String>, Failure> {
     match target.before() {
-        None => Ok(()),
+        None => Ok(None),
         Some(_) if !replace => Err(Failure::no(format!("{}: it is there already; --replace writes over a report", target.name))),
-        Some(bytes) if Report::begins(bytes) => Ok(()),
+        Some([]) => Ok(None),
+        Some(bytes) if Report::begins(bytes) => {
+            let old = String::from_utf8_lossy(bytes);
+            let [first, last] = [old.lines().next(), old.lines().last()].map(|line| text::cut(&text::quoted(line.unwrap_or_default())));
+            Ok(Some(format!("{}: this replaces the report that began {first} and ended {last}", target.name)))
+        }
         Some(_) => Err(Failure::no(format!("{}: it is no report of a merge, so it is not written over", target.name))),
     }
 }

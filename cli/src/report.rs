@@ -28,8 +28,8 @@ pub struct Report<'a> {
     both: Vec<Both<'a>>,
     /// The values that stand in one file alone, and are new since the base.
     only: [usize; 2],
-    /// Lines of `--decide` that met no conflict.
-    pub idle: Vec<String>,
+    /// Lines of `--decide` that met no conflict, and a report that is replaced.
+    pub notes: Vec<String>,
     /// The containers that cannot be in OUT.
     pub unmade: Vec<Place>,
     /// What the file that `--replace` writes over has and OUT does not.
@@ -60,12 +60,12 @@ pub struct Listener<'o> {
 
 impl<'a> Report<'a> {
     pub fn new(heading: Heading) -> Report<'a> {
-        Report { heading, both: Vec::new(), only: [0; 2], idle: Vec::new(), unmade: Vec::new(), lost: Vec::new(), values: 0 }
+        Report { heading, both: Vec::new(), only: [0; 2], notes: Vec::new(), unmade: Vec::new(), lost: Vec::new(), values: 0 }
     }
 
     /// Whether bytes are a report, which another may replace.
     pub fn begins(bytes: &[u8]) -> bool {
-        bytes.is_empty() || BEGINS.iter().any(|begin| bytes.starts_with(begin))
+        BEGINS.iter().any(|begin| bytes.starts_with(begin))
     }
 
     /// Counts what stands in one file alone.
@@ -112,7 +112,7 @@ impl<'a> Report<'a> {
             lines.push(line("note", Colour::Yellow, " the values of both files are big-endian"));
         }
         self.both.iter().for_each(|both| both.lines(room, &mut lines));
-        lines.extend(self.idle.iter().map(|idle| line("note", Colour::Yellow, format!(" {idle}"))));
+        lines.extend(self.notes.iter().map(|note| line("note", Colour::Yellow, format!(" {note}"))));
         for (path, key) in &self.unmade {
             let rest = format!(" container {} is not in {}: {}", text::path(path, key), self.heading.out, why_unmade(key, self.heading.separator));
             lines.push(line("note", Colour::Yellow, rest));
@@ -175,7 +175,7 @@ impl<'a> Report<'a> {
             ("dropped", leaves(Side::BOTH.into_iter().flat_map(|side| self.dropped(side)).collect())),
             ("lost", leaves(self.lost.clone())),
             ("containers_not_kept", Json::List(self.unmade.iter().map(|place| Json::Object(place_json(place))).collect())),
-            ("notes", Json::texts(&self.idle)),
+            ("notes", Json::texts(&self.notes)),
         ]
     }
 

@@ -199,9 +199,11 @@ fn a_report_replaces_nothing_but_a_report() {
     let first = fs::read(folder.join("report")).unwrap();
     merge("report").ends(1).says("gvdb: report: it is there already; --replace writes over a report");
     assert_eq!(fs::read(folder.join("report")).unwrap(), first);
-    merge("report --replace").ends(0);
+    let note = "note report: this replaces the report that began \"merge of own r and other a\" and ended \"merged into out: 2 values; ";
+    merge("report --replace").ends(0).prints(note);
+    assert!(fs::read_to_string(folder.join("report")).unwrap().contains(note));
     merge("report --replace --json").ends(0);
-    merge("report --replace").ends(0);
+    merge("report --replace").ends(0).prints("note report: this replaces the report that began \"{\\\"own\\\":\\\"r\\\",");
     fs::write(folder.join("notes"), "my notes\n").unwrap();
     fs::copy(&place, folder.join("register")).unwrap();
     for slip in ["notes", "register"] {
