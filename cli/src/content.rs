@@ -1,13 +1,11 @@
-//! What a table holds, by key: read from a file that passes the check, and laid as one.
+//! What a table holds, by key, read from a file that passes the check.
 
+use crate::check;
 use crate::failure::{Failure, NO};
-use crate::header::{self, ByteOrder, Header};
-use crate::out;
 use crate::source::{Source, Walk};
-use crate::{check, text};
-use gvdb::{Builder, Inserted, Item, Kind, Refusal, Table, TableNumber, MAX_ITEMS, MAX_KEY};
+use gvdb::{Item, Refusal, Table};
 use std::borrow::Cow;
-use std::collections::BTreeMap;
+use std::collections::{BTreeMap, BTreeSet};
 
 /// A table's items in ascending key order.
 pub type Content<'a> = BTreeMap<String, Node<'a>>;
@@ -53,112 +51,97 @@ fn table<'a>(source: &'a Source, from: Table<'a>, path: &mut Vec<String>, walk: 
     Ok(content)
 }
 
-/// The values in a table and those nested in it, each with its place.
-pub fn values<'c>(content: &'c Content) -> Vec<(Place, &'c [u8])> {
-    fn collect<'c>(content: &'c Content, path: &mut Vec<String>, found: &mut Vec<(Place, &'c [u8])>) {
-        for (key, node) in content {
-            match node {
-                Node::Value(bytes) => found.push(((path.clone(), key.clone()), bytes)),
-                Node::Container => {}
-                Node::Table(nested) => {
-                    path.push(key.clone());
-                    collect(nested, path, found);
-                    path.pop();
-                }
-            }
-        }
-    }
+/// What can be lost of a table: a value, or a nested table that holds neither.
+#[derive(Clone, Copy, PartialEq, Eq, Debug)]
+pub enum Leaf<'c> {
+    Value(&'c [u8]),
+    EmptyTable,
+}
+
+/// The values of a table and of those nested in it, and the tables without any, each with its place.
+pub fn leaves<'c>(content: &'c Content) -> Vec<(Place, Leaf<'c>)> {
     let mut found = Vec::new();
     collect(content, &mut Vec::new(), &mut found);
     found
 }
 
-/// A file laid and read back, and the containers of its content that its separator does not make.
-pub struct Laid {
-    pub bytes: Vec<u8>,
-    pub unmade: Vec<Place>,
-}
-
-/// Lays content as a file and holds it to the check and to what was meant, before anyone can have it.
-pub fn lay(name: &str, content: &Content, separator: Option<u8>, order: ByteOrder) -> Result<Laid, Failure> {
-    let size: usize = values(content).iter().map(|(_, bytes)| bytes.len()).sum();
-    out::progress(size, || format!("{name}: laying {} of values", text::count(size, "byte")));
-    let mut laying = Laying { builder: Builder::new(size + MAX_ITEMS * MAX_KEY), name, separator, path: Vec::new() };
-    let root = laying.table(content)?;
-    let mut image = laying.builder.write(root).map_err(|refusal| Failure::refused(NO, name, refusal))?;
-    header::lay(&mut image.bytes, Header { order, root: image.root });
-    let laid = Source::of(name, image.bytes)?;
-    let mut unmade = Vec::new();
-    if !compare(content, &read(&laid)?, &mut Vec::new(), &mut unmade) {
-        return Err(Failure::no(format!("{name}: what was laid does not read back as it was meant; it is not written")));
-    }
-    Ok(Laid { bytes: laid.bytes, unmade })
-}
-
-/// Content on its way into a builder.
-struct Laying<'n> {
-    builder: Builder,
-    name: &'n str,
-    separator: Option<u8>,
-    /// The keys of the tables around what is inserted.
-    path: Vec<String>,
-}
-
-impl Laying<'_> {
-    /// Makes a table with this content. Keys go in ascending order, so children stand so too. A key that also names a container of the next key
-    /// waits for the end, where it replaces the container; what is below it then stands by itself.
-    fn table(&mut self, content: &Content) -> Result<TableNumber, Failure> {
-        let table = self.builder.new_table(self.separator).map_err(|refusal| Failure::refused(NO, self.name, refusal))?;
-        let items: Vec<(&String, &Node)> = content.iter().filter(|(_, node)| !matches!(node, Node::Container)).collect();
-        let (late, early): (Vec<usize>, Vec<usize>) = (0..items.len()).partition(|&at| {
-            let key = items[at].0;
-            let ends = self.separator.is_some() && key.as_bytes().last().copied() == self.separator;
-            ends && items.get(at + 1).is_some_and(|(next, _)| next.starts_with(key.as_str()))
-        });
-        for at in early.into_iter().chain(late.into_iter().rev()) {
-            self.item(table, items[at].0, items[at].1)?;
-        }
-        Ok(table)
-    }
-
-    fn item(&mut self, table: TableNumber, key: &str, node: &Node) -> Result<(), Failure> {
-        let inserted = match node {
-            Node::Container => return Ok(()),
-            Node::Value(bytes) => self.builder.insert(table, key, bytes),
+fn collect<'c>(content: &'c Content, path: &mut Vec<String>, found: &mut Vec<(Place, Leaf<'c>)>) {
+    for (key, node) in content {
+        match node {
+            Node::Value(bytes) => found.push(((path.clone(), key.clone()), Leaf::Value(bytes))),
+            Node::Container => {}
             Node::Table(nested) => {
-                self.path.push(key.to_string());
-                let guest = self.table(nested)?;
-                self.path.pop();
-                self.builder.insert_table(table, key, guest)
+                path.push(key.clone());
+                let before = found.len();
+                collect(nested, path, found);
+                path.pop();
+                if found.len() == before {
+                    found.push(((path.clone(), key.clone()), Leaf::EmptyTable));
+                }
             }
-        };
-        let what = || format!("{}: key {}", self.name, text::cut(&text::path(&self.path, key)));
-        match inserted.map_err(|refusal| Failure::refused(NO, &what(), refusal))? {
-            Inserted::New | Inserted::Replaced(Kind::Container) => Ok(()),
-            Inserted::Replaced(_) => Err(Failure::no(format!("{}: it would replace another; nothing is written", what()))),
         }
     }
 }
 
-/// Whether all that was meant, and nothing else, was laid. Containers do not count; those that were meant and are not there are noted.
-fn compare(meant: &Content, laid: &Content, path: &mut Vec<String>, unmade: &mut Vec<Place>) -> bool {
-    let more = laid.iter().any(|(key, node)| !matches!(node, Node::Container) && !meant.contains_key(key));
-    !more
-        && meant.iter().all(|(key, node)| match (node, laid.get(key)) {
-            (Node::Value(a), Some(Node::Value(b))) => a == b,
-            (Node::Table(a), Some(Node::Table(b))) => {
-                path.push(key.clone());
-                let same = compare(a, b, path, unmade);
-                path.pop();
-                same
-            }
-            (Node::Container, Some(Node::Container)) => true,
-            (Node::Container, None) => {
-                unmade.push((path.clone(), key.clone()));
-                true
-            }
+/// The values in a table and those nested in it, each with its place.
+pub fn values<'c>(content: &'c Content) -> Vec<(Place, &'c [u8])> {
+    let value = |(place, leaf)| match leaf {
+        Leaf::Value(bytes) => Some((place, bytes)),
+        Leaf::EmptyTable => None,
+    };
+    leaves(content).into_iter().filter_map(value).collect()
+}
+
+/// What of an old file's content a new one does not have.
+pub fn missing<'c>(old: &'c Content, new: &Content) -> Vec<(Place, Leaf<'c>)> {
+    let stands = |((path, key), leaf): &(Place, Leaf)| {
+        let within = path.iter().try_fold(new, |table, key| match table.get(key) {
+            Some(Node::Table(nested)) => Some(nested),
+            _ => None,
+        });
+        match (leaf, within.and_then(|table| table.get(key))) {
+            (Leaf::Value(bytes), Some(Node::Value(now))) => *bytes == &now[..],
+            (Leaf::EmptyTable, Some(Node::Table(_))) => true,
             _ => false,
-        })
+        }
+    };
+    leaves(old).into_iter().filter(|leaf| !stands(leaf)).collect()
+}
+
+/// Whether two files hold the same at a key: nothing, equal values, or tables that hold the same. Containers hold nothing.
+pub fn alike(a: Option<&Node>, b: Option<&Node>) -> bool {
+    match (held(a), held(b)) {
+        (None, None) => true,
+        (Some(Node::Value(a)), Some(Node::Value(b))) => a == b,
+        (Some(Node::Table(a)), Some(Node::Table(b))) => a.keys().chain(b.keys()).all(|key| alike(a.get(key), b.get(key))),
+        _ => false,
+    }
+}
+
+/// A value or table. A container holds nothing.
+pub fn held<'n, 'a>(node: Option<&'n Node<'a>>) -> Option<&'n Node<'a>> {
+    node.filter(|node| !matches!(node, Node::Container))
+}
+
+/// The containers that a separator does not make, of a table and those nested in it: no key of a value or table goes through them.
+pub fn unmade(content: &Content, separator: Option<u8>) -> Vec<Place> {
+    let mut found: Vec<Place> = unmade_here(content, separator).into_iter().map(|key| (Vec::new(), key.clone())).collect();
+    for (key, node) in content {
+        if let Node::Table(nested) = node {
+            found.extend(unmade(nested, separator).into_iter().map(|(path, inner)| ([vec![key.clone()], path].concat(), inner)));
+        }
+    }
+    found
+}
+
+/// Those of one table.
+pub fn unmade_here<'c>(content: &'c Content, separator: Option<u8>) -> BTreeSet<&'c String> {
+    let mut made: BTreeSet<&str> = BTreeSet::new();
+    for (key, _) in content.iter().filter(|(_, node)| held(Some(node)).is_some()) {
+        let ends = key.bytes().enumerate().filter(|(_, byte)| Some(*byte) == separator);
+        made.extend(ends.map(|(at, _)| &key[..at + 1]));
+    }
+    content.iter().filter(|(key, node)| matches!(node, Node::Container) && !made.contains(key.as_str())).map(|(key, _)| key).collect()
 }
 
 /// The word of `--separator`: one byte from 1 to 127, or `none`; `/` where it is not given.

@@ -2,7 +2,7 @@
 
 use crate::args::Args;
 use crate::content::{self, Content, Node};
-use crate::failure::{name, Failure, NO, UNREADABLE};
+use crate::failure::{Failure, NO, UNREADABLE};
 use crate::json::Json;
 use crate::out::{Colour, Out};
 use crate::source::Source;
@@ -150,7 +150,7 @@ impl<'c> Diff<'c> {
         ];
         let sides = |json: &dyn Fn(&Source) -> Json| Json::Object(vec![("a", json(a)), ("b", json(b))]);
         Json::Object(vec![
-            ("files", sides(&|file| Json::text(name(file.path.as_os_str())))),
+            ("files", sides(&Source::json_name)),
             ("alike", Json::Bool(self.status() == 0)),
             ("byte_order", sides(&|file| Json::text(file.header.order.name()))),
             ("same_bytes", Json::Bool(self.same_bytes())),

@@ -58,6 +58,13 @@ impl Failure {
         Failure { status, line: format!("{what}: {words} ({number})"), number: Some(number) }
     }
 
+    /// The failure, with what it means for the file that was to be written; the number stays last. That nobody reads standard output any more is said too.
+    pub fn so(self, meaning: &str) -> Failure {
+        let line = if self.line.is_empty() { "standard output: nobody reads it any more" } else { &self.line };
+        let (words, number) = line.split_at(self.number.and_then(|_| line.rfind(" (")).unwrap_or(line.len()));
+        Failure { line: format!("{words}; {meaning}{number}"), ..self }
+    }
+
     /// A file or folder that the system does not let us read or write.
     pub fn system(path: &Path, error: io::Error) -> Failure {
         Failure::usage(format!("{}: {error}", name(path.as_os_str())))
@@ -77,4 +84,13 @@ impl From<io::Error> for Failure {
 /// The name of a file as it is printed: on one line, and so that it can be told back.
 pub fn name(path: &OsStr) -> String {
     text::escaped_bytes(path.as_bytes())
+}
+
+/// The name of a file in a sentence, where `-` is said in words: a file of that name is `./-`.
+pub fn in_words<'n>(name: &'n str, dash: &'n str) -> &'n str {
+    if name == "-" {
+        dash
+    } else {
+        name
+    }
 }

@@ -100,22 +100,41 @@ Exit status: 0 alike, 1 not, 2 one cannot be read or is not sound.
 ";
 
 pub const MERGE: &str = "\
-gvdb merge OWN OTHER -o OUT [--keep own|other] [--report FILE] [--separator C|none] [--json]
+gvdb merge OWN OTHER -o OUT [--keep own|other] [--decide FILE] [--base BASE] [--dry-run]
+           [--report FILE] [--replace] [--without-containers] [--separator C|none] [--json]
 
 Writes the values of both files into OUT. Every key that stands in both is named with both
 values. `same`: the values are equal, nothing is lost. `conflict`: they differ, or one is a
-value, the other a table or container. A conflict refuses the merge and nothing is written,
-unless --keep decides; what is dropped is named even then, each value of a dropped table
-too. Nested tables in both files are merged by the same rule.
+value and the other a table. A conflict refuses the merge and nothing is written, unless
+--keep or --decide decides; what is dropped is named even then, with every byte, each value
+of a dropped table too. Nested tables in both files are merged by the same rule. A container
+holds nothing: a value or table stands against it, and what is below it stays.
 
-Both files have to pass the check. OUT is checked and read back before it is put in place,
-and is there whole or not at all. Files with big-endian values are merged only with each
-other, and OUT is big-endian then. OUT holds at most 1,024 items (containers included) in
-64 tables, nested 8 deep, with keys of 1,024 bytes, in 16 MiB: else the merge is refused.
+With --base, what only one file changed or removed since BASE is no conflict: it is named
+and done. What one changed and the other removed is a conflict. An empty BASE holds nothing.
 
-    -o OUT           the file to write, over what is there; it may be OWN or OTHER
-    --keep WHICH     own or other: which value of a conflict is kept
+All files have to pass the check. OUT is checked and read back before it is put in place,
+and is there whole or not at all. Runs that write one file take turns; where another program
+has changed OUT meanwhile, nothing is written. Files with big-endian values are merged only
+with each other, and OUT is big-endian then. OUT holds at most 1,024 items (containers
+included) in 64 tables, nested 8 deep, with keys of 1,024 bytes, in 16 MiB: else the merge
+is refused. A word - for a file is standard input, or output (the report goes to standard
+error then).
+
+    -o OUT           the file to write; it may be OWN or OTHER
+    --keep WHICH     own or other: which side of a conflict is kept
+    --decide FILE    lines `own KEY` and `other KEY` decide conflicts, each for that key, or
+                     for all below a key that ends in the separator or is a table's; the
+                     nearest decides, --keep the rest. KEY is written as by `gvdb dump`, or
+                     in quotes as in the report: a refused merge's report is such a file
+                     once the sides that are not wanted are deleted from it
+    --base BASE      the file that both come from
+    --dry-run        tell the whole report and write nothing
     --report FILE    the report with every byte of each value; written for a refused merge too
+    --replace        OUT or the report may be there: each value of the old OUT that the new
+                     one does not have is named; a report replaces nothing but a report
+    --without-containers
+                     leave out containers that cannot be laid; the report names them
     --separator C    makes the containers of OUT; / if not given, none for no containers
     --json           the report as one object
 
@@ -123,7 +142,7 @@ other, and OUT is big-endian then. OUT holds at most 1,024 items (containers inc
 ";
 
 pub const DUMP: &str = "\
-gvdb dump FILE
+gvdb dump FILE [--separator C|none] [--json]
 
 Writes a file as lines, in ascending key order, which `gvdb build` lays again:
 
@@ -131,26 +150,37 @@ Writes a file as lines, in ascending key order, which `gvdb build` lays again:
     table TAB key TAB hex       a value of the nested table at the key `table`; deeper ones
                                 have more fields in front
     key TAB {}                  a nested table, which may be empty
+    key TAB []                  a container that the separator does not make
+    big-endian                  the values are
 
 In keys a backslash is \\\\, a tab \\t, a newline \\n, a return \\r, and a byte of any other
-control character, or of one that is not seen, \\xHH. Containers have no lines: the separator
-makes them. The file has to pass the check.
+control character, or of one that is not seen, \\xHH. Other containers have no lines: the
+separator makes them. The file has to pass the check. A word - for FILE is standard input.
+
+    --separator C    the separator that `build` will be given; / if not given
+    --json           one object with every item, containers too
 
     gvdb dump anna.gvdb | sed s/oak/beech/ | gvdb build -o changed.gvdb
 ";
 
 pub const BUILD: &str = "\
-gvdb build -o OUT [--separator C|none] [--big-endian] [--empty]
+gvdb build -o OUT [--replace] [--separator C|none] [--without-containers] [--big-endian]
+           [--empty]
 
 Lays a file from lines on standard input, as `gvdb dump --help` describes them. Their order
 plays no part. A key that stands twice is refused, and so is one that is both a value and a
-table. Empty lines are passed over. Input without a line, or whose last line has no end, is
-refused: it may be cut. OUT is checked and read back before it is put in place.
+table, and a container that cannot be laid. Empty lines are passed over. Input without a
+line of content, with a byte order mark, or whose last line has no end is refused: it may be
+cut, or no such lines. OUT is checked and read back before it is put in place; what changed
+there since the run began refuses it.
 
-    -o OUT           the file to write, over what is there
+    -o OUT           the file to write; - is standard output
+    --replace        OUT may be there: each value of it that the new one does not have is named
     --separator C    makes the containers; / if not given, none for no containers
-    --big-endian     the header says that the values are big-endian
-    --empty          input without a line lays an empty table
+    --without-containers
+                     leave out containers that cannot be laid, and name them
+    --big-endian     the header says that the values are big-endian; so does a line
+    --empty          input without a line of content lays an empty table
 
     printf '/parcel/12/year\\te9070000\\n' | gvdb build -o anna.gvdb
 ";

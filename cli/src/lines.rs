@@ -1,123 +1,239 @@
 //! `gvdb dump` and `gvdb build`: a file as lines of text and back. Each line says all: the keys of the tables around, the key, and the value in hex,
-//! with a TAB between. `{}` in the value's place says that the key is a nested table's.
+//! with a TAB between. `{}` in the value's place says that the key is a nested table's, `[]` that it is a container's which the separator does not make. A line
+//! `big-endian`, without a TAB, says that the values are.
 
 use crate::args::Args;
-use crate::content::{self, Content, Node};
-use crate::failure::{name, Failure, NO};
+use crate::content::{self, Content, Node, Place};
+use crate::failure::{Failure, NO};
 use crate::header::ByteOrder;
-use crate::out::{self, Out, Pending};
+use crate::input;
+use crate::json::Json;
+use crate::lay::lay;
+use crate::out::Out;
+use crate::report::{lost_line, told, why_unmade};
 use crate::source::Source;
-use crate::text;
+use crate::target::{self, Target};
+use crate::{replace, text};
 use gvdb::{Refusal, MAX_NESTING};
 use std::borrow::Cow;
-use std::collections::btree_map;
-use std::io::{self, Read, Write};
-use std::path::Path;
+use std::collections::BTreeMap;
+use std::ffi::OsStr;
+use std::io::Write;
 
-const TABLE: &[u8] = b"{}";
-/// No file has longer lines: 16 MiB in hex, and keys.
-const LONGEST_INPUT: usize = 64 << 20;
+const TABLE: &str = "{}";
+const CONTAINER: &str = "[]";
+const BIG_ENDIAN: &str = "big-endian";
+/// What editors may put in front of a text.
+const MARK: &[u8] = b"\xef\xbb\xbf";
 
 pub fn dump(args: &Args, out: &mut Out) -> Result<u8, Failure> {
     let source = Source::read(&args.words()[0])?;
     let content = content::read(&source)?;
-    if source.header.order == ByteOrder::Big {
-        out::say(format!("{}: its values are big-endian; lay them with gvdb build --big-endian", source.name));
+    if args.flag("--json") {
+        json(&source, &content).print(out)?;
+        return Ok(0);
     }
-    dump_table(out, &content, "")?;
+    if source.header.order == ByteOrder::Big {
+        out.line(BIG_ENDIAN)?;
+    }
+    dump_table(out, &content, "", content::separator(args.value("--separator"))?)?;
     Ok(0)
 }
 
-fn dump_table(out: &mut Out, content: &Content, tables: &str) -> Result<(), Failure> {
+fn dump_table(out: &mut Out, content: &Content, tables: &str, separator: Option<u8>) -> Result<(), Failure> {
+    let unmade = content::unmade_here(content, separator);
     for (key, node) in content {
         let fields = format!("{tables}{}\t", text::escaped(key));
         match node {
             Node::Value(bytes) => writeln!(out.stdout, "{fields}{}", text::hex(bytes))?,
+            Node::Container if unmade.contains(key) => writeln!(out.stdout, "{fields}{CONTAINER}")?,
             Node::Container => {}
             Node::Table(nested) => {
-                writeln!(out.stdout, "{fields}{{}}")?;
-                dump_table(out, nested, &fields)?;
+                writeln!(out.stdout, "{fields}{TABLE}")?;
+                dump_table(out, nested, &fields, separator)?;
             }
         }
     }
     Ok(())
 }
 
-pub fn build(args: &Args, out: &mut Out) -> Result<u8, Failure> {
-    let place = args.needed("-o")?;
-    let separator = content::separator(args.value("--separator"))?;
-    let order = if args.flag("--big-endian") { ByteOrder::Big } else { ByteOrder::Little };
-    let mut input = Vec::new();
-    let failed = |error| Failure::usage(format!("standard input: {error}"));
-    io::stdin().lock().take(LONGEST_INPUT as u64 + 1).read_to_end(&mut input).map_err(failed)?;
-    if input.len() > LONGEST_INPUT {
-        return Err(Failure::usage(format!("standard input: longer than {} bytes", text::grouped(LONGEST_INPUT))));
+/// A file with every item of every table.
+fn json(source: &Source, content: &Content) -> Json {
+    fn items(content: &Content) -> Json {
+        let item = |(key, node): (&String, &Node)| {
+            let rest = match node {
+                Node::Value(bytes) => vec![("kind", Json::text("value")), ("size", Json::Number(bytes.len())), ("value", Json::Text(text::hex(bytes)))],
+                Node::Table(nested) => vec![("kind", Json::text("table")), ("size", Json::Number(nested.len())), ("items", items(nested))],
+                Node::Container => vec![("kind", Json::text("container"))],
+            };
+            Json::Object([("key", Json::text(key))].into_iter().chain(rest).collect())
+        };
+        Json::List(content.iter().map(item).collect())
     }
-    whole(&input, args.flag("--empty"))?;
-    let content = parse(&input)?;
-    let name = name(place);
-    let laid = content::lay(&name, &content, separator, order)?;
-    let values = content::values(&content).len();
-    Pending::write(Path::new(place), &laid.bytes)?.put()?;
-    out.line(format!("{name}: {}, {}", text::count(values, "value"), text::count(laid.bytes.len(), "byte")))?;
+    Json::Object(vec![("file", source.json_name()), ("byte_order", Json::text(source.header.order.name())), ("items", items(content))])
+}
+
+pub fn build(args: &Args, out: &mut Out) -> Result<u8, Failure> {
+    let mut target = Target::find(args.needed("-o")?)?;
+    let separator = content::separator(args.value("--separator"))?;
+    // The lines may have been made from what is there: it has to be the same when they are laid.
+    target.look()?;
+    let old = replace::old(&target, args.flag("--replace"))?;
+    let old_content = old.as_ref().map(replace::read).transpose()?.unwrap_or_default();
+    let lines = Lines::parse(&input::text(OsStr::new("-"))?.1, args.flag("--empty"))?;
+    let order = if args.flag("--big-endian") { ByteOrder::Big } else { lines.order };
+    let unmade = content::unmade(&lines.content, separator);
+    if !args.flag("--without-containers") {
+        lines.all_laid(&unmade, separator)?;
+    }
+    target::take_turns([&mut target])?;
+    let bytes = lay(&target.name, &lines.content, separator, order, &|path, key| lines.named(path, key))?;
+    let size = bytes.len();
+    let mut image = target.write(bytes)?;
+
+    let mut error = Out::error();
+    let out = if target.is_standard() { &mut error } else { out };
+    let lost = old.as_ref().map_or(Vec::new(), |old| replace::lost(old, &old_content, &lines.content, order));
+    let lost = lost.iter().map(|(place, leaf)| lost_line(place, leaf, usize::MAX)).collect();
+    let lost = told(lost, Some(out));
+    let left_out = unmade.iter().map(|(path, key)| format!("note container {} is left out: {}\n", text::path(path, key), why_unmade(key, separator, "")));
+    out.tell(&(lost + &left_out.collect::<String>())).map_err(|failure| failure.so(&format!("{} is not written", target.name)))?;
+    image.put()?;
+    let values = content::values(&lines.content).len();
+    let last = format!("{}: {}, {}\n", target.name, text::count(values, "value"), text::count(size, "byte"));
+    out.tell(&last).map_err(|failure| failure.so(&format!("{} is written", target.name)))?;
     Ok(0)
 }
 
-/// Whether the input can be all that was meant. Where a command in front fails, there is nothing, or a line that is cut; a file laid from that would lack what
-/// nobody dropped.
-fn whole(input: &[u8], may_be_empty: bool) -> Result<(), Failure> {
-    match input.last() {
-        None if !may_be_empty => Err(Failure::usage("standard input: no lines, so nothing is written (--empty lays an empty table)")),
-        Some(last) if *last != b'\n' => Err(Failure::usage("standard input: the last line has no end, so it may be cut; nothing is written")),
-        _ => Ok(()),
+/// What the lines of an input say.
+struct Lines {
+    content: Content<'static>,
+    order: ByteOrder,
+    /// The line that each item comes from: the first, for a table.
+    numbers: BTreeMap<Place, usize>,
+}
+
+impl Lines {
+    /// Reads every line. Where a command in front fails there is nothing, or a line that is cut; a file laid from that would lack what nobody dropped.
+    fn parse(input: &[u8], may_be_empty: bool) -> Result<Lines, Failure> {
+        let mut lines = Lines { content: Content::new(), order: ByteOrder::Little, numbers: BTreeMap::new() };
+        let (mark, rest) = input.split_at(if input.starts_with(MARK) { MARK.len() } else { 0 });
+        let count = rest.split(|&byte| byte == b'\n').count();
+        let mut empty = true;
+        for (at, line) in rest.split(|&byte| byte == b'\n').enumerate() {
+            let line = line.strip_suffix(b"\r").unwrap_or(line);
+            if line.is_empty() {
+                continue;
+            }
+            let bad = |why: &str| Err(Failure::usage(format!("line {}: {why}", at + 1)));
+            match line {
+                [0xff, 0xfe, ..] | [0xfe, 0xff, ..] if at == 0 => {
+                    return bad("a byte order mark of UTF-16 is in front; the lines have to be UTF-8 without one")
+                }
+                _ if !mark.is_empty() => return bad("a byte order mark (ef bb bf) is in front; the lines have to be UTF-8 without one"),
+                _ if at + 1 == count => return bad("it has no end, so it may be cut; nothing is written"),
+                _ => lines.line(line, at + 1)?,
+            }
+            empty = false;
+        }
+        match empty && !may_be_empty {
+            true => Err(Failure::usage(format!(
+                "standard input: no line of content in {}, so nothing is written; --empty lays an empty table",
+                text::count(count - 1, "line")
+            ))),
+            false => Ok(lines),
+        }
+    }
+
+    fn line(&mut self, line: &[u8], number: usize) -> Result<(), Failure> {
+        let what = format!("line {number}");
+        let bad = |why: &str| Failure::usage(format!("{what}: {why}"));
+        if line == BIG_ENDIAN.as_bytes() {
+            self.order = ByteOrder::Big;
+            return Ok(());
+        }
+        let mut fields: Vec<&[u8]> = line.split(|&byte| byte == b'\t').collect();
+        let value = fields.pop().unwrap_or_default();
+        let mut keys = Vec::new();
+        for field in fields {
+            let key = text::unescaped(field).map_err(bad)?;
+            keys.push(String::from_utf8(key).map_err(|_| Failure::refused(NO, &what, Refusal::KeyNotUtf8))?);
+        }
+        let key = keys.pop().ok_or_else(|| bad("no TAB between key and value"))?;
+        if keys.len() >= MAX_NESTING {
+            return Err(Failure::refused(NO, &what, Refusal::NestedTooDeep));
+        }
+        let node = match value {
+            value if value == TABLE.as_bytes() => Node::Table(Content::new()),
+            value if value == CONTAINER.as_bytes() => Node::Container,
+            hex => Node::Value(Cow::Owned(text::unhex(hex).ok_or_else(|| bad("the value is neither pairs of hex digits nor {} nor []"))?)),
+        };
+        self.item(keys, key, node, number)
+    }
+
+    /// Puts an item in its table, with the tables around it. What stands on a line already may only be a table again.
+    fn item(&mut self, keys: Vec<String>, key: String, node: Node<'static>, number: usize) -> Result<(), Failure> {
+        let Lines { content, numbers, .. } = self;
+        let mut place = (Vec::new(), String::new());
+        let mut table = content;
+        for key in keys {
+            place.1.clone_from(&key);
+            let there = table.entry(key).or_insert_with(|| {
+                numbers.insert(place.clone(), number);
+                Node::Table(Content::new())
+            });
+            match there {
+                Node::Table(nested) => table = nested,
+                there => return Err(clash(&place, there, "a table", numbers, number)),
+            }
+            place.0.push(std::mem::take(&mut place.1));
+        }
+        place.1.clone_from(&key);
+        match (table.get(&key), &node) {
+            (None, _) => {
+                table.insert(key, node);
+                numbers.insert(place, number);
+                Ok(())
+            }
+            (Some(Node::Table(_)), Node::Table(_)) => Ok(()),
+            (Some(there), node) => Err(clash(&place, there, kind(node), numbers, number)),
+        }
+    }
+
+    /// Refuses containers that cannot be laid: the first with the reason, the others by their lines.
+    fn all_laid(&self, unmade: &[Place], separator: Option<u8>) -> Result<(), Failure> {
+        let Some(((path, key), more)) = unmade.split_first() else { return Ok(()) };
+        let lines: Vec<String> = more.iter().map(|place| self.number(place).to_string()).collect();
+        let more = if lines.is_empty() { String::new() } else { format!(", nor can those of line {}", text::cut(&lines.join(", "))) };
+        let why = why_unmade(key, separator, &format!("{more}; --without-containers leaves out what cannot"));
+        Err(Failure::no(format!("{}: the container cannot be laid: {why}", self.named(path, key))))
+    }
+
+    fn number(&self, place: &Place) -> usize {
+        self.numbers.get(place).copied().unwrap_or_default()
+    }
+
+    /// An item, for a message.
+    fn named(&self, path: &[String], key: &str) -> String {
+        let number = self.number(&(path.to_vec(), key.to_string()));
+        format!("line {number}: key {}", text::cut(&text::path(path, key)))
     }
 }
 
-fn parse(input: &[u8]) -> Result<Content<'static>, Failure> {
-    let mut content = Content::new();
-    for (at, line) in input.split(|&byte| byte == b'\n').enumerate() {
-        let line = line.strip_suffix(b"\r").unwrap_or(line);
-        if !line.is_empty() {
-            parse_line(&mut content, line, &format!("line {}", at + 1))?;
-        }
+fn kind(node: &Node) -> &'static str {
+    match node {
+        Node::Value(_) => "a value",
+        Node::Table(_) => "a table",
+        Node::Container => "a container",
     }
-    Ok(content)
 }
 
-fn parse_line(content: &mut Content<'static>, line: &[u8], what: &str) -> Result<(), Failure> {
-    let bad = |why: &str| Failure::usage(format!("{what}: {why}"));
-    let mut fields: Vec<&[u8]> = line.split(|&byte| byte == b'\t').collect();
-    let value = fields.pop().unwrap_or_default();
-    let mut keys = Vec::new();
-    for field in fields {
-        let key = text::unescaped(field).map_err(bad)?;
-        keys.push(String::from_utf8(key).map_err(|_| Failure::refused(NO, what, Refusal::KeyNotUtf8))?);
-    }
-    let key = keys.pop().ok_or_else(|| bad("no TAB between key and value"))?;
-    if keys.len() >= MAX_NESTING {
-        return Err(Failure::refused(NO, what, Refusal::NestedTooDeep));
-    }
-    let mut table = content;
-    for key in keys {
-        match table.entry(key).or_insert_with(|| Node::Table(Content::new())) {
-            Node::Table(nested) => table = nested,
-            _ => return Err(bad("a table on its path is a value on another line")),
-        }
-    }
-    let node = match value {
-        TABLE => Node::Table(Content::new()),
-        hex => Node::Value(Cow::Owned(text::unhex(hex).ok_or_else(|| bad("the value is neither pairs of hex digits nor {}"))?)),
-    };
-    let named = text::cut(&text::quoted(&key));
-    match table.entry(key) {
-        btree_map::Entry::Vacant(free) => {
-            free.insert(node);
-            Ok(())
-        }
-        btree_map::Entry::Occupied(there) => match (there.get(), node) {
-            (Node::Table(_), Node::Table(_)) => Ok(()),
-            (Node::Value(_), Node::Value(_)) => Err(bad(&format!("key {named} stands on two lines"))),
-            _ => Err(bad(&format!("key {named} is a value on one line and a table on another"))),
-        },
-    }
+/// A key that is on a line already.
+fn clash(place: &Place, there: &Node, here: &str, numbers: &BTreeMap<Place, usize>, number: usize) -> Failure {
+    let named = text::cut(&text::path(&place.0, &place.1));
+    let before = numbers.get(place).copied().unwrap_or_default();
+    Failure::usage(match kind(there) {
+        there if there == here => format!("line {number}: key {named} stands on line {before} too"),
+        there => format!("line {number}: key {named} is {here} here and {there} on line {before}"),
+    })
 }

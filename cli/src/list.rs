@@ -2,7 +2,7 @@
 
 use crate::args::Args;
 use crate::check::Broken;
-use crate::failure::{name, Failure};
+use crate::failure::Failure;
 use crate::json::Json;
 use crate::out::{self, Colour, Out};
 use crate::source::{not_found, Source, Walk};
@@ -33,8 +33,7 @@ pub fn run(args: &Args, out: &mut Out) -> Result<u8, Failure> {
     if args.flag("--json") {
         let items = rows.iter().map(|row| row.json(&mut walk)).collect::<Result<_, _>>()?;
         let order = Json::text(source.header.order.name());
-        let file = Json::text(name(source.path.as_os_str()));
-        Json::Object(vec![("file", file), ("byte_order", order), ("table", Json::texts(&path)), ("items", Json::List(items))]).print(out)?;
+        Json::Object(vec![("file", source.json_name()), ("byte_order", order), ("table", Json::texts(&path)), ("items", Json::List(items))]).print(out)?;
         return Ok(0);
     }
     for row in &rows {

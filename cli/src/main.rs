@@ -2,19 +2,28 @@
 
 mod advice;
 mod args;
+mod both;
 mod check;
 mod content;
+mod decide;
 mod diff;
 mod failure;
 mod header;
 mod help;
+mod hidden;
+mod input;
 mod json;
+mod lay;
 mod lines;
 mod list;
+mod lock;
 mod merge;
+mod merging;
 mod out;
+mod replace;
 mod report;
 mod source;
+mod target;
 mod text;
 mod tree;
 
@@ -47,14 +56,18 @@ const COMMANDS: &[Command] = &[
     Command {
         name: "merge",
         help: help::MERGE,
-        spec: Spec { flags: &["--json"], valued: &["-o", "--keep", "--report", "--separator"], words: &["OWN", "OTHER"] },
+        spec: Spec {
+            flags: &["--json", "--replace", "--dry-run", "--without-containers"],
+            valued: &["-o", "--keep", "--decide", "--base", "--report", "--separator"],
+            words: &["OWN", "OTHER"],
+        },
         run: merge::run,
     },
-    Command { name: "dump", help: help::DUMP, spec: Spec { flags: &[], valued: &[], words: &["FILE"] }, run: lines::dump },
+    Command { name: "dump", help: help::DUMP, spec: Spec { flags: &["--json"], valued: &["--separator"], words: &["FILE"] }, run: lines::dump },
     Command {
         name: "build",
         help: help::BUILD,
-        spec: Spec { flags: &["--big-endian", "--empty"], valued: &["-o", "--separator"], words: &[] },
+        spec: Spec { flags: &["--big-endian", "--empty", "--replace", "--without-containers"], valued: &["-o", "--separator"], words: &[] },
         run: lines::build,
     },
 ];

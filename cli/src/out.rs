@@ -1,13 +1,17 @@
-//! Where things are written: standard output, progress on standard error, and files that are there whole or not at all.
+//! Where things are told: standard output, and progress on standard error.
 
-use crate::failure::{name, Failure};
-use std::fs::{self, File, OpenOptions};
+use crate::failure::Failure;
+use std::fs::File;
 use std::io::{self, BufWriter, IsTerminal, Write};
-use std::path::{Path, PathBuf};
-use std::process;
+use std::os::fd::AsFd;
+use std::os::unix::fs::FileTypeExt;
+use std::thread;
+use std::time::Duration;
 
 /// Files longer than this are worth a line of progress.
 const LONG: usize = 1_000_000;
+/// What a reader needs to end.
+const MOMENT: Duration = Duration::from_millis(20);
 
 #[derive(Clone, Copy)]
 pub enum Colour {
@@ -19,16 +23,24 @@ pub enum Colour {
 
 /// Standard output, with colours on a terminal only.
 pub struct Out {
-    pub stdout: BufWriter<io::Stdout>,
+    pub stdout: BufWriter<Box<dyn Write>>,
     terminal: bool,
     colours: bool,
 }
 
 impl Out {
     pub fn new() -> Out {
-        let terminal = io::stdout().is_terminal();
+        Out::to(Box::new(io::stdout()), io::stdout().is_terminal())
+    }
+
+    /// Standard error, for what is told where standard output takes a file.
+    pub fn error() -> Out {
+        Out::to(Box::new(io::stderr()), io::stderr().is_terminal())
+    }
+
+    fn to(stream: Box<dyn Write>, terminal: bool) -> Out {
         let colours = terminal && std::env::var_os("NO_COLOR").is_none();
-        Out { stdout: BufWriter::new(io::stdout()), terminal, colours }
+        Out { stdout: BufWriter::new(stream), terminal, colours }
     }
 
     pub fn is_terminal(&self) -> bool {
@@ -45,6 +57,20 @@ impl Out {
     pub fn line(&mut self, line: impl AsRef<str>) -> Result<(), Failure> {
         Ok(writeln!(self.stdout, "{}", line.as_ref())?)
     }
+
+    /// Gives a reader who wants no more than the first line the time to go: what is written then fails, while a pipe would hold it for nobody.
+    pub fn pause(&self) {
+        let stream = io::stdout().as_fd().try_clone_to_owned().map(File::from);
+        if stream.and_then(|stream| stream.metadata()).is_ok_and(|found| found.file_type().is_fifo()) {
+            thread::sleep(MOMENT);
+        }
+    }
+
+    /// Writes text on its way, so that whoever goes on knows that it was taken.
+    pub fn tell(&mut self, text: &str) -> Result<(), Failure> {
+        self.stdout.write_all(text.as_bytes())?;
+        Ok(self.stdout.flush()?)
+    }
 }
 
 /// A line on standard error. That it cannot be written changes nothing.
@@ -57,69 +83,4 @@ pub fn progress(bytes: usize, line: impl FnOnce() -> String) {
     if bytes > LONG {
         say(line());
     }
-}
-
-/// A file that is written beside its place and not yet put there. Dropped, it leaves nothing behind.
-pub struct Pending {
-    beside: PathBuf,
-    place: PathBuf,
-}
-
-impl Pending {
-    pub fn write(place: &Path, bytes: &[u8]) -> Result<Pending, Failure> {
-        let (place, before) = resolved(place)?;
-        let failed = |error| Failure::system(&place, error);
-        let mut hidden = std::ffi::OsString::from(".");
-        hidden.push(place.file_name().ok_or_else(|| Failure::usage(format!("{}: not the name of a file", name(place.as_os_str()))))?);
-        hidden.push(format!(".{}.tmp", process::id()));
-        let beside = place.with_file_name(hidden);
-        let mut file = OpenOptions::new().write(true).create_new(true).open(&beside).map_err(failed)?;
-        let pending = Pending { beside, place: place.clone() };
-        file.write_all(bytes).map_err(failed)?;
-        if let Some(before) = before {
-            file.set_permissions(before.permissions()).map_err(failed)?;
-        }
-        file.sync_all().map_err(failed)?;
-        Ok(pending)
-    }
-
-    /// Puts the file in its place, over what was there.
-    pub fn put(self) -> Result<(), Failure> {
-        fs::rename(&self.beside, &self.place).map_err(|error| Failure::system(&self.place, error))?;
-        // The folder's entry is on the disk too, where the system can say so.
-        let folder = self.place.parent().filter(|folder| !folder.as_os_str().is_empty()).unwrap_or(Path::new("."));
-        let _ = File::open(folder).and_then(|folder| folder.sync_all());
-        Ok(())
-    }
-}
-
-impl Drop for Pending {
-    fn drop(&mut self) {
-        let _ = fs::remove_file(&self.beside);
-    }
-}
-
-/// The place behind links, and what is there now. Only a plain file is written over: a device or a folder is not ours to replace.
-fn resolved(place: &Path) -> Result<(PathBuf, Option<fs::Metadata>), Failure> {
-    let failed = |error| Failure::system(place, error);
-    let place = match fs::symlink_metadata(place) {
-        Ok(found) if found.is_symlink() => fs::canonicalize(place).map_err(failed)?,
-        _ => place.to_path_buf(),
-    };
-    match fs::metadata(&place) {
-        Ok(found) if found.is_file() => Ok((place, Some(found))),
-        Ok(_) => Err(Failure::usage(format!("{}: not a plain file, so it is not written over", name(place.as_os_str())))),
-        Err(error) if error.kind() == io::ErrorKind::NotFound => Ok((place, None)),
-        Err(error) => Err(failed(error)),
-    }
-}
-
-/// Whether two paths lead to one place, be something there or not.
-pub fn same_place(a: &Path, b: &Path) -> bool {
-    fn place(path: &Path) -> PathBuf {
-        let folder = path.parent().filter(|folder| !folder.as_os_str().is_empty()).unwrap_or(Path::new("."));
-        let beside = || Some(fs::canonicalize(folder).ok()?.join(path.file_name()?));
-        fs::canonicalize(path).ok().or_else(beside).unwrap_or_else(|| path.to_path_buf())
-    }
-    place(a) == place(b)
 }

@@ -1,300 +1,238 @@
-//! What a merge tells: every key that stands in both files, and what was dropped.
+//! What a merge tells: every key that stands in both files, and what OUT does not have.
 
-use crate::content::{self, Content, Node, Place};
-use crate::failure::{name, Failure};
+use crate::both::{leaf_json, leaf_text, line, place_json, Both, Line, Outcome, Room, Side};
+use crate::content::{self, Leaf, Node, Place};
+use crate::failure::in_words;
 use crate::header::ByteOrder;
 use crate::json::Json;
 use crate::out::{Colour, Out};
-use crate::source::Source;
 use crate::text;
-use std::path::Path;
 
-/// Values of so many bytes are printed whole; the report's file and JSON have every byte.
+/// Values of so many bytes are printed whole where they stand in OUT; the report's file and JSON have every byte.
 const SHORT: usize = 32;
+/// How each report begins, as lines and as JSON.
+const BEGINS: [&[u8]; 2] = [b"merge of own ", b"{\"own\":"];
 
-#[derive(Clone, Copy, PartialEq, Eq, Debug)]
-pub enum Side {
-    Own,
-    Other,
-}
-
-impl Side {
-    pub fn name(self) -> &'static str {
-        match self {
-            Side::Own => "own",
-            Side::Other => "other",
-        }
-    }
-
-    pub fn dropped(self) -> Side {
-        match self {
-            Side::Own => Side::Other,
-            Side::Other => Side::Own,
-        }
-    }
-}
-
-#[derive(Clone, Copy, PartialEq, Eq, Debug)]
-pub enum Outcome {
-    /// Values that are equal.
-    Same,
-    /// Tables, merged key by key.
-    Tables,
-    /// Values that differ, or different kinds.
-    Conflict,
-}
-
-/// A key that stands in both files.
-pub struct Both<'a> {
-    pub path: Vec<String>,
-    pub key: String,
-    pub own: Node<'a>,
-    pub other: Node<'a>,
-    pub outcome: Outcome,
+/// What is merged, and how: the names as JSON has them, and the options that the report repeats.
+pub struct Heading {
+    pub own: String,
+    pub other: String,
+    pub base: Option<String>,
+    pub out: String,
+    pub keep: Option<Side>,
+    pub separator: Option<u8>,
+    pub order: ByteOrder,
 }
 
 pub struct Report<'a> {
-    own: String,
-    other: String,
-    out: String,
-    keep: Option<Side>,
-    separator: Option<u8>,
-    order: ByteOrder,
+    heading: Heading,
     both: Vec<Both<'a>>,
-    only_own: usize,
-    only_other: usize,
-    /// The number of values of OUT, once it is laid.
-    values: Option<usize>,
-    unmade: Vec<Place>,
+    /// The values that stand in one file alone, and are new since the base.
+    only: [usize; 2],
+    /// Lines of `--decide` that met no conflict, and a report that is replaced.
+    pub notes: Vec<String>,
+    /// The containers that cannot be in OUT.
+    pub unmade: Vec<Place>,
+    /// What the file that `--replace` writes over has and OUT does not.
+    pub lost: Vec<(Place, Leaf<'a>)>,
+    /// The values of OUT.
+    pub values: usize,
 }
 
-/// A line: its first word, which may have a colour, and the rest.
-type Line = (&'static str, Option<Colour>, String);
+/// How a merge ends.
+pub enum End<'e> {
+    Merged,
+    /// What a dry run says.
+    WouldBe,
+    /// With the reason, where it is no conflict.
+    Refused(Option<&'e str>),
+}
+
+/// What the report is told to.
+#[derive(Clone, Copy)]
+pub struct Listener<'o> {
+    pub json: bool,
+    /// Whether every byte of what is dropped is told, and of the rest.
+    pub dropped_whole: bool,
+    pub whole: bool,
+    /// For its colours.
+    pub out: Option<&'o Out>,
+}
 
 impl<'a> Report<'a> {
-    pub fn new(own: &Source, other: &Source, out: &Path, keep: Option<Side>, separator: Option<u8>, order: ByteOrder) -> Report<'a> {
-        let [own, other, out] = [own.path.as_path(), &other.path, out].map(|path| name(path.as_os_str()));
-        Report { own, other, out, keep, separator, order, both: Vec::new(), only_own: 0, only_other: 0, values: None, unmade: Vec::new() }
+    pub fn new(heading: Heading) -> Report<'a> {
+        Report { heading, both: Vec::new(), only: [0; 2], notes: Vec::new(), unmade: Vec::new(), lost: Vec::new(), values: 0 }
+    }
+
+    /// Whether bytes are a report, which another may replace.
+    pub fn begins(bytes: &[u8]) -> bool {
+        BEGINS.iter().any(|begin| bytes.starts_with(begin))
     }
 
     /// Counts what stands in one file alone.
     pub fn only(&mut self, side: Side, node: &Node) {
-        let values = match node {
+        self.only[side as usize] += match node {
             Node::Value(_) => 1,
             Node::Table(nested) => content::values(nested).len(),
             Node::Container => 0,
         };
-        match side {
-            Side::Own => self.only_own += values,
-            Side::Other => self.only_other += values,
-        }
     }
 
     pub fn both(&mut self, both: Both<'a>) {
         self.both.push(both);
     }
 
-    pub fn conflicts(&self) -> usize {
-        self.count(Outcome::Conflict)
+    /// The conflicts that nobody has decided.
+    pub fn open_conflicts(&self) -> usize {
+        self.count(|outcome| outcome == Outcome::Conflict(None))
     }
 
-    fn count(&self, outcome: Outcome) -> usize {
-        self.both.iter().filter(|both| both.outcome == outcome).count()
+    fn count(&self, which: impl Fn(Outcome) -> bool) -> usize {
+        self.both.iter().filter(|both| which(both.outcome)).count()
     }
 
-    /// OUT is laid with so many values.
-    pub fn written(&mut self, values: usize, unmade: Vec<Place>) {
-        self.values = Some(values);
-        self.unmade = unmade;
-    }
-
-    pub fn print(&self, out: &mut Out, json: bool) -> Result<(), Failure> {
-        if json {
-            return out.line(self.json().to_string());
+    /// The first line, or the first fields.
+    pub fn head(&self, listener: Listener) -> String {
+        let Heading { own, other, base, .. } = &self.heading;
+        if listener.json {
+            return "{".to_string() + &inner(vec![("own", Json::text(own)), ("other", Json::text(other))]);
         }
-        for (word, colour, rest) in self.lines(SHORT) {
-            let word = colour.map_or(word.to_string(), |colour| out.paint(colour, word));
-            out.line(word + &rest)?;
-        }
-        Ok(())
+        let read = |name| in_words(name, "standard input");
+        let (own, other) = (read(own), read(other));
+        let base = base.as_ref().map_or(String::new(), |base| format!(" since base {}", read(base)));
+        told(vec![line("merge", None, format!(" of own {own} and other {other}{base}"))], listener.out)
     }
 
-    /// The report as its file holds it.
-    pub fn file(&self, json: bool) -> String {
-        match json {
-            true => format!("{}\n", self.json()),
-            false => self.lines(usize::MAX).into_iter().map(|(word, _, rest)| format!("{word}{rest}\n")).collect(),
+    /// All that is known before OUT is in its place.
+    pub fn body(&self, listener: Listener) -> String {
+        if listener.json {
+            return ",".to_string() + &inner(self.fields());
         }
-    }
-
-    fn lines(&self, short: usize) -> Vec<Line> {
-        let mut lines = vec![("merge", None, format!(" of own {} and other {}", text::shown(&self.own), text::shown(&self.other)))];
-        if self.order == ByteOrder::Big {
-            lines.push(("note", Some(Colour::Yellow), " the values of both files are big-endian".to_string()));
+        let room = |whole| if whole { usize::MAX } else { SHORT };
+        let room = Room { standing: room(listener.whole), dropped: room(listener.dropped_whole) };
+        let mut lines = Vec::new();
+        if self.heading.order == ByteOrder::Big {
+            lines.push(line("note", Colour::Yellow, " the values of both files are big-endian"));
         }
-        self.both.iter().for_each(|both| both.lines(self.keep, short, &mut lines));
+        self.both.iter().for_each(|both| both.lines(room, &mut lines));
+        lines.extend(self.notes.iter().map(|note| line("note", Colour::Yellow, format!(" {note}"))));
         for (path, key) in &self.unmade {
-            let why = self.separator.map_or("there is no separator".to_string(), |byte| format!("the separator {:?} does not make it", byte as char));
-            lines.push(("note", Some(Colour::Yellow), format!(" container {} is not kept: {why}", text::path(path, key))));
+            let rest = format!(" container {} is not in {}: {}", text::path(path, key), self.out(), why_unmade(key, self.heading.separator, ""));
+            lines.push(line("note", Colour::Yellow, rest));
         }
-        let out = text::shown(&self.out);
-        let (word, colour, values) = match self.values {
-            Some(values) => ("merged", Colour::Green, format!(" into {out}: {}", text::count(values, "value"))),
-            None => ("refused", Colour::Red, format!(": {out} is not written")),
-        };
-        let counts = format!("; {} only in own, {} only in other, {} the same in both", self.only_own, self.only_other, self.count(Outcome::Same));
-        lines.push((word, Some(colour), format!("{values}{counts}, {}{}", text::count(self.conflicts(), "conflict"), self.dropped_count())));
-        lines
+        lines.extend(self.lost.iter().map(|(place, leaf)| lost_line(place, leaf, room.dropped)));
+        told(lines, listener.out)
     }
 
-    fn dropped_count(&self) -> String {
-        match self.keep {
-            Some(side) => format!(" ({} kept, {} of {} dropped)", side.name(), text::count(self.dropped().len(), "value"), side.dropped().name()),
+    /// The last line, or the last fields: they say what came of it.
+    pub fn tail(&self, end: &End, listener: Listener) -> String {
+        if listener.json {
+            return format!(",{}}}\n", inner(self.end_fields(end)));
+        }
+        let out = self.out();
+        let (word, colour, rest) = match end {
+            End::Merged => ("merged", Colour::Green, format!(" into {out}: {}", text::count(self.values, "value"))),
+            End::WouldBe => ("would", Colour::Green, format!(" be merged into {out}: {}", text::count(self.values, "value"))),
+            End::Refused(None) => ("refused", Colour::Red, format!(": {out} is not written")),
+            End::Refused(Some(why)) => ("refused", Colour::Red, format!(": {out} is not written ({why})")),
+        };
+        told(vec![line(word, colour, format!("{rest}; {}", self.counts()))], listener.out)
+    }
+
+    fn out(&self) -> &str {
+        in_words(&self.heading.out, "standard output")
+    }
+
+    fn counts(&self) -> String {
+        let [own, other] = self.only;
+        let same = self.count(|outcome| outcome == Outcome::Same);
+        let conflicts = text::count(self.count(|outcome| matches!(outcome, Outcome::Conflict(_))), "conflict");
+        let changed = match &self.heading.base {
+            Some(_) => format!(", {} changed in one", self.count(|outcome| matches!(outcome, Outcome::Changed(_)))),
             None => String::new(),
-        }
+        };
+        let kept: Vec<String> = Side::BOTH.into_iter().filter_map(|side| self.kept(side)).collect();
+        let kept = if kept.is_empty() { String::new() } else { format!(" ({})", kept.join("; ")) };
+        format!("{own} only in own, {other} only in other, {same} the same in both{changed}, {conflicts}{kept}")
     }
 
-    /// Every value that OUT does not have, with its place.
-    fn dropped(&self) -> Vec<(Place, &[u8])> {
-        let Some(side) = self.keep else { return Vec::new() };
-        let conflicts = self.both.iter().filter(|both| both.outcome == Outcome::Conflict);
-        conflicts.flat_map(|both| both.values(side.dropped())).collect()
+    /// How often a side of a conflict is kept, and what that drops.
+    fn kept(&self, side: Side) -> Option<String> {
+        let kept = self.count(|outcome| outcome == Outcome::Conflict(Some(side)));
+        let dropped = self.dropped(side.dropped()).into_iter().filter(|(_, leaf)| matches!(leaf, Leaf::Value(_))).count();
+        (kept > 0).then(|| format!("{} kept in {kept}, {} of {} dropped", side.name(), text::count(dropped, "value"), side.dropped().name()))
     }
 
-    fn json(&self) -> Json {
-        let values = vec![
-            ("out", self.values.map_or(Json::Null, Json::Number)),
-            ("only_own", Json::Number(self.only_own)),
-            ("only_other", Json::Number(self.only_other)),
-            ("same", Json::Number(self.count(Outcome::Same))),
-            ("conflicts", Json::Number(self.conflicts())),
-            ("dropped", Json::Number(self.dropped().len())),
-        ];
-        Json::Object(vec![
-            ("own", Json::text(&self.own)),
-            ("other", Json::text(&self.other)),
-            ("out", Json::text(&self.out)),
-            ("written", Json::Bool(self.values.is_some())),
-            ("keep", self.keep.map_or(Json::Null, |side| Json::text(side.name()))),
-            ("byte_order", Json::text(self.order.name())),
-            ("separator", self.separator.map_or(Json::Null, |byte| Json::text(byte as char))),
+    /// What of one side OUT does not have, since the other is kept.
+    fn dropped(&self, side: Side) -> Vec<(Place, Leaf<'_>)> {
+        let conflicts = self.both.iter().filter(|both| both.outcome == Outcome::Conflict(Some(side.dropped())));
+        conflicts.flat_map(|both| both.leaves(both.node(side))).collect()
+    }
+
+    fn fields(&self) -> Vec<(&'static str, Json)> {
+        let heading = &self.heading;
+        let leaves = |leaves: Vec<(Place, Leaf)>| Json::List(leaves.iter().map(leaf_json).collect());
+        vec![
+            ("base", heading.base.as_ref().map_or(Json::Null, Json::text)),
+            ("out", Json::text(&heading.out)),
+            ("keep", heading.keep.map_or(Json::Null, |side| Json::text(side.name()))),
+            ("byte_order", Json::text(heading.order.name())),
+            ("separator", heading.separator.map_or(Json::Null, |byte| Json::text(byte as char))),
             ("both", Json::List(self.both.iter().map(Both::json).collect())),
-            ("dropped", Json::List(self.dropped().into_iter().map(value_json).collect())),
+            ("dropped", leaves(Side::BOTH.into_iter().flat_map(|side| self.dropped(side)).collect())),
+            ("lost", leaves(self.lost.clone())),
             ("containers_not_kept", Json::List(self.unmade.iter().map(|place| Json::Object(place_json(place))).collect())),
-            ("values", Json::Object(values)),
-        ])
-    }
-}
-
-impl Both<'_> {
-    fn lines(&self, keep: Option<Side>, short: usize, lines: &mut Vec<Line>) {
-        let place = text::path(&self.path, &self.key);
-        match self.outcome {
-            Outcome::Same => lines.push(("same", Some(Colour::Green), format!(" {place}: {}", held(&self.own, short)))),
-            Outcome::Tables => lines.push(("tables", Some(Colour::Blue), format!(" {place}: in both, merged key by key"))),
-            Outcome::Conflict => {
-                lines.push(("conflict", Some(Colour::Red), format!(" {place}{}", self.difference(short))));
-                [Side::Own, Side::Other].into_iter().for_each(|side| self.side_lines(side, keep, short, lines));
-            }
-        }
+            ("notes", Json::texts(&self.notes)),
+        ]
     }
 
-    /// What one side of a conflict holds, and whether it is kept. A line of what is dropped says the key too, so that it stands for itself.
-    fn side_lines(&self, side: Side, keep: Option<Side>, short: usize, lines: &mut Vec<Line>) {
-        let (word, colour, key) = match keep {
-            None => ("   ", None, String::new()),
-            Some(kept) if kept == side => ("    kept   ", Some(Colour::Green), String::new()),
-            Some(_) => ("    dropped", Some(Colour::Red), text::path(&self.path, &self.key) + ": "),
+    fn end_fields(&self, end: &End) -> Vec<(&'static str, Json)> {
+        let out = match end {
+            End::Merged | End::WouldBe => Json::Number(self.values),
+            End::Refused(_) => Json::Null,
         };
-        let side_name = side.name();
-        lines.push((word, colour, format!(" {side_name:<5}  {key}{}", held(self.node(side), short))));
-        if let Node::Table(_) = self.node(side) {
-            for ((path, key), bytes) in self.values(side) {
-                lines.push((word, colour, format!(" {side_name:<5}    {}: {}", text::path(&path, &key), bytes_held(bytes, short))));
-            }
-        }
-    }
-
-    fn node(&self, side: Side) -> &Node<'_> {
-        match side {
-            Side::Own => &self.own,
-            Side::Other => &self.other,
-        }
-    }
-
-    /// The values that one side holds here: its own, or those of its table.
-    fn values(&self, side: Side) -> Vec<(Place, &[u8])> {
-        match self.node(side) {
-            Node::Value(bytes) => vec![((self.path.clone(), self.key.clone()), bytes)],
-            Node::Container => Vec::new(),
-            Node::Table(nested) => {
-                let around: Vec<String> = self.path.iter().chain([&self.key]).cloned().collect();
-                let inner = content::values(nested).into_iter();
-                inner.map(|((path, key), bytes)| (([around.clone(), path].concat(), key), bytes)).collect()
-            }
-        }
-    }
-
-    /// Where two values begin to differ, if one of them is not printed whole.
-    fn difference(&self, short: usize) -> String {
-        match (&self.own, &self.other) {
-            (Node::Value(a), Node::Value(b)) if a.len().max(b.len()) > short => {
-                let same = a.iter().zip(b.iter()).take_while(|(a, b)| a == b).count();
-                format!(": they differ from byte {} on", text::grouped(same))
-            }
-            _ => String::new(),
-        }
-    }
-
-    fn json(&self) -> Json {
-        let outcome = match self.outcome {
-            Outcome::Same => "same",
-            Outcome::Tables => "tables",
-            Outcome::Conflict => "conflict",
+        let values = vec![
+            ("out", out),
+            ("only_own", Json::Number(self.only[0])),
+            ("only_other", Json::Number(self.only[1])),
+            ("same", Json::Number(self.count(|outcome| outcome == Outcome::Same))),
+            ("changed", Json::Number(self.count(|outcome| matches!(outcome, Outcome::Changed(_))))),
+            ("conflicts", Json::Number(self.count(|outcome| matches!(outcome, Outcome::Conflict(_))))),
+            ("undecided", Json::Number(self.open_conflicts())),
+        ];
+        let why = match end {
+            End::Refused(Some(why)) => Json::text(*why),
+            _ => Json::Null,
         };
-        let mut fields = vec![("path", Json::texts(&self.path)), ("key", Json::text(&self.key)), ("outcome", Json::text(outcome))];
-        if self.outcome != Outcome::Tables {
-            fields.extend([("own", self.side_json(Side::Own)), ("other", self.side_json(Side::Other))]);
-        }
-        Json::Object(fields)
-    }
-
-    fn side_json(&self, side: Side) -> Json {
-        Json::Object(match self.node(side) {
-            Node::Value(bytes) => vec![("kind", Json::text("value")), ("size", Json::Number(bytes.len())), ("value", Json::Text(text::hex(bytes)))],
-            Node::Container => vec![("kind", Json::text("container"))],
-            Node::Table(nested) => {
-                let values = self.values(side).into_iter().map(value_json).collect();
-                vec![("kind", Json::text("table")), ("size", Json::Number(nested.len())), ("values", Json::List(values))]
-            }
-        })
+        vec![("written", Json::Bool(matches!(end, End::Merged))), ("why", why), ("values", Json::Object(values))]
     }
 }
 
-fn held(node: &Node, short: usize) -> String {
-    match node {
-        Node::Value(bytes) => bytes_held(bytes, short),
-        Node::Table(nested) => format!("table of {}", table_size(nested)),
-        Node::Container => "container (what is below it stays)".to_string(),
+/// A value of the file that is replaced, which the new one does not have.
+pub fn lost_line(place: &Place, leaf: &Leaf, room: usize) -> Line {
+    line("dropped", Colour::Red, format!(" from before {}", leaf_text(place, leaf, room)))
+}
+
+/// Why a container cannot be laid, and what else is to be said of that; the number of a refusal is last.
+pub fn why_unmade(key: &str, separator: Option<u8>, more: &str) -> String {
+    match separator {
+        _ if key.is_empty() => format!("no item with the empty key can be laid{more} (30)"),
+        Some(byte) => format!("the separator {:?} does not make it{more}", byte as char),
+        None => format!("there is no separator{more}"),
     }
 }
 
-fn table_size(table: &Content) -> String {
-    text::count(table.len(), "item")
+/// Lines with the colours of where they go.
+pub fn told(lines: Vec<Line>, out: Option<&Out>) -> String {
+    let paint = |word: &str, colour: Option<Colour>| match (out, colour) {
+        (Some(out), Some(colour)) => out.paint(colour, word),
+        _ => word.to_string(),
+    };
+    lines.into_iter().map(|(word, colour, rest)| format!("{}{rest}\n", paint(word, colour))).collect()
 }
 
-fn bytes_held(bytes: &[u8], short: usize) -> String {
-    let shown = &bytes[..bytes.len().min(short)];
-    let more = if shown.len() < bytes.len() { "..." } else { "" };
-    format!("value of {}: {}{more}", text::count(bytes.len(), "byte"), text::hex(shown)).trim_end().to_string()
-}
-
-fn place_json((path, key): &Place) -> Vec<(&'static str, Json)> {
-    vec![("path", Json::texts(path)), ("key", Json::text(key))]
-}
-
-fn value_json((place, bytes): (Place, &[u8])) -> Json {
-    let mut fields = place_json(&place);
-    fields.push(("value", Json::Text(text::hex(bytes))));
-    Json::Object(fields)
+/// The fields of an object, without its braces.
+fn inner(fields: Vec<(&'static str, Json)>) -> String {
+    let object = Json::Object(fields).to_string();
+    object[1..object.len() - 1].to_string()
 }

@@ -2,13 +2,11 @@
 
 use crate::failure::{name, Failure, NO, UNREADABLE};
 use crate::header::{self, Header};
-use crate::{out, text};
+use crate::json::Json;
+use crate::{input, out, text};
 use gvdb::{Entry, Refusal, Table, MAX_FILE};
 use std::ffi::OsStr;
-use std::fs::File;
-use std::io::{self, Read};
 use std::path::PathBuf;
-use std::sync::atomic::{AtomicBool, Ordering};
 
 /// Tables nested deeper than this are not walked.
 pub const DEEPEST: usize = 64;
@@ -16,9 +14,6 @@ pub const DEEPEST: usize = 64;
 const KEY_BYTES: usize = 256 << 20;
 /// The values of one file that are taken, in bytes. Values that do not overlap are no longer than the file.
 const VALUE_BYTES: usize = 64 << 20;
-
-/// Whether standard input was read. Who asks for it twice would get nothing the second time.
-static INPUT_TAKEN: AtomicBool = AtomicBool::new(false);
 
 /// A file with its header, read.
 pub struct Source {
@@ -32,15 +27,7 @@ pub struct Source {
 impl Source {
     /// The file at a path, or standard input for `-`.
     pub fn read(path: &OsStr) -> Result<Source, Failure> {
-        let input = path == "-";
-        let name = if input { "standard input".to_string() } else { name(path) };
-        if input && INPUT_TAKEN.swap(true, Ordering::Relaxed) {
-            return Err(Failure::usage("standard input (-) can be read once; give a file's name for the other"));
-        }
-        let failed = |error| Failure::usage(format!("{name}: {error}"));
-        let mut bytes = Vec::new();
-        let from: Box<dyn Read> = if input { Box::new(io::stdin()) } else { Box::new(File::open(path).map_err(failed)?) };
-        from.take(MAX_FILE as u64 + 1).read_to_end(&mut bytes).map_err(failed)?;
+        let (name, bytes) = input::read(path, MAX_FILE)?;
         out::progress(bytes.len(), || format!("{name}: {} read", text::count(bytes.len(), "byte")));
         Ok(Source { path: PathBuf::from(path), ..Source::of(&name, bytes)? })
     }
@@ -49,6 +36,11 @@ impl Source {
     pub fn of(name: &str, bytes: Vec<u8>) -> Result<Source, Failure> {
         let header = header::read(&bytes).map_err(|told| Failure::refused(UNREADABLE, name, told))?;
         Ok(Source { path: PathBuf::new(), name: name.to_string(), bytes, header })
+    }
+
+    /// The path, for JSON: it can hold no byte that is not UTF-8.
+    pub fn json_name(&self) -> Json {
+        Json::text(name(self.path.as_os_str()))
     }
 
     pub fn root(&self) -> Result<Table<'_>, Failure> {

@@ -2,7 +2,7 @@
 
 use crate::args::Args;
 use crate::check::Broken;
-use crate::failure::{name, Failure, Told};
+use crate::failure::{Failure, Told};
 use crate::header::ByteOrder;
 use crate::json::Json;
 use crate::list::{item_json, unread};
@@ -22,7 +22,7 @@ pub fn run(args: &Args, out: &mut Out) -> Result<u8, Failure> {
     let mut growing = Growing { source: &source, walk: source.walk(), path: Vec::new(), depth: 0, ended: None, unsound: None };
     let below = growing.table(&root);
     if args.flag("--json") {
-        let mut fields = vec![("file", Json::text(name(source.path.as_os_str()))), ("byte_order", Json::text(source.header.order.name()))];
+        let mut fields = vec![("file", source.json_name()), ("byte_order", Json::text(source.header.order.name()))];
         fields.extend([("size", Json::Number(root.len()))].into_iter().chain(below.json()));
         Json::Object(fields).print(out)?;
     } else {

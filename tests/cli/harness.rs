@@ -38,6 +38,11 @@ impl Ran {
     }
 }
 
+/// Says what cannot be tried here. A print would be seen only where a test fails.
+pub fn skipped(why: &str) {
+    let _ = writeln!(std::io::stderr(), "\nskipped: {why}");
+}
+
 pub fn program() -> PathBuf {
     PathBuf::from(env::var_os("GVDB").expect("GVDB"))
 }
@@ -94,9 +99,10 @@ pub fn names(folder: &Path) -> Vec<String> {
     names
 }
 
-/// Lays a file from lines.
+/// Lays a file from lines, where there may be one.
 #[track_caller]
 pub fn build(place: &Path, lines: &str) {
+    let _ = fs::remove_file(place);
     gvdb_fed(["build".as_ref(), "--empty".as_ref(), OsStr::new("-o"), place.as_os_str()], lines.as_bytes()).ends(0);
 }
 

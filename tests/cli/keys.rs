@@ -111,6 +111,9 @@ fn names_can_be_told_back() {
         assert_eq!(unescaped(&shown), name, "{shown}");
         let json = Json::parse(gvdb(["check".as_ref(), file.as_os_str(), "--json".as_ref()]).ends(0).text());
         assert!(json.list()[0].at("file").text().ends_with(&shown));
+        let words = ["merge".as_ref(), file.as_os_str(), file.as_os_str(), "-o".as_ref(), file.as_os_str(), "--dry-run".as_ref(), "--json".as_ref()];
+        let json = Json::parse(gvdb(words).ends(0).text());
+        assert!(["own", "other", "out"].iter().all(|field| json.at(field).text().ends_with(&format!("/{shown}"))), "{json:?}");
     }
 }
 

@@ -5,6 +5,7 @@ mod damage;
 mod diff;
 mod harness;
 mod json;
+mod keeper;
 mod keys;
 #[path = "../../bindings/rust/src/limits.rs"]
 mod limits;
@@ -12,8 +13,10 @@ mod lines;
 mod merge;
 mod model;
 mod oracle;
+mod outcome;
 mod places;
 mod reading;
 mod script;
 mod tour;
 mod usage;
+mod writers;

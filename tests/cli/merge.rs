@@ -48,8 +48,8 @@ fn a_conflict_refuses_and_names_both_values() {
     let report = "\
 merge of own own and other other
 conflict \"/p/2\"
-    own    value of 1 byte: 02
-    other  value of 1 byte: 03
+    own    \"/p/2\": value of 1 byte: 02
+    other  \"/p/2\": value of 1 byte: 03
 same \"same\": value of 1 byte: ff
 refused: out is not written; 1 only in own, 1 only in other, 1 the same in both, 1 conflict
 ";
@@ -59,8 +59,8 @@ refused: out is not written; 1 only in own, 1 only in other, 1 the same in both,
         let ran = pair.merge(&["--keep", keep]).ends(0).prints("conflict \"/p/2\"").prints("same \"same\"");
         let lines: Vec<&str> = ran.text().lines().filter(|line| line.starts_with("    ")).collect();
         let expected = match keep {
-            "own" => ["    kept    own    value of 1 byte: 02", "    dropped other  \"/p/2\": value of 1 byte: 03"],
-            _ => ["    dropped own    \"/p/2\": value of 1 byte: 02", "    kept    other  value of 1 byte: 03"],
+            "own" => ["    kept    own    \"/p/2\": value of 1 byte: 02", "    dropped other  \"/p/2\": value of 1 byte: 03"],
+            _ => ["    dropped own    \"/p/2\": value of 1 byte: 02", "    kept    other  \"/p/2\": value of 1 byte: 03"],
         };
         assert_eq!(lines, expected);
         assert_eq!(pair.dump(), format!("/p/1\t01\n/p/2\t{kept}\n/p/3\t04\nsame\tff\n"));
@@ -78,15 +78,43 @@ fn without_conflict_it_merges() {
 
 #[test]
 fn kinds_against_each_other() {
-    let pair = Pair::new("kinds", "a/\t01\nt\tx\t02\nt\tu\ty\t03\n", "a/b\t04\nt\t05\n");
-    let ran = pair.merge(&[]).ends(1).prints("conflict \"a/\"\n    own    value of 1 byte: 01\n    other  container (what is below it stays)\n");
-    ran.prints("conflict \"t\"\n    own    table of 2 items\n    own      \"t\" > \"u\" > \"y\": value of 1 byte: 03\n    own      \"t\" > \"x\": value of 1 byte: 02\n    other  value of 1 byte: 05\n");
+    let pair = Pair::new("kinds", "t\tx\t02\nt\tu\ty\t03\n", "t\t05\n");
+    let ran = pair.merge(&[]).ends(1);
+    ran.prints(
+        "conflict \"t\"\n    own    \"t\": table of 2 items\n    holds  own      \"t\" > \"u\" > \"y\": value of 1 byte: 03\n    holds  own      \"t\" > \"x\": value of 1 byte: 02\n    other  \"t\": value of 1 byte: 05\n",
+    );
     pair.refused();
-    pair.merge(&["--keep", "own"]).ends(0).prints("    dropped other  \"t\": value of 1 byte: 05").prints("(own kept, 1 value of other dropped)");
-    assert_eq!(pair.dump(), "a/\t01\na/b\t04\nt\t{}\nt\tu\t{}\nt\tu\ty\t03\nt\tx\t02\n");
+    pair.merge(&["--keep", "own"]).ends(0).prints("    dropped other  \"t\": value of 1 byte: 05").prints("(own kept in 1, 1 value of other dropped)");
+    assert_eq!(pair.dump(), "t\t{}\nt\tu\t{}\nt\tu\ty\t03\nt\tx\t02\n");
     let ran = pair.merge(&["--keep", "other"]).ends(0).prints("    dropped own      \"t\" > \"u\" > \"y\": value of 1 byte: 03\n");
-    ran.prints("    dropped own    \"a/\": value of 1 byte: 01\n").prints("(other kept, 3 values of own dropped)");
-    assert_eq!(pair.dump(), "a/b\t04\nt\t05\n");
+    ran.prints("    dropped own    \"t\": table of 2 items\n").prints("(other kept in 1, 2 values of own dropped)");
+    assert_eq!(pair.dump(), "t\t05\n");
+}
+
+/// A container holds nothing, so it displaces nothing, whichever side is kept; what is below it stays.
+#[test]
+fn a_container_displaces_nothing() {
+    for (own, other, side) in [("a/\t01\nt/\tx\t02\n", "a/b\t03\nt/u\t04\n", "own"), ("a/b\t03\nt/u\t04\n", "a/\t01\nt/\tx\t02\n", "other")] {
+        let pair = Pair::new("container", own, other);
+        for keep in ["", "--keep=own", "--keep=other"] {
+            let ran = pair.merge(&[keep]).ends(0).prints("merged into out: 4 values; 2 only in own, 2 only in other, 0 the same in both, 0 conflicts\n");
+            assert!(
+                ran.text().contains("note \"a/\": a container in ") && ran.text().contains(&format!("of {side} stands: value of 1 byte: 01\n")),
+                "{}",
+                ran.text()
+            );
+            assert_eq!(pair.dump(), "a/\t01\na/b\t03\nt/\t{}\nt/\tx\t02\nt/u\t04\n");
+        }
+    }
+}
+
+#[test]
+fn empty_tables_in_a_dropped_table_are_named() {
+    let pair = Pair::new("empty-tables", "t\tu\t{}\nt\tv\tw\t{}\nt\tx\t01\n", "t\t05\n");
+    let ran = pair.merge(&["--keep=other"]).ends(0).prints("    dropped own      \"t\" > \"u\": table without a value\n");
+    ran.prints("    dropped own      \"t\" > \"v\" > \"w\": table without a value\n").prints("1 value of own dropped");
+    let json = pair.merge(&["--keep=other", "--json"]).ends(0);
+    assert_eq!(places(Json::parse(json.text()).at("dropped"), None).len(), 3);
 }
 
 fn places(list: &Json, outcome: Option<&str>) -> BTreeSet<Vec<String>> {
@@ -111,10 +139,14 @@ fn random_merges() {
             let json = Json::parse(json.text());
             assert_eq!(places(json.at("both"), Some("conflict")), merged.conflicts, "{own:?} {other:?}");
             assert_eq!(places(json.at("both"), Some("same")), merged.same);
+            assert_eq!(places(json.at("both"), Some("kinds")), merged.kinds);
             assert_eq!(places(json.at("dropped"), None), merged.dropped.keys().cloned().collect());
             for entry in json.at("dropped").list() {
                 let place: Vec<String> = entry.at("path").list().iter().chain([entry.at("key")]).map(|key| key.text().to_string()).collect();
-                assert_eq!(unhex(entry.at("value").text()), merged.dropped[&place]);
+                match entry.at("value") {
+                    Json::Null => assert_eq!(merged.dropped[&place], None),
+                    value => assert_eq!(Some(unhex(value.text())), merged.dropped[&place]),
+                }
             }
             assert_eq!(pair.dump(), model::lines(&expected, ""));
             if let Some(oracle) = &mut oracle {
@@ -155,11 +187,18 @@ fn real_files_with_themselves_and_each_other() {
     let out = folder.join("out");
     let merge = |own: &str, other: &str| gvdb(["merge".as_ref(), real.join(own).as_os_str(), real.join(other).as_os_str(), "-o".as_ref(), out.as_os_str()]);
     merge("dconf-small.gvdb", "dconf-small.gvdb").ends(0).prints("3 values; 0 only in own, 0 only in other, 3 the same in both, 0 conflicts");
-    merge("dconf-small.gvdb", "schemas-eog.gvdb").ends(0).prints("note container \"\" is not kept: the separator '/' does not make it");
-    merge("dconf-deep.gvdb", "dconf-list.gvdb");
+    fs::remove_file(&out).unwrap();
+    // the container with the empty key that each table of a compiled schema has cannot be laid
+    let schemas = |word: &str| {
+        let files = ["schemas-nautilus-data.gvdb", "schemas-eog.gvdb"].map(|name| real.join(name));
+        gvdb(["merge".as_ref(), files[0].as_os_str(), files[1].as_os_str(), "-o".as_ref(), out.as_os_str(), word.as_ref()])
+    };
+    let refused = schemas("--keep=own").ends(1).says("containers cannot be laid, nothing is written; --without-containers leaves out what the notes name");
+    refused.prints("note container \"org.gnome.eog.ui\" > \"\" is not in ").prints("no item with the empty key can be laid (30)\n");
+    assert!(names(&folder).is_empty());
     let Some(mut oracle) = Oracle::start() else { return };
     let (own, other) = (oracle.read(&real.join("schemas-nautilus-data.gvdb")), oracle.read(&real.join("schemas-eog.gvdb")));
-    merge("schemas-nautilus-data.gvdb", "schemas-eog.gvdb").ends(0);
+    schemas("--without-containers").ends(0);
     assert_eq!(oracle.read(&out), model::merge(&own, &other, true, &[], &mut Merged::default()));
     fs::remove_file(&out).unwrap();
     for (own, other, said) in [
@@ -176,8 +215,9 @@ fn real_files_with_themselves_and_each_other() {
 #[test]
 fn byte_orders() {
     let pair = Pair::new("orders", "a\t01\n", "b\t02\n");
-    let big =
-        |name: &str, lines: &[u8]| gvdb_fed(["build".as_ref(), "--big-endian".as_ref(), "-o".as_ref(), pair.folder.join(name).as_os_str()], lines).ends(0);
+    let big = |name: &str, lines: &[u8]| {
+        gvdb_fed(["build".as_ref(), "--big-endian".as_ref(), "--replace".as_ref(), "-o".as_ref(), pair.folder.join(name).as_os_str()], lines).ends(0)
+    };
     big("other", b"b\t02\n");
     pair.merge(&["--keep=own"]).ends(1).says("own has little-endian values, other big-endian ones: they cannot stand in one file");
     pair.refused();
@@ -205,7 +245,8 @@ fn limits_end_the_merge_with_nothing_written() {
     ] {
         let pair = Pair::new("limits", &own, &other);
         let ran = pair.merge(&["--keep=own"]).ends(1);
-        assert!(ran.stderr.lines().last().unwrap().contains(&format!("({number})")) && ran.stdout.is_empty(), "{}", ran.stderr);
+        assert!(ran.stderr.lines().last().unwrap().ends_with(&format!(" ({number})")), "{}", ran.stderr);
+        assert!(ran.text().lines().last().unwrap().starts_with("refused: out is not written (out: key \""), "{}", ran.text());
         pair.refused();
     }
     let pair = Pair::new("fits", &flat(0, 600), &flat(600, MAX_ITEMS - 600));
@@ -246,16 +287,16 @@ fn what_other_writers_lay_and_ours_refuses() {
 fn the_report_has_every_byte() {
     let long = |last: &str| format!("k\t{}{last}\n", "ab".repeat(99));
     let pair = Pair::new("report", &long("01"), &long("02"));
-    let ran = pair.merge(&["--report", "report"]).ends(1).prints("conflict \"k\": they differ from byte 99 on\n");
+    let ran = pair.merge(&["--report", "report", "--replace"]).ends(1).prints("conflict \"k\": they differ from byte 99 on\n");
     assert!(ran.prints(&format!("value of 100 bytes: {}...\n", "ab".repeat(32))).stderr.lines().count() == 1);
     assert_eq!(names(&pair.folder), ["other", "own", "report"]);
     let refused = fs::read_to_string(pair.folder.join("report")).unwrap();
     assert!(refused.contains(&format!("{}01\n", "ab".repeat(99))) && refused.contains(&format!("{}02\n", "ab".repeat(99))));
     assert!(refused.trim_end().lines().last().unwrap().starts_with("refused: out is not written"));
-    pair.merge(&["--report=report", "--keep=other"]).ends(0);
+    pair.merge(&["--report=report", "--keep=other", "--replace"]).ends(0);
     let report = fs::read_to_string(pair.folder.join("report")).unwrap();
     assert!(report.contains(&format!("    dropped own    \"k\": value of 100 bytes: {}01\n", "ab".repeat(99))) && report.contains("merged into out: 1 value;"));
-    let json = pair.merge(&["--report=report", "--keep=own", "--json"]).ends(0);
+    let json = pair.merge(&["--report=report", "--keep=own", "--json", "--replace"]).ends(0);
     assert_eq!(fs::read_to_string(pair.folder.join("report")).unwrap(), json.text());
     assert_eq!(Json::parse(json.text()).at("dropped").list()[0].at("value").text(), format!("{}02", "ab".repeat(99)));
     fs::remove_file(pair.folder.join("report")).unwrap();
@@ -280,12 +321,21 @@ fn own_may_be_out() {
 }
 
 #[test]
-fn containers_are_the_separators() {
+fn containers_are_not_lost() {
     let pair = Pair::new("containers", "a:b\t01\n", "c/d\t02\n");
-    gvdb_fed(["build".as_ref(), "-o".as_ref(), pair.folder.join("own").as_os_str(), "--separator=:".as_ref()], b"a:b\t01\n").ends(0);
-    pair.merge(&[]).ends(0).prints("note container \"a:\" is not kept: the separator '/' does not make it\n");
-    pair.merge(&["--separator", "none"]).ends(0).prints("note container \"c/\" is not kept: there is no separator\n");
-    let json = pair.merge(&["--separator", ":", "--json"]).ends(0);
+    gvdb_fed(["build".as_ref(), "--replace".as_ref(), "-o".as_ref(), pair.folder.join("own").as_os_str(), "--separator=:".as_ref()], b"a:b\t01\n").ends(0);
+    for (separator, note) in [
+        ("/", "note container \"a:\" is not in out: the separator '/' does not make it\n"),
+        (":", "note container \"c/\" is not in out: the separator ':' does not make it\n"),
+        ("none", "note container \"c/\" is not in out: there is no separator\n"),
+    ] {
+        let ran = pair.merge(&["--separator", separator, "--keep=own"]).ends(1).prints(note);
+        ran.says("cannot be laid, nothing is written; --without-containers leaves out what the notes name").prints("refused: out is not written (out: ");
+        pair.refused();
+        pair.merge(&["--separator", separator, "--without-containers"]).ends(0).prints(note);
+        fs::remove_file(pair.out()).unwrap();
+    }
+    let json = pair.merge(&["--separator", ":", "--json", "--without-containers"]).ends(0);
     let json = Json::parse(json.text());
     assert_eq!((json.at("separator").text(), json.at("containers_not_kept").list()[0].at("key").text()), (":", "c/"));
 }

@@ -40,12 +40,14 @@ pub fn lines(table: &Table, around: &str) -> String {
     text
 }
 
-/// What a merge makes of two tables, with the places (keys of tables, then the key) that are in conflict and that are the same.
+/// What a merge makes of two tables, by places (keys of tables, then the key): those in conflict, the same, a value or table against a container, and what is
+/// dropped, where a table without values is None.
 #[derive(Default, Debug)]
 pub struct Merged {
     pub conflicts: BTreeSet<Vec<String>>,
     pub same: BTreeSet<Vec<String>>,
-    pub dropped: BTreeMap<Vec<String>, Vec<u8>>,
+    pub kinds: BTreeSet<Vec<String>>,
+    pub dropped: BTreeMap<Vec<String>, Option<Vec<u8>>>,
 }
 
 pub fn merge(own: &Table, other: &Table, keep_own: bool, path: &[String], merged: &mut Merged) -> Table {
@@ -68,33 +70,67 @@ pub fn merge(own: &Table, other: &Table, keep_own: bool, path: &[String], merged
                 merged.conflicts.insert(place);
                 out.insert(key.clone(), kept.clone());
             }
-            (Some(node), None) => one_side(key, node, other_containers.contains(key), keep_own, place, merged, &mut out),
-            (None, Some(node)) => one_side(key, node, own_containers.contains(key), !keep_own, place, merged, &mut out),
+            (Some(node), None) | (None, Some(node)) => {
+                if own_containers.contains(key) || other_containers.contains(key) {
+                    merged.kinds.insert(place);
+                }
+                out.insert(key.clone(), node.clone());
+            }
             (None, None) => unreachable!(),
         }
     }
     out
 }
 
-/// A key that the other file has at most as a container.
-fn one_side(key: &str, node: &Node, against_container: bool, kept: bool, place: Vec<String>, merged: &mut Merged, out: &mut Table) {
-    if against_container {
-        merged.conflicts.insert(place.clone());
-    }
-    if against_container && !kept {
-        drop_values(node, &place, merged);
-    } else {
-        out.insert(key.to_string(), node.clone());
-    }
-}
-
 fn drop_values(node: &Node, place: &[String], merged: &mut Merged) {
     match node {
         Node::Value(bytes) => {
-            merged.dropped.insert(place.to_vec(), bytes.clone());
+            merged.dropped.insert(place.to_vec(), Some(bytes.clone()));
+        }
+        Node::Table(nested) if nested.is_empty() => {
+            merged.dropped.insert(place.to_vec(), None);
         }
         Node::Table(nested) => nested.iter().for_each(|(key, node)| drop_values(node, &[place, std::slice::from_ref(key)].concat(), merged)),
     }
+}
+
+/// What a merge since a base makes of two tables, and where it is in conflict.
+pub fn merge_since(base: &Table, own: &Table, other: &Table, keep_own: bool, path: &[String], conflicts: &mut BTreeSet<Vec<String>>) -> Table {
+    let mut out = Table::new();
+    for key in own.keys().chain(other.keys()).collect::<BTreeSet<_>>() {
+        let place = [path, std::slice::from_ref(key)].concat();
+        let stands = match (base.get(key), own.get(key), other.get(key)) {
+            (before, Some(Node::Table(a)), Some(Node::Table(b))) => {
+                let nothing = Table::new();
+                let before = if let Some(Node::Table(before)) = before { before } else { &nothing };
+                Some(Node::Table(merge_since(before, a, b, keep_own, &place, conflicts)))
+            }
+            (_, a, b) if a == b => a.cloned(),
+            (before, a, b) if a == before => b.cloned(),
+            (before, a, b) if b == before => a.cloned(),
+            (_, a, b) => {
+                conflicts.insert(place);
+                if keep_own { a } else { b }.cloned()
+            }
+        };
+        out.extend(stands.map(|node| (key.clone(), node)));
+    }
+    out
+}
+
+/// A table with some keys removed, changed and new.
+pub fn changed(table: &Table, dice: &mut Dice) -> Table {
+    let mut out = random(dice, 1);
+    out.retain(|_, _| dice.below(6) == 0);
+    for (key, node) in table {
+        match (node, dice.below(4)) {
+            (_, 0) => {}
+            (Node::Table(nested), 1 | 2) => drop(out.insert(key.clone(), Node::Table(changed(nested, dice)))),
+            (_, 1) => drop(out.insert(key.clone(), Node::Value(vec![dice.below(3) as u8]))),
+            (node, _) => drop(out.insert(key.clone(), node.clone())),
+        }
+    }
+    out
 }
 
 /// A table of a few keys that often meet those of another.

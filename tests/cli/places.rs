@@ -66,13 +66,16 @@ fn places_that_cannot_be_written() {
 fn a_file_that_is_there_is_replaced_whole() {
     let folder = folder("replaced");
     let place = folder.join("out.gvdb");
-    fs::write(&place, "old").unwrap();
+    build(&place, "old\t01\n");
+    let old = fs::read(&place).unwrap();
     fs::set_permissions(&place, fs::Permissions::from_mode(0o640)).unwrap();
-    // what is refused leaves it alone
-    gvdb_fed([OsStr::new("build"), OsStr::new("-o"), place.as_os_str()], b"\t01\n").ends(1).says("(30)");
-    assert_eq!(fs::read(&place).unwrap(), b"old");
     symlink("out.gvdb", folder.join("link")).unwrap();
-    build_at(&folder.join("link")).ends(0);
+    let replace = |lines: &[u8]| gvdb_fed([OsStr::new("build"), "--replace".as_ref(), "-o".as_ref(), folder.join("link").as_os_str()], lines);
+    // what is refused leaves it alone
+    build_at(&folder.join("link")).ends(1).says("link: it is there already; --replace writes over it, and names what is lost");
+    replace(b"\t01\n").ends(1).says("(30)\n");
+    assert_eq!(fs::read(&place).unwrap(), old);
+    replace(b"a\t01\n").ends(0).prints("dropped from before \"old\": value of 1 byte: 01\n");
     assert!(fs::symlink_metadata(folder.join("link")).unwrap().is_symlink());
     assert_eq!(fs::metadata(&place).unwrap().permissions().mode() & 0o777, 0o640);
     assert_eq!(names(&folder), ["link", "out.gvdb"]);

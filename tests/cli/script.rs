@@ -64,7 +64,7 @@ impl Place {
     fn known(name: &str) -> Option<Place> {
         let place = Place::new(name);
         if !place.tools.join("git").exists() {
-            println!("skipped: no git");
+            skipped("no git");
             return None;
         }
         place.git("init -q && git add -A");

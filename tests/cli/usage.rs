@@ -76,7 +76,7 @@ fn colours_on_a_terminal_only() {
     let piped = gvdb(["check".as_ref(), file.as_os_str()]).ends(1);
     assert!(!piped.text().contains('\x1b'));
     if Command::new("script").arg("--version").output().is_err() {
-        println!("skipped: no command `script` to make a terminal with");
+        skipped("no command `script` to make a terminal with");
         return;
     }
     let folder = folder("colours");
