@@ -187,15 +187,44 @@ fn refused(mut memory: Memory, tally: &mut Tally, what: impl FnOnce() -> String)
 }
 
 /// Where a word of an item and of a table stands.
-fn item(index: usize, word: usize) -> usize {
+const fn item(index: usize, word: usize) -> usize {
     ITEMS + 12 * index + word
 }
 
-fn table(number: usize, word: usize) -> usize {
+const fn table(number: usize, word: usize) -> usize {
     TABLES + 4 * number + word
 }
 
-/// Each rule, broken by one word.
+/// The item that holds table 1 in the memory of `one_word`.
+const HOLDER: usize = 5;
+
+/// Words of that memory that break a rule each: of items, tables, links and the header.
+const BROKEN: [(usize, usize); 23] = [
+    (item(0, 0), 2),
+    (item(0, 1), 7),
+    (item(1, 3), 4000),
+    (item(1, 4), MAX_KEY + 1),
+    (item(1, 3), usize::MAX),
+    (item(0, 5), 2),
+    (item(1, 5), 4),
+    (item(2, 6), 0),
+    (item(2, 7), 5000),
+    (item(2, 8), usize::MAX),
+    (item(HOLDER, 9), 2),
+    (item(HOLDER, 9), 0),
+    (item(2, 6), 72),
+    (table(1, 1), 0),
+    (table(1, 2), 0),
+    (table(1, 2), MAX_NESTING),
+    (LINKS, 0),
+    (WORDS - 1, 1),
+    (2, MAX_TABLES + 1),
+    (3, MAX_ITEMS + 1),
+    (4, 4097),
+    (0, WORDS + 1),
+    (1, 4095),
+];
+
 fn one_word(tally: &mut Tally) -> Outcome {
     let mut honest = fresh_tables(4096, &[b"/", b""]);
     for (table, key) in [(0, &b"a/b"[..]), (0, b"a/c"), (0, b"d"), (1, b"x")] {
@@ -203,34 +232,8 @@ fn one_word(tally: &mut Tally) -> Outcome {
     }
     assert_eq!(honest.insert_table(0, b"t", 1), Ok(0));
     assert!(honest.clone().write(0, 999).is_ok());
-    let holder = 5;
-    assert_eq!((honest.words().len(), honest.words()[item(holder, 6)]), (WORDS, 72));
-    let broken = [
-        (item(0, 0), 2),
-        (item(0, 1), 7),
-        (item(1, 3), 4000),
-        (item(1, 4), MAX_KEY + 1),
-        (item(1, 3), usize::MAX),
-        (item(0, 5), 2),
-        (item(1, 5), 4),
-        (item(2, 6), 0),
-        (item(2, 7), 5000),
-        (item(2, 8), usize::MAX),
-        (item(holder, 9), 2),
-        (item(holder, 9), 0),
-        (item(2, 6), 72),
-        (table(1, 1), 0),
-        (table(1, 2), 0),
-        (table(1, 2), MAX_NESTING),
-        (LINKS, 0),
-        (WORDS - 1, 1),
-        (2, MAX_TABLES + 1),
-        (3, MAX_ITEMS + 1),
-        (4, 4097),
-        (0, WORDS + 1),
-        (1, 4095),
-    ];
-    for (at, word) in broken {
+    assert_eq!((honest.words().len(), honest.words()[item(HOLDER, 6)]), (WORDS, 72));
+    for (at, word) in BROKEN {
         let mut memory = honest.clone();
         memory.words()[at] = word;
         refused(memory, tally, || format!("word {at} set to {word}"))?;
