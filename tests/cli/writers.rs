@@ -91,9 +91,12 @@ fn waiting_build(folder: &Path) -> Child {
     child
 }
 
+/// What another program does to a file.
+type Change = fn(&Path);
+
 #[test]
 fn what_another_program_changes_is_not_written_over() {
-    let changes: [(&str, fn(&Path)); 4] = [
+    let changes: [(&str, Change); 4] = [
         ("changed", |place| fs::write(place, "something else").unwrap()),
         ("one-byte", |place| {
             // of the same length and time

@@ -11,21 +11,11 @@ const HEADER: &str = include_str!("../../bindings/c/gvdb.h");
 /// The smallest thread that is tried: the system gives none with much less.
 const LEAST: usize = 16;
 
-const CALLS: [&str; 13] = [
-    "gvdb_open",
-    "gvdb_get",
-    "gvdb_get_table",
-    "gvdb_next_key",
-    "gvdb_next_value",
-    "gvdb_check",
-    "gvdb_memory_words",
-    "gvdb_fresh",
-    "gvdb_new_table",
-    "gvdb_insert",
-    "gvdb_insert_table",
-    "gvdb_item_count",
-    "gvdb_write",
-];
+/// The functions that the header declares.
+fn calls() -> Vec<&'static str> {
+    let declared = HEADER.lines().filter(|line| line.starts_with(char::is_alphabetic));
+    declared.filter_map(|line| line.split_once('(')?.0.rsplit(' ').next()).collect()
+}
 
 /// As much as a builder takes: tables to depth 8, 1,024 items, long keys with many containers.
 fn full() -> Builder {
@@ -75,7 +65,7 @@ fn make(call: &str, kib: usize) {
         "gvdb_insert_table" => two.insert_table(0, b"a/b/c/d", 1).number,
         "gvdb_item_count" => builder.item_count(7).number,
         "gvdb_write" => builder.write(7, &mut image).number,
-        _ => panic!("{call} is no call"),
+        _ => panic!("{call} is not made here"),
     };
     let thread = std::thread::Builder::new().stack_size(kib << 10).spawn(made).expect("a thread");
     assert_eq!(thread.join().expect("an answer"), 0);
@@ -98,7 +88,7 @@ fn main() {
     if let [call, kib] = &words[..] {
         return make(call, kib.parse().expect("a number"));
     }
-    for call in CALLS {
+    for call in calls() {
         let most = said(call);
         assert!(answers(call, most), "{call} dies with the {most} KiB of gvdb.h");
         let least = (LEAST..most).step_by(4).find(|kib| answers(call, *kib)).unwrap_or(most);
@@ -107,5 +97,5 @@ fn main() {
             println!("{call}: {most} KiB of stack in gvdb.h, {least} are enough");
         }
     }
-    println!("{} calls, each with the stack that gvdb.h says", CALLS.len());
+    println!("{} calls, each with the stack that gvdb.h says", calls().len());
 }

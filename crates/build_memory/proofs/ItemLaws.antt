@@ -1,40 +1,13 @@
--- The laws of an item made or written again: what the stores of the code come to, and what stands where afterwards.
-use Prim.Native.Nat.{ℕ, suc, _+_, _%_}
-use native.Mathlib.Numerals.{add-one}
-use native.Mathlib.Omega.{arith}
+-- The laws of an item made or written again: what the stores of the code come to.
+use Prim.Native.Nat.{ℕ, _+_, _%_}
 use mathlib.Core.Path.{_≡_, sym, ap, _∙_}
 use mathlib.Core.List.{List, [], _∷_, _++_}
-use lib.ListN.{length, set}
+use lib.ListN.{length}
 use Rattle.words.specs.Store.{putAt}
 use Rattle.words.specs.Hash.{hashOf}
 use Rattle.words.proofs.StoreLaws.{put-append}
 use Rattle.build_memory.specs.Memory.{buckets, word, headAt, itemAt, itemTotal, roomUsed, memory}
 use Rattle.build_memory.specs.Item.{stored, makeItem, replaceItem}
-
--- ---- stores one by one are one store
-
-pub two-stores : (l : List ℕ) (at a b : ℕ) → set (set l at a) (at + 1) b ≡ putAt l at (a ∷ b ∷ [])
-unfolding putAt
-two-stores l at a b = rw add-one
-
-pub four-stores : (l : List ℕ) (at a b c d : ℕ) → set (set (set (set l at a) (at + 1) b) (at + 2) c) (at + 3) d ≡ putAt l at (a ∷ b ∷ c ∷ d ∷ [])
-unfolding putAt
-four-stores l at a b c d =
-    let i1 : at + 1 ≡ suc at = omega arith in
-    let i2 : at + 2 ≡ suc (suc at) = omega arith in
-    let i3 : at + 3 ≡ suc (suc (suc at)) = omega arith in
-    cc
-
-pub six-stores : (l : List ℕ) (at a b c d e f : ℕ)
-    → set (set (set (set (set (set l at a) (at + 1) b) (at + 2) c) (at + 3) d) (at + 4) e) (at + 5) f ≡ putAt l at (a ∷ b ∷ c ∷ d ∷ e ∷ f ∷ [])
-unfolding putAt
-six-stores l at a b c d e f =
-    let i1 : at + 1 ≡ suc at = omega arith in
-    let i2 : at + 2 ≡ suc (suc at) = omega arith in
-    let i3 : at + 3 ≡ suc (suc (suc at)) = omega arith in
-    let i4 : at + 4 ≡ suc (suc (suc (suc at))) = omega arith in
-    let i5 : at + 5 ≡ suc (suc (suc (suc (suc at)))) = omega arith in
-    cc
 
 -- ---- one item made, or written again
 

@@ -1,6 +1,6 @@
 pub mod MemoryLaws
+pub mod MeaningLaws
 pub mod FindLaws
 pub mod ItemLaws
 pub mod MadeLaws
-pub mod Unique
 pub mod AnswerLaws

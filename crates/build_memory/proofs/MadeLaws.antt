@@ -9,7 +9,7 @@ use lib.ListN.{length}
 use Rattle.words.specs.Store.{part, putAt}
 use Rattle.words.specs.Hash.{hashOf}
 use Rattle.words.proofs.StoreLaws.{length-put, get-put, get-before, get-after, part-put, part-before}
-use Rattle.model.specs.Builder.{mostItems}
+use Rattle.layout.specs.Limits.{mostItems}
 use Rattle.build_memory.specs.Memory.{leastWords, headsFrom, buckets, word, headAt, itemAt, itemTotal, roomUsed, Memory, memory}
 use Rattle.build_memory.specs.Item.{Stored, makeItem}
 

@@ -1,5 +1,5 @@
 -- The laws of the memory's layout, of total reads, of the rules that every call judges, and of the fresh start.
-use Prim.Native.Nat.{ℕ, _+_, _-_, _*_, _≤_, _<_}
+use Prim.Native.Nat.{ℕ, _+_, _-_, _≤_, _<_}
 use native.Mathlib.Nat.{add-sub-cancel-left}
 use native.Mathlib.Omega.{arith}
 use mathlib.Core.Path.{_≡_, refl, sym, ap, _∙_}
@@ -7,20 +7,16 @@ use mathlib.Core.Bool.{Bool, true, false, _&&_}
 use mathlib.Core.List.{List, [], _∷_}
 use borrow.Author.Tests.{eqb-true, leb-true, le-leb, lt-leb, eq-eqb, ne-eqb}
 use lib.Dec.{leb}
-use lib.ListN.{length, getD, take, drop, set, length-drop, drop-of-length-le, length-replicate, getD-replicate}
+use lib.ListN.{length, take, drop, length-drop, drop-of-length-le}
 use lib.Seq.{take-all, take-nil}
 use Rattle.words.specs.Choice.{pick}
-use Rattle.words.specs.Store.{part, putAt}
+use Rattle.words.specs.Store.{part, putAt, copies}
 use Rattle.words.proofs.ChoiceLaws.{both}
-use Rattle.words.proofs.StoreLaws.{copy-turn, copy-end}
 use Rattle.layout.specs.declared.refusal.Refusal.the-variants.{MemoryBroken}
-use Rattle.model.specs.Builder.{mostTables, mostItems}
+use Rattle.layout.specs.Limits.{mostItems, mostTables}
 use Rattle.build_memory.specs.declared.fresh.Started.{Started}
-use Rattle.build_memory.specs.Memory.{tablesFrom, tableSize, headsFrom, buckets, itemsFrom, itemSize, linksFrom, links, leastWords, emptyMark, word, tableTotal, itemTotal, roomUsed, all, rules, valid, Valid, memory, outcome, copies, freshWords, freshStart}
-
--- the parts of the words lie one behind the other, and fill the least length
-pub parts-meet : (tablesFrom + tableSize * mostTables ≡ headsFrom) × (headsFrom + buckets ≡ itemsFrom) × (itemsFrom + itemSize * mostItems ≡ linksFrom) × (linksFrom + links ≡ leastWords)
-parts-meet = (refl, refl, refl, refl)
+use Rattle.layout.specs.Item.{noItem}
+use Rattle.build_memory.specs.Memory.{headsFrom, buckets, linksFrom, links, leastWords, word, tableTotal, itemTotal, roomUsed, all, rules, valid, Valid, memory, outcome, freshWords, freshStart}
 
 -- ---- a total read
 
@@ -91,23 +87,6 @@ module _ (ws : List ℕ) (arena : ℕ) where
           regroup true false r = refl
           regroup false q r = refl
 
--- ---- copies of one word
-
-pub length-copies : (n v : ℕ) → length (copies n v) ≡ n
-unfolding copies
-length-copies n v = length-replicate n v
-
-pub get-copies : (n v i : ℕ) → i < n → getD (copies n v) i 0 ≡ v
-unfolding copies
-get-copies n v i h = getD-replicate n i v 0 h
-
-pub fill-turn : (l : List ℕ) (at n v i : ℕ) → i < n → set (putAt l at (take i (copies n v))) (at + i) v ≡ putAt l at (take (i + 1) (copies n v))
-fill-turn l at n v i h =
-    ap (set (putAt l at (take i (copies n v))) (at + i)) (sym (get-copies n v i h)) ∙ copy-turn l at (copies n v) i (omega (arith, length-copies n v))
-
-pub fill-end : (l : List ℕ) (at n v i : ℕ) → n ≤ i → putAt l at (take i (copies n v)) ≡ putAt l at (copies n v)
-fill-end l at n v i h = copy-end l at (copies n v) i (omega (arith, length-copies n v))
-
 -- ---- the fresh start
 
 module _ (ws ar : List ℕ) where
@@ -116,7 +95,7 @@ module _ (ws ar : List ℕ) where
   fresh-refused h = simp (lt-leb _ _ h)
 
   pub fresh-ready : leastWords ≤ length ws → (w1 w2 w3 : List ℕ) → w1 ≡ putAt ws 0 (length ws ∷ length ar ∷ 0 ∷ 0 ∷ 0 ∷ [])
-      → w2 ≡ putAt w1 headsFrom (copies buckets emptyMark) → w3 ≡ putAt w2 linksFrom (copies links emptyMark)
+      → w2 ≡ putAt w1 headsFrom (copies buckets noItem) → w3 ≡ putAt w2 linksFrom (copies links noItem)
       → outcome Started.Ready (memory w3 ar) ≡ freshStart ws ar
   unfolding freshStart freshWords pick
   fresh-ready h w1 w2 w3 e1 e2 e3 = simp (le-leb _ _ h) (cc)

@@ -7,7 +7,8 @@ use Rattle.words.specs.Choice.{pick}
 use Rattle.words.specs.Store.{putAt}
 use Rattle.words.specs.Hash.{hashOf}
 use Rattle.layout.specs.declared.kind.Kind.{Kind}
-use Rattle.build_memory.specs.Memory.{word, buckets, headAt, itemAt, itemTotal, roomUsed, valueKind, tableKind, Memory, memory}
+use Rattle.layout.specs.Kind.{valueKind, tableKind}
+use Rattle.build_memory.specs.Memory.{word, buckets, headAt, itemAt, itemTotal, roomUsed, Memory, memory}
 
 -- what an item's record holds: its kind, the bytes of its value, and the table it holds
 pub record Stored : Type 0 where

@@ -6,9 +6,11 @@ use lib.ListN.{length}
 use lib.Dec.{eqb}
 use Rattle.words.specs.Choice.{pick}
 use Rattle.words.specs.Store.{part}
-use Rattle.model.specs.Table.{Content, Entry, noItem}
+use Rattle.layout.specs.Item.{noItem}
+use Rattle.model.specs.Table.{Content, Entry}
 use Rattle.model.specs.Builder.{Standing, Builder}
-use Rattle.build_memory.specs.Memory.{tableTotal, itemTotal, roomUsed, tableSeparator, tablePlaced, itemTable, itemParent, itemKind, valueStart, valueSize, itemGuest, keyOf, valueKind, tableKind}
+use Rattle.layout.specs.Kind.{valueKind, tableKind}
+use Rattle.build_memory.specs.Memory.{tableTotal, itemTotal, roomUsed, tableSeparator, tablePlaced, itemTable, itemParent, itemKind, valueStart, valueSize, itemGuest, keyOf}
 
 -- what item i holds
 unfoldable pub contentOf : List ℕ → List ℕ → ℕ → Content

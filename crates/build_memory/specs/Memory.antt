@@ -26,12 +26,13 @@ use Prim.Native.Nat.{ℕ, _+_, _*_, _≤_}
 use mathlib.Core.Path.{_≡_}
 use mathlib.Core.Bool.{Bool, true, _&&_}
 use mathlib.Core.List.{List, [], _∷_}
-use lib.ListN.{length, getD, replicate}
+use lib.ListN.{length, getD}
 use lib.Dec.{leb, eqb}
 use Rattle.words.specs.Choice.{pick}
-use Rattle.words.specs.Store.{part, putAt}
+use Rattle.words.specs.Store.{part, putAt, copies}
+use Rattle.layout.specs.Item.{noItem}
 use Rattle.layout.specs.declared.refusal.Refusal.the-variants.{MemoryBroken}
-use Rattle.model.specs.Builder.{mostTables, mostItems}
+use Rattle.layout.specs.Limits.{mostItems, mostTables}
 use Rattle.build_memory.specs.declared.fresh.Started.{Started}
 
 -- ---- where each word stands
@@ -43,31 +44,27 @@ abbrev pub tableSize : ℕ
 tableSize = 4
 
 abbrev pub headsFrom : ℕ
-headsFrom = 264
+headsFrom = tablesFrom + tableSize * mostTables
 
 -- the buckets of the index, each with its head
 abbrev pub buckets : ℕ
 buckets = 1024
 
 abbrev pub itemsFrom : ℕ
-itemsFrom = 1288
+itemsFrom = headsFrom + buckets
 
 abbrev pub itemSize : ℕ
 itemSize = 12
 
 abbrev pub linksFrom : ℕ
-linksFrom = 13576
+linksFrom = itemsFrom + itemSize * mostItems
 
 abbrev pub links : ℕ
-links = 1024
+links = mostItems
 
 -- the least length of the words
 abbrev pub leastWords : ℕ
-leastWords = 14600
-
--- the empty mark: no item
-abbrev pub emptyMark : ℕ
-emptyMark = 4294967295
+leastWords = linksFrom + links
 
 abbrev pub word : List ℕ → ℕ → ℕ
 word ws i = getD ws i 0
@@ -134,16 +131,6 @@ valueSize ws i = word ws (itemAt i + 8)
 abbrev pub itemGuest : List ℕ → ℕ → ℕ
 itemGuest ws i = word ws (itemAt i + 9)
 
--- the kinds as words
-abbrev pub valueKind : ℕ
-valueKind = 118
-
-abbrev pub tableKind : ℕ
-tableKind = 72
-
-abbrev pub containerKind : ℕ
-containerKind = 76
-
 -- the key of an item, as many of its bytes as the arena has
 unfoldable pub keyOf : List ℕ → List ℕ → ℕ → List ℕ
 keyOf ws ar i = part ar (keyStart ws i) (keySize ws i)
@@ -196,14 +183,10 @@ outcome answer after = record { answer = answer; after = after }
 
 -- ---- the fresh start
 
--- n times the word v
-unfoldable pub copies : ℕ → ℕ → List ℕ
-copies n v = replicate n v
-
--- both lengths, no table, no item, no room used; every head and every link holds the empty mark
+-- both lengths, no table, no item, no room used; every head and every link holds `noItem`
 unfoldable pub freshWords : List ℕ → ℕ → List ℕ
 freshWords ws room =
-    putAt (putAt (putAt ws 0 (length ws ∷ room ∷ 0 ∷ 0 ∷ 0 ∷ [])) headsFrom (copies buckets emptyMark)) linksFrom (copies links emptyMark)
+    putAt (putAt (putAt ws 0 (length ws ∷ room ∷ 0 ∷ 0 ∷ 0 ∷ [])) headsFrom (copies buckets noItem)) linksFrom (copies links noItem)
 
 -- 29 where the words are too short, else an empty builder, whatever the memory held
 unfoldable pub freshStart : List ℕ → List ℕ → Outcome Started

@@ -1,24 +1,13 @@
 // Where the words of a builder's memory stand (specs/Memory.antt says what each holds), and how they and the arena are read.
+use layout::item::NO_ITEM;
+use layout::limits::MOST_ITEMS;
+use layout::limits::MOST_TABLES;
 ghost use mathlib.Core.Path.{_≡_};
 ghost use Prim.Native.Nat.{_+_, _<_, _≤_};
 ghost use lib.ListN.{length};
 ghost use Rattle.words.specs.Store.{part};
-ghost use Rattle.model.specs.Builder.{mostItems, mostTables};
+ghost use Rattle.layout.specs.Limits.{mostItems, mostTables};
 ghost use Rattle.build_memory.specs.Memory.{leastWords, tableSize, itemSize, word, tableAt, itemAt, keyOf};
-
-// The least length of the words (29 where they are fewer).
-pub const LEAST_WORDS: usize = 14600;
-
-// The limits of document 01.
-pub const LONGEST_KEY: usize = 1024;
-
-pub const MOST_ITEMS: usize = 1024;
-
-pub const MOST_TABLES: usize = 64;
-
-pub const DEEPEST: usize = 8;
-
-pub const LAST_SEPARATOR: usize = 127;
 
 // The header's words.
 pub const LENGTH: usize = 0;
@@ -44,15 +33,17 @@ pub const HEIGHT: usize = 2;
 
 pub const NO_SEPARATOR: usize = 256;
 
+pub const LAST_SEPARATOR: usize = 127;
+
 // The heads of the buckets, and the empty mark, which says that there is no item.
-pub const HEADS_FROM: usize = 264;
+pub const HEADS_FROM: usize = TABLES_FROM + TABLE_SIZE * MOST_TABLES;
 
 pub const BUCKETS: usize = 1024;
 
-pub const EMPTY: usize = 4294967295;
+pub const EMPTY: usize = NO_ITEM as usize;
 
 // The items, and the words of one.
-pub const ITEMS_FROM: usize = 1288;
+pub const ITEMS_FROM: usize = HEADS_FROM + BUCKETS;
 
 pub const ITEM_SIZE: usize = 12;
 
@@ -76,17 +67,13 @@ pub const VALUE_SIZE: usize = 8;
 
 pub const GUEST: usize = 9;
 
-// The kinds of an item.
-pub const VALUE_KIND: usize = 118;
+// The links, which hold EMPTY between calls.
+pub const LINKS_FROM: usize = ITEMS_FROM + ITEM_SIZE * MOST_ITEMS;
 
-pub const TABLE_KIND: usize = 72;
+pub const LINKS: usize = MOST_ITEMS;
 
-pub const CONTAINER_KIND: usize = 76;
-
-// The links, which hold the empty mark between calls.
-pub const LINKS_FROM: usize = 13576;
-
-pub const LINKS: usize = 1024;
+// Words that are fewer are too short.
+pub const LEAST_WORDS: usize = LINKS_FROM + LINKS;
 
 // A word of table t.
 pub fn table_word(words: &[usize], t: usize, field: usize) -> usize

@@ -5,18 +5,19 @@ use crate::fields::ITEM_SIZE;
 use crate::fields::ITEMS;
 use crate::fields::ITEMS_FROM;
 use crate::fields::KIND;
-use crate::fields::TABLE_KIND;
 use crate::fields::USED;
-use crate::fields::VALUE_KIND;
 use layout::kind::Kind;
+use layout::kind::TABLE_KIND;
+use layout::kind::VALUE_KIND;
 use words::store::put_bytes;
+use words::store::put_words;
 ghost use mathlib.Core.Path.{_≡_};
 ghost use mathlib.Core.List.{[], _∷_};
 ghost use Prim.Native.Nat.{_+_, _<_, _≤_};
 ghost use lib.ListN.{length};
 ghost use Rattle.words.specs.Hash.{hashOf};
 ghost use Rattle.words.specs.Store.{putAt};
-ghost use Rattle.model.specs.Builder.{mostItems};
+ghost use Rattle.layout.specs.Limits.{mostItems};
 ghost use Rattle.build_memory.specs.Memory.{leastWords, buckets, headAt, itemAt, itemTotal, roomUsed, memory};
 ghost use Rattle.build_memory.specs.Item.{stored, kindOf, makeItem, replaceItem};
 
@@ -49,12 +50,15 @@ fn put_spot(words: &mut [usize], i: usize, spot: Spot)
     ensures { λ _. ⌜ now (words .exit) ≡ putAt (now (words .entry)) (itemAt i) (spot .table ∷ spot .hash ∷ spot .older ∷ spot .start ∷ spot .size ∷ spot .parent ∷ []) ⌝ }
 {
     let at = ITEMS_FROM + ITEM_SIZE * i;
-    words[at] = spot.table;
-    words[at + 1] = spot.hash;
-    words[at + 2] = spot.older;
-    words[at + 3] = spot.start;
-    words[at + 4] = spot.size;
-    words[at + 5] = spot.parent;
+    let row = [
+        spot.table,
+        spot.hash,
+        spot.older,
+        spot.start,
+        spot.size,
+        spot.parent,
+    ];
+    put_words(words, at, &row);
 }
 
 // Writes what item i holds: its kind, its value's start and length, the table it holds.
@@ -63,10 +67,8 @@ fn put_held(words: &mut [usize], i: usize, kind: usize, start: usize, size: usiz
     ensures { λ _. ⌜ now (words .exit) ≡ putAt (now (words .entry)) (itemAt i + 6) (kind ∷ start ∷ size ∷ guest ∷ []) ⌝ }
 {
     let at = ITEMS_FROM + ITEM_SIZE * i + KIND;
-    words[at] = kind;
-    words[at + 1] = start;
-    words[at + 2] = size;
-    words[at + 3] = guest;
+    let row = [kind, start, size, guest];
+    put_words(words, at, &row);
 }
 
 // Writes the head of a bucket.
@@ -82,8 +84,8 @@ fn put_counts(words: &mut [usize], items: usize, used: usize)
     requires { ⌜ leastWords ≤ length (now words) ⌝ }
     ensures { λ _. ⌜ now (words .exit) ≡ putAt (now (words .entry)) 3 (items ∷ used ∷ []) ⌝ }
 {
-    words[ITEMS] = items;
-    words[USED] = used;
+    let row = [items, used];
+    put_words(words, ITEMS, &row);
 }
 
 // What is told of a new item besides its key and value: its table, its parent's index plus 1 (0: none), its kind, the table it holds.

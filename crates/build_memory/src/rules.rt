@@ -2,11 +2,11 @@
 use crate::fields::ITEMS;
 use crate::fields::LEAST_WORDS;
 use crate::fields::LENGTH;
-use crate::fields::MOST_ITEMS;
-use crate::fields::MOST_TABLES;
 use crate::fields::ROOM;
 use crate::fields::TABLES;
 use crate::fields::USED;
+use layout::limits::MOST_ITEMS;
+use layout::limits::MOST_TABLES;
 ghost use mathlib.Core.Path.{_≡_};
 ghost use lib.ListN.{length};
 ghost use Rattle.build_memory.specs.Memory.{valid};

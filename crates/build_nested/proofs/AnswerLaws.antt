@@ -11,17 +11,15 @@ use Rattle.words.specs.Choice.{pick}
 use Rattle.text.specs.Utf8.{isUtf8}
 use Rattle.layout.specs.declared.refusal.Refusal.the-variants.{MemoryBroken, TableUnknown, TableInItself}
 use Rattle.model.specs.declared.Inserted.{Inserted}
-use Rattle.model.specs.Builder.{longestKey, deepest}
-use Rattle.build_memory.specs.Memory.{tableKind, valid, Memory, Outcome, outcome}
+use Rattle.layout.specs.Limits.{longestKey, deepest}
+use Rattle.layout.specs.Kind.{tableKind}
+use Rattle.build_memory.specs.Memory.{valid, Memory, Outcome, outcome}
 use Rattle.build_memory.specs.Item.{stored}
 use Rattle.build_tables.specs.Table.{freeStanding}
 use Rattle.build_values.specs.Insert.{insertBelowPath, keyed}
 use Rattle.build_nested.specs.Nest.{heldHeight, whenAccepted, settled, nested, nestAtKey, insertTable}
 use Rattle.build_values.specs.Answer.{insertedNumber}
-use Rattle.build_values.proofs.AnswerLaws.{Still, refused-still, new-still, old-still, still, keyed-still, walked-still}
-
-abbrev numberOf : Outcome Inserted → ℕ
-numberOf o = insertedNumber (o .answer)
+use Rattle.build_values.proofs.AnswerLaws.{numberOf, Still, refused-still, new-still, old-still, still, keyed-still, walked-still}
 
 -- ---- the insert of a table: 29, 24 for the receiver, 24 for the guest, 25, 8, 20, then as for a value
 

@@ -1,3 +1,2 @@
 pub mod NestLaws
 pub mod AnswerLaws
-pub mod Unique

@@ -1,5 +1,5 @@
 -- The laws of heights, and the stages of an insert of a table.
-use Prim.Native.Nat.{ℕ, suc, _+_, _-_, _≤_, _<_}
+use Prim.Native.Nat.{ℕ, _+_, _-_, _≤_, _<_}
 use native.Mathlib.Numerals.{add-one}
 use native.Mathlib.Omega.{arith}
 use mathlib.Core.Path.{_≡_, refl, sym, ap, _∙_}
@@ -7,15 +7,16 @@ use mathlib.Core.Bool.{Bool, true, false}
 use mathlib.Core.List.{List, []}
 use borrow.Author.Tests.{eq-eqb, ne-eqb, lt-ltb, le-ltb, leb-true, leb-false}
 use lib.Dec.{ltb, leb}
-use lib.ListN.{length, set}
+use lib.ListN.{length}
 use Rattle.words.specs.Choice.{pick}
-use Rattle.words.specs.Store.{putAt}
 use Rattle.layout.specs.declared.refusal.Refusal.the-variants.{MemoryBroken, TableUnknown, TableInItself}
 use Rattle.layout.specs.declared.refusal.Refusal.{Refusal}
 use Rattle.layout.specs.declared.kind.Kind.{Kind}
 use Rattle.model.specs.declared.Inserted.{Inserted}
-use Rattle.model.specs.Builder.{mostTables, deepest, most}
-use Rattle.build_memory.specs.Memory.{tableAt, tableHeight, itemTable, itemKind, itemGuest, tableKind, valid, Memory, memory, Outcome, outcome}
+use Rattle.layout.specs.Limits.{mostTables, deepest}
+use Rattle.model.specs.Builder.{most}
+use Rattle.layout.specs.Kind.{tableKind}
+use Rattle.build_memory.specs.Memory.{tableHeight, itemTable, itemKind, itemGuest, valid, Memory, memory, Outcome, outcome}
 use Rattle.build_memory.specs.Item.{stored}
 use Rattle.build_tables.specs.Table.{freeStanding}
 use Rattle.build_values.specs.Walk.{wayOf}
@@ -50,10 +51,6 @@ most-none f = refl
 pub most-step : (f : ℕ → ℕ) (i m h m′ : ℕ) → m ≡ most f i → h ≡ f i → m′ ≡ pick (ltb m h) h m → m′ ≡ most f (i + 1)
 unfolding most
 most-step f i m h m′ e g p = rw add-one (p ∙ simp (e, g))
-
-pub placed-stores : (ws : List ℕ) (t height : ℕ) → set (set ws (tableAt t + 1) 1) (tableAt t + 1 + 1) height ≡ placeTable ws t height
-unfolding placeTable putAt
-placed-stores ws t height = let e : tableAt t + 1 + 1 ≡ suc (tableAt t + 1) = omega arith in cc
 
 -- ---- too deep
 

@@ -8,8 +8,10 @@ use Rattle.words.specs.Choice.{pick}
 use Rattle.words.specs.Store.{putAt}
 use Rattle.layout.specs.declared.refusal.Refusal.the-variants.{MemoryBroken, TableUnknown, TableInItself}
 use Rattle.model.specs.declared.Inserted.{Inserted}
-use Rattle.model.specs.Builder.{mostTables, deepest, most}
-use Rattle.build_memory.specs.Memory.{tableAt, itemTotal, tableHeight, itemTable, itemKind, itemGuest, tableKind, valid, memory, Outcome, outcome}
+use Rattle.layout.specs.Limits.{mostTables, deepest}
+use Rattle.model.specs.Builder.{most}
+use Rattle.layout.specs.Kind.{tableKind}
+use Rattle.build_memory.specs.Memory.{tableAt, itemTotal, tableHeight, itemTable, itemKind, itemGuest, valid, memory, Outcome, outcome}
 use Rattle.build_memory.specs.Item.{stored}
 use Rattle.build_tables.specs.Table.{freeStanding}
 use Rattle.build_values.specs.Insert.{refused, keyed, insertBelowPath}

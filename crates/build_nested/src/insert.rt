@@ -1,23 +1,24 @@
 // The insert of a table into another.
 use crate::height::held_height;
-use build_memory::fields::DEEPEST;
-use build_memory::fields::LONGEST_KEY;
 use build_memory::fields::PLACED;
-use build_memory::fields::TABLE_KIND;
 use build_memory::fields::TABLE_SIZE;
 use build_memory::fields::TABLES_FROM;
 use build_memory::rules::judge;
 use build_tables::add::is_free_standing;
 use build_values::insert::Job;
 use build_values::insert::insert_below_path;
+use layout::kind::TABLE_KIND;
+use layout::limits::DEEPEST;
+use layout::limits::LONGEST_KEY;
 use layout::refusal::Refusal;
 use model::Inserted;
 use text::utf8::is_utf8;
+use words::store::put_words;
 use words::wide::word_size;
 ghost use mathlib.Core.Path.{_≡_};
 ghost use Prim.Native.Nat.{_≤_, _<_};
 ghost use lib.ListN.{length};
-ghost use Rattle.model.specs.Builder.{mostTables};
+ghost use Rattle.layout.specs.Limits.{mostTables};
 ghost use Rattle.build_memory.specs.Memory.{leastWords, tableTotal, Valid, memory, outcome};
 ghost use Rattle.build_values.specs.Insert.{Ready};
 ghost use Rattle.build_nested.specs.Nest.{placeTable, nested, nestAtKey, insertTable};
@@ -28,8 +29,8 @@ fn place_table(words: &mut [usize], table: usize, height: usize)
     ensures { λ _. ⌜ now (words .exit) ≡ placeTable (now (words .entry)) table height ⌝ }
 {
     let at = TABLES_FROM + TABLE_SIZE * table + PLACED;
-    words[at] = 1;
-    words[at + 1] = height;
+    let row = [1, height];
+    put_words(words, at, &row);
 }
 
 // Inserts the guest's item, and places the guest where that is not refused.

@@ -1,3 +1,2 @@
 pub mod ValidLaws
 pub mod ValidFacts
-pub mod Unique

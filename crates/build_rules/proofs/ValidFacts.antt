@@ -13,8 +13,10 @@ use Rattle.words.proofs.ChoiceLaws.{both}
 use Rattle.words.proofs.BelowLaws.{all-below}
 use Rattle.text.specs.Utf8.{isUtf8}
 use Rattle.text.proofs.CompareLaws.{same-equal}
-use Rattle.model.specs.Builder.{longestKey}
-use Rattle.build_memory.specs.Memory.{word, links, linkAt, emptyMark, tableTotal, itemTotal, roomUsed, tablePlaced, tableHeight, itemTable, itemHash, keyStart, keySize, itemParent, itemKind, itemGuest, keyOf, tableKind, valid, Valid}
+use Rattle.layout.specs.Limits.{longestKey}
+use Rattle.layout.specs.Item.{noItem}
+use Rattle.layout.specs.Kind.{tableKind}
+use Rattle.build_memory.specs.Memory.{word, links, linkAt, tableTotal, itemTotal, roomUsed, tablePlaced, tableHeight, itemTable, itemHash, keyStart, keySize, itemParent, itemKind, itemGuest, keyOf, valid, Valid}
 use Rattle.build_memory.specs.Find.{findKey}
 use Rattle.build_memory.proofs.MemoryLaws.{valid-facts}
 use Rattle.build_rules.specs.Valid.{tableKnown, keyWithin, keyShort, rangesValid, keyUtf8, hashValid, keyFound, keyValid, begunBy, parentValid, heightLimit, guestPlaced, guestValid, heldOnce, itemValid, linkEmpty, fullyValid}
@@ -45,7 +47,7 @@ pub record WholeFacts (ws ar : List ℕ) : Type 0 where
   pub found : (i : ℕ) → i < itemTotal ws → findKey ws ar (itemTable ws i) (keyOf ws ar i) ≡ i
   pub parent : (i : ℕ) → i < itemTotal ws → (itemParent ws i ≡ 0 → ⊥) → ParentFacts ws ar i
   pub guest : (i : ℕ) → i < itemTotal ws → itemKind ws i ≡ tableKind → GuestFacts ws (itemTable ws i) (itemGuest ws i)
-  pub link : (j : ℕ) → j < links → word ws (linkAt j) ≡ emptyMark
+  pub link : (j : ℕ) → j < links → word ws (linkAt j) ≡ noItem
 
 module _ (ws ar : List ℕ) (i : ℕ) (e : itemValid ws ar i ≡ true) where
   ranges-of : rangesValid ws i ≡ true
@@ -104,7 +106,7 @@ module _ (ws ar : List ℕ) (i : ℕ) (e : itemValid ws ar i ≡ true) where
         lower = ltb-true _ _ (last .1);
       }
 
-link-is : (ws : List ℕ) (j : ℕ) → linkEmpty ws j ≡ true → word ws (linkAt j) ≡ emptyMark
+link-is : (ws : List ℕ) (j : ℕ) → linkEmpty ws j ≡ true → word ws (linkAt j) ≡ noItem
 unfolding linkEmpty
 link-is ws j e = eqb-true _ _ e
 

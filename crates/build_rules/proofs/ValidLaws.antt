@@ -12,12 +12,13 @@ use lib.Seq.{getD-set-same, getD-set-other}
 use Rattle.words.specs.Choice.{pick}
 use Rattle.words.specs.Below.{allBelow, someBelow}
 use Rattle.words.specs.Hash.{hashOf}
-use Rattle.words.proofs.ChoiceLaws.{both}
+use Rattle.words.proofs.ChoiceLaws.{both, or-one}
 use Rattle.words.proofs.BelowLaws.{all-below}
 use Rattle.text.specs.Compare.{sameBytes}
 use Rattle.text.specs.Utf8.{isUtf8}
-use Rattle.model.specs.Builder.{longestKey, deepest, mostTables}
-use Rattle.build_memory.specs.Memory.{links, tableTotal, itemTotal, roomUsed, tablePlaced, tableHeight, itemTable, itemHash, keyStart, keySize, itemParent, itemKind, valueStart, valueSize, itemGuest, keyOf, valueKind, tableKind, containerKind, valid}
+use Rattle.layout.specs.Limits.{longestKey, mostTables, deepest}
+use Rattle.layout.specs.Kind.{valueKind, tableKind, containerKind}
+use Rattle.build_memory.specs.Memory.{links, tableTotal, itemTotal, roomUsed, tablePlaced, tableHeight, itemTable, itemHash, keyStart, keySize, itemParent, itemKind, valueStart, valueSize, itemGuest, keyOf, valid}
 use Rattle.build_memory.specs.Find.{findKey}
 use Rattle.build_rules.specs.Valid.{tableKnown, keyWithin, keyShort, kindValid, valueWithin, rangesValid, keyUtf8, hashValid, keyFound, keyValid, begunBy, parentValid, heightLimit, guestPlaced, guestValid, holdsTable, heldOnce, itemValid, linkEmpty, fullyValid, GuestsFew}
 
@@ -177,10 +178,6 @@ module _ (ws : List ℕ) where
   or-none : (p q : Bool) → q ≡ false → (p || q) ≡ p
   or-none true q e = refl
   or-none false q e = e
-
-  or-one : (p q : Bool) → q ≡ true → (p || q) ≡ true
-  or-one true q e = refl
-  or-one false q e = e
 
   met-same : (t i : ℕ) → holdsTable ws t i ≡ false → someBelow (holdsTable ws t) (i + 1) ≡ someBelow (holdsTable ws t) i
   unfolding someBelow

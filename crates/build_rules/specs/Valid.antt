@@ -11,9 +11,10 @@ use Rattle.words.specs.Below.{allBelow, someBelow}
 use Rattle.words.specs.Hash.{hashOf}
 use Rattle.text.specs.Compare.{sameBytes}
 use Rattle.text.specs.Utf8.{isUtf8}
-use Rattle.layout.specs.Kind.{kindKnown}
-use Rattle.model.specs.Builder.{longestKey, deepest, mostTables}
-use Rattle.build_memory.specs.Memory.{word, links, linkAt, emptyMark, tableTotal, itemTotal, roomUsed, tablePlaced, tableHeight, itemTable, itemHash, keyStart, keySize, itemParent, itemKind, valueStart, valueSize, itemGuest, keyOf, valueKind, tableKind, valid}
+use Rattle.layout.specs.Kind.{kindKnown, valueKind, tableKind}
+use Rattle.layout.specs.Limits.{longestKey, mostTables, deepest}
+use Rattle.layout.specs.Item.{noItem}
+use Rattle.build_memory.specs.Memory.{word, links, linkAt, tableTotal, itemTotal, roomUsed, tablePlaced, tableHeight, itemTable, itemHash, keyStart, keySize, itemParent, itemKind, valueStart, valueSize, itemGuest, keyOf, valid}
 use Rattle.build_memory.specs.Find.{findKey}
 
 -- ---- the ranges of an item
@@ -100,7 +101,7 @@ itemValid ws ar i = rangesValid ws i && (keyValid ws ar i && (parentValid ws ar 
 
 -- a link word holds the empty mark
 unfoldable pub linkEmpty : List ℕ → ℕ → Bool
-linkEmpty ws j = eqb (word ws (linkAt j)) emptyMark
+linkEmpty ws j = eqb (word ws (linkAt j)) noItem
 
 unfoldable pub fullyValid : List ℕ → List ℕ → Bool
 fullyValid ws ar =

@@ -1,21 +1,21 @@
 // The tables that items hold: specs/Valid.antt names each rule.
-use build_memory::fields::DEEPEST;
 use build_memory::fields::GUEST;
 use build_memory::fields::HEIGHT;
 use build_memory::fields::ITEMS;
 use build_memory::fields::KIND;
-use build_memory::fields::MOST_TABLES;
 use build_memory::fields::PLACED;
 use build_memory::fields::TABLE;
-use build_memory::fields::TABLE_KIND;
 use build_memory::fields::TABLES;
 use build_memory::fields::item_word;
 use build_memory::fields::table_word;
+use layout::kind::TABLE_KIND;
+use layout::limits::DEEPEST;
+use layout::limits::MOST_TABLES;
 ghost use mathlib.Core.Path.{_≡_};
 ghost use Prim.Native.Nat.{_<_, _≤_};
 ghost use lib.ListN.{length};
 ghost use Rattle.words.specs.Below.{allBelow};
-ghost use Rattle.model.specs.Builder.{mostItems, mostTables};
+ghost use Rattle.layout.specs.Limits.{mostItems, mostTables};
 ghost use Rattle.build_memory.specs.Memory.{leastWords, itemTotal, tableTotal, itemTable};
 ghost use Rattle.build_rules.specs.Valid.{heightLimit, guestPlaced, guestValid, heldOnce, GuestsFew};
 

@@ -1,29 +1,29 @@
 // The ranges, the key and the parent of an item: specs/Valid.antt names each rule.
-use build_memory::fields::CONTAINER_KIND;
 use build_memory::fields::HASH;
 use build_memory::fields::KEY;
 use build_memory::fields::KEY_SIZE;
 use build_memory::fields::KIND;
-use build_memory::fields::LONGEST_KEY;
 use build_memory::fields::PARENT;
 use build_memory::fields::TABLE;
-use build_memory::fields::TABLE_KIND;
 use build_memory::fields::TABLES;
 use build_memory::fields::USED;
 use build_memory::fields::VALUE;
-use build_memory::fields::VALUE_KIND;
 use build_memory::fields::VALUE_SIZE;
 use build_memory::fields::item_word;
 use build_memory::fields::key_of;
 use build_memory::find::find_hashed;
 use build_memory::find::hash_word;
+use layout::kind::CONTAINER_KIND;
+use layout::kind::TABLE_KIND;
+use layout::kind::VALUE_KIND;
+use layout::limits::LONGEST_KEY;
 use text::compare::same_bytes;
 use text::utf8::is_utf8;
 ghost use mathlib.Core.Path.{_≡_};
 ghost use Prim.Native.Nat.{_+_, _<_, _≤_};
 ghost use lib.ListN.{length};
 ghost use lib.Dec.{leb};
-ghost use Rattle.model.specs.Builder.{mostItems};
+ghost use Rattle.layout.specs.Limits.{mostItems};
 ghost use Rattle.build_memory.specs.Memory.{leastWords, itemTotal, Valid};
 ghost use Rattle.build_rules.specs.Valid.{valueWithin, rangesValid, keyValid, begunBy, parentValid};
 

@@ -6,8 +6,9 @@ use mathlib.Core.List.{List}
 use lib.ListN.{length}
 use borrow.Author.Tests.{lt-ltb, le-ltb, lt-leb, le-leb, eq-eqb, ne-eqb}
 use Rattle.words.specs.Choice.{pick}
+use Rattle.layout.specs.Limits.{mostTables}
 use Rattle.model.specs.declared.Added.{Added}
-use Rattle.model.specs.Builder.{mostTables, separatorOf}
+use Rattle.model.specs.Builder.{separatorOf}
 use Rattle.build_memory.specs.Memory.{itemTotal, tableTotal, valid}
 use Rattle.build_tables.specs.Table.{addTable, newTable, countOf, itemCount}
 use Rattle.build_tables.specs.Answer.{addedNumber, countedNumber, countedItems}

@@ -1,20 +1,21 @@
 -- The laws of new tables and of the count of a table's items.
-use Prim.Native.Nat.{ℕ, suc, _+_, _≤_, _<_}
+use Prim.Native.Nat.{ℕ, _+_, _≤_, _<_}
 use native.Mathlib.Numerals.{add-one}
 use native.Mathlib.Omega.{arith}
-use mathlib.Core.Path.{_≡_, refl, ap, _∙_}
+use mathlib.Core.Path.{_≡_, refl}
 use mathlib.Core.Bool.{true, false}
 use mathlib.Core.List.{List, [], _∷_}
 use borrow.Author.Tests.{eqb-true, ltb-true, eq-eqb, ne-eqb, lt-ltb, le-ltb, le-leb, lt-leb}
 use lib.Dec.{eqb, ltb}
-use lib.ListN.{length, getD, set}
+use lib.ListN.{length, getD}
 use Rattle.words.specs.Choice.{pick}
 use Rattle.words.specs.Store.{putAt}
 use Rattle.words.proofs.ChoiceLaws.{both}
 use Rattle.layout.specs.declared.refusal.Refusal.the-variants.{MemoryBroken, TableUnknown, TooManyTables, SeparatorOutside}
 use Rattle.model.specs.declared.Added.{Added}
 use Rattle.model.specs.declared.Counted.{Counted}
-use Rattle.model.specs.Builder.{mostTables, separatorOf}
+use Rattle.layout.specs.Limits.{mostTables}
+use Rattle.model.specs.Builder.{separatorOf}
 use Rattle.build_memory.specs.Memory.{tableAt, tableTotal, itemTotal, tablePlaced, itemTable, valid, memory, outcome}
 use Rattle.build_tables.specs.Table.{freeStanding, notAdded, addTable, newTable, countOf, itemCount}
 
@@ -64,26 +65,11 @@ module _ (ws ar : List ℕ) (separator : ℕ) where
   unfolding addTable pick
   tables-many h = simp (le-leb _ _ h)
 
-  three-stores : (l : List ℕ) (at a b d : ℕ) → set (set (set l at a) (at + 1) b) (at + 2) d ≡ putAt l at (a ∷ b ∷ d ∷ [])
-  unfolding putAt
-  three-stores l at a b d =
-      let i1 : at + 1 ≡ suc at = omega arith in
-      let i2 : at + 2 ≡ suc (suc at) = omega arith in
-      cc
-
-  one-store : (l : List ℕ) (at a : ℕ) → set l at a ≡ putAt l at (a ∷ [])
-  unfolding putAt
-  one-store l at a = refl
-
-  pub table-added : tableTotal ws < mostTables → (number : ℕ) → number ≡ tableTotal ws
-      → outcome (Added.Table number)
-      (memory (set (set (set (set ws (tableAt (tableTotal ws)) separator) (tableAt (tableTotal ws) + 1) 0) (tableAt (tableTotal ws) + 2) 0) 2 (tableTotal ws + 1)) ar)
-      ≡ addTable ws ar separator
+  pub table-added : tableTotal ws < mostTables → (number : ℕ) → number ≡ tableTotal ws → (w1 w2 : List ℕ)
+      → w1 ≡ putAt ws (tableAt (tableTotal ws)) (separator ∷ 0 ∷ 0 ∷ []) → w2 ≡ putAt w1 2 ((tableTotal ws + 1) ∷ [])
+      → outcome (Added.Table number) (memory w2 ar) ≡ addTable ws ar separator
   unfolding addTable pick
-  table-added l number is =
-      simp (lt-leb _ _ l, is)
-      (ap (λ (w : List ℕ). outcome (Added.Table (tableTotal ws)) (memory w ar))
-      (ap (λ (w : List ℕ). set w 2 (tableTotal ws + 1)) (three-stores ws (tableAt (tableTotal ws)) separator 0 0) ∙ one-store _ 2 (tableTotal ws + 1)))
+  table-added l number is w1 w2 e1 e2 = simp (lt-leb _ _ l, is) cc
 
 module _ (ws ar separator : List ℕ) where
   pub table-invalid : valid ws (length ar) ≡ false → notAdded MemoryBroken ws ar ≡ newTable ws ar separator

@@ -10,7 +10,8 @@ use Rattle.layout.specs.declared.refusal.Refusal.{Refusal}
 use Rattle.layout.specs.declared.refusal.Refusal.the-variants.{MemoryBroken, TableUnknown, TooManyTables, SeparatorOutside}
 use Rattle.model.specs.declared.Added.{Added}
 use Rattle.model.specs.declared.Counted.{Counted}
-use Rattle.model.specs.Builder.{mostTables, separatorOf}
+use Rattle.layout.specs.Limits.{mostTables}
+use Rattle.model.specs.Builder.{separatorOf}
 use Rattle.build_memory.specs.Memory.{tableAt, tableTotal, itemTotal, tablePlaced, itemTable, valid, memory, Outcome, outcome}
 
 -- a free-standing table: known and not placed

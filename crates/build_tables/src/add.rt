@@ -1,6 +1,5 @@
 // New tables, and whether a table is free-standing.
 use build_memory::fields::LAST_SEPARATOR;
-use build_memory::fields::MOST_TABLES;
 use build_memory::fields::NO_SEPARATOR;
 use build_memory::fields::PLACED;
 use build_memory::fields::TABLE_SIZE;
@@ -8,8 +7,10 @@ use build_memory::fields::TABLES;
 use build_memory::fields::TABLES_FROM;
 use build_memory::fields::table_word;
 use build_memory::rules::judge;
+use layout::limits::MOST_TABLES;
 use layout::refusal::Refusal;
 use model::Added;
+use words::store::put_words;
 use words::wide::byte_size;
 ghost use mathlib.Core.Path.{_≡_};
 ghost use Prim.Native.Nat.{_<_, _^_};
@@ -64,10 +65,10 @@ fn add_table(words: &mut [usize], arena: &[u8], separator: usize) -> Added
         return Added::Refused(Refusal::TooManyTables);
     }
     let at = TABLES_FROM + TABLE_SIZE * t;
-    words[at] = separator;
-    words[at + 1] = 0;
-    words[at + 2] = 0;
-    words[TABLES] = t + 1;
+    let row = [separator, 0, 0];
+    put_words(words, at, &row);
+    let count = [t + 1];
+    put_words(words, TABLES, &count);
     Added::Table(narrow(t))
 }
 

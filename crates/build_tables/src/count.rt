@@ -11,7 +11,7 @@ use words::wide::word_size;
 ghost use mathlib.Core.Path.{_≡_};
 ghost use Prim.Native.Nat.{_≤_};
 ghost use lib.ListN.{length};
-ghost use Rattle.model.specs.Builder.{mostItems};
+ghost use Rattle.layout.specs.Limits.{mostItems};
 ghost use Rattle.build_memory.specs.Memory.{leastWords, itemTotal};
 ghost use Rattle.build_tables.specs.Table.{countOf, itemCount};
 

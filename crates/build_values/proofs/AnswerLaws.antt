@@ -15,8 +15,9 @@ use Rattle.layout.specs.declared.kind.Kind.{Kind}
 use Rattle.layout.specs.declared.refusal.Refusal.{Refusal}
 use Rattle.layout.specs.declared.refusal.Refusal.the-variants.{MemoryBroken, TableUnknown, KeyNotUtf8, KeyTooLong, NotContainer, TooManyItems, ArenaFull, NestedTooDeep}
 use Rattle.model.specs.declared.Inserted.{Inserted}
-use Rattle.model.specs.Builder.{longestKey, mostItems}
-use Rattle.build_memory.specs.Memory.{itemTotal, roomUsed, tableSeparator, itemKind, valueKind, valid, Memory, memory, Outcome, outcome}
+use Rattle.layout.specs.Limits.{longestKey, mostItems}
+use Rattle.layout.specs.Kind.{valueKind}
+use Rattle.build_memory.specs.Memory.{itemTotal, roomUsed, tableSeparator, itemKind, valid, Memory, memory, Outcome, outcome}
 use Rattle.build_memory.specs.Find.{findKey}
 use Rattle.build_memory.specs.Item.{Stored, stored, kindOf}
 use Rattle.build_tables.specs.Table.{freeStanding}
@@ -26,7 +27,7 @@ use Rattle.build_values.specs.Answer.{insertedNumber}
 
 -- ---- the insert of a value: 29, 24, 8, 20, 21, 22, 23
 
-abbrev numberOf : Outcome Inserted → ℕ
+abbrev pub numberOf : Outcome Inserted → ℕ
 numberOf o = insertedNumber (o .answer)
 
 module _ (ws ar : List ℕ) (t : ℕ) (key : List ℕ) (c : Stored) (deep : Bool) where

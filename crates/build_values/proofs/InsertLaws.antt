@@ -11,8 +11,9 @@ use Rattle.text.specs.Prefix.{endsPast}
 use Rattle.layout.specs.declared.kind.Kind.{Kind}
 use Rattle.layout.specs.declared.refusal.Refusal.the-variants.{MemoryBroken, TableUnknown, KeyNotUtf8, KeyTooLong, NotContainer, TooManyItems, ArenaFull, NestedTooDeep}
 use Rattle.model.specs.declared.Inserted.{Inserted}
-use Rattle.model.specs.Builder.{longestKey, mostItems}
-use Rattle.build_memory.specs.Memory.{itemTotal, roomUsed, tableSeparator, itemKind, valueKind, valid, Memory, memory, Outcome, outcome}
+use Rattle.layout.specs.Limits.{longestKey, mostItems}
+use Rattle.layout.specs.Kind.{valueKind}
+use Rattle.build_memory.specs.Memory.{itemTotal, roomUsed, tableSeparator, itemKind, valid, Memory, memory, Outcome, outcome}
 use Rattle.build_memory.specs.Find.{findKey}
 use Rattle.build_memory.specs.Item.{Stored, stored, kindOf, makeItem, replaceItem}
 use Rattle.build_values.specs.declared.walk.Way.{Way}

@@ -10,8 +10,9 @@ use Rattle.words.specs.Choice.{pick}
 use Rattle.words.specs.Hash.{hashOf}
 use Rattle.text.specs.Prefix.{endsPast, nextEnd}
 use Rattle.text.proofs.PrefixLaws.{past-more, past-last, next-within, next-rises}
-use Rattle.model.specs.Builder.{mostItems}
-use Rattle.build_memory.specs.Memory.{itemTotal, itemKind, containerKind, Memory}
+use Rattle.layout.specs.Limits.{mostItems}
+use Rattle.layout.specs.Kind.{containerKind}
+use Rattle.build_memory.specs.Memory.{itemTotal, itemKind, Memory}
 use Rattle.build_memory.specs.Find.{findKey}
 use Rattle.build_memory.specs.Item.{stored, makeItem}
 use Rattle.build_values.specs.declared.walk.Way.{Way}

@@ -11,8 +11,9 @@ use Rattle.text.specs.Prefix.{endsPast}
 use Rattle.layout.specs.declared.refusal.Refusal.{Refusal}
 use Rattle.layout.specs.declared.refusal.Refusal.the-variants.{MemoryBroken, TableUnknown, KeyNotUtf8, KeyTooLong, NotContainer, TooManyItems, ArenaFull, NestedTooDeep}
 use Rattle.model.specs.declared.Inserted.{Inserted}
-use Rattle.model.specs.Builder.{longestKey, mostItems}
-use Rattle.build_memory.specs.Memory.{tableTotal, itemTotal, roomUsed, tableSeparator, itemKind, valueKind, containerKind, valid, Valid, Memory, memory, Outcome, outcome}
+use Rattle.layout.specs.Limits.{longestKey, mostItems}
+use Rattle.layout.specs.Kind.{valueKind, containerKind}
+use Rattle.build_memory.specs.Memory.{tableTotal, itemTotal, roomUsed, tableSeparator, itemKind, valid, Valid, Memory, memory, Outcome, outcome}
 use Rattle.build_memory.specs.Find.{findKey}
 use Rattle.build_memory.specs.Item.{Stored, stored, kindOf, makeItem, replaceItem}
 use Rattle.build_tables.specs.Table.{freeStanding}

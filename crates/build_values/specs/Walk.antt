@@ -6,7 +6,8 @@ use lib.ListN.{length, take}
 use lib.Dec.{ltb, eqb}
 use Rattle.words.specs.Choice.{pick}
 use Rattle.text.specs.Prefix.{endsPast}
-use Rattle.build_memory.specs.Memory.{itemTotal, tableSeparator, itemKind, containerKind}
+use Rattle.layout.specs.Kind.{containerKind}
+use Rattle.build_memory.specs.Memory.{itemTotal, tableSeparator, itemKind}
 use Rattle.build_memory.specs.Find.{findKey}
 use Rattle.build_values.specs.declared.walk.Way.{Way}
 

@@ -1,9 +1,9 @@
 // The dry walk of an insert: it reads and counts, and writes nothing.
-use build_memory::fields::CONTAINER_KIND;
 use build_memory::fields::ITEMS;
 use build_memory::fields::KIND;
 use build_memory::fields::item_word;
 use build_memory::find::find_hashed;
+use layout::kind::CONTAINER_KIND;
 use text::prefix::next_end;
 use words::hash::HASH_START;
 use words::hash::hash_on;
@@ -13,7 +13,7 @@ ghost use Prim.Native.Nat.{_≤_};
 ghost use lib.ListN.{length, take};
 ghost use Rattle.words.specs.Hash.{hashOf};
 ghost use Rattle.text.specs.Prefix.{endsPast};
-ghost use Rattle.model.specs.Builder.{longestKey, mostItems};
+ghost use Rattle.layout.specs.Limits.{longestKey, mostItems};
 ghost use Rattle.build_memory.specs.Memory.{Valid};
 ghost use Rattle.build_values.specs.Walk.{way, descend, sum};
 

@@ -4,4 +4,3 @@ pub mod PartLaws
 pub mod FrontLaws
 pub mod PassLaws
 pub mod SameLaws
-pub mod Unique

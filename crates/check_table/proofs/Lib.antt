@@ -10,4 +10,3 @@ pub mod SoundLaws
 pub mod BrokenLaws
 pub mod AnswerLaws
 pub mod Children
-pub mod Unique

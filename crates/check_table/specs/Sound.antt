@@ -13,7 +13,7 @@ use Rattle.layout.specs.declared.item.Item.{Item}
 use Rattle.layout.specs.Kind.{kindByte}
 use Rattle.layout.specs.Pointer.{openPointer}
 use Rattle.layout.specs.Table.{openTable}
-use Rattle.layout.specs.Item.{itemAt, rootMark}
+use Rattle.layout.specs.Item.{itemAt, noItem}
 use Rattle.read.specs.declared.lookup.Found.{Found}
 use Rattle.read.specs.Chain.{Joined, keyOf}
 use Rattle.check_table.specs.declared.check.Checked.{Checked}
@@ -37,7 +37,7 @@ pub record SoundIn (rule : ℕ → ℕ) (file : List ℕ) (t : Table) : Type 0 w
   pub values : (i : ℕ) → i < t .count → ValueGood file (itemAt file t i)
   -- it is a root, or its parent is a container
   pub parents : (i : ℕ) → i < t .count
-      → (itemAt file t i .parent ≡ rootMark) ⊎ ((itemAt file t i .parent < t .count) × (itemAt file t (itemAt file t i .parent) .kind ≡ kindByte Kind.Container))
+      → (itemAt file t i .parent ≡ noItem) ⊎ ((itemAt file t i .parent < t .count) × (itemAt file t (itemAt file t i .parent) .kind ≡ kindByte Kind.Container))
   -- a container lists precisely the items that name it as parent
   pub lists : (i j : ℕ) → i < t .count → itemAt file t i .kind ≡ kindByte Kind.Container
       → InList file (itemAt file t i) j ↔ ((j < t .count) × (itemAt file t j .parent ≡ i))

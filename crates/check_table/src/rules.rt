@@ -4,6 +4,9 @@ use check_keys::tally::JoinedKey;
 use check_keys::tally::joined_key;
 use layout::item::Item;
 use layout::item::open_value;
+use layout::kind::CONTAINER_BYTE;
+use layout::kind::TABLE_BYTE;
+use layout::kind::VALUE_BYTE;
 use layout::pointer::Pointed;
 use layout::pointer::open_pointer;
 use layout::table::Opened;
@@ -73,13 +76,13 @@ pub fn value_opens(file: &[u8], item: Item) -> bool
     ensures { λ r. ⌜ r ≡ valueOpens (now (file .entry)) item ⌝ }
 {
     let kind = item.kind;
-    if kind == b'v' {
+    if kind == VALUE_BYTE {
         return value_inside(file, item);
     }
-    if kind == b'H' {
+    if kind == TABLE_BYTE {
         return nested_opens(file, item);
     }
-    if kind == b'L' {
+    if kind == CONTAINER_BYTE {
         return list_opens(file, item);
     }
     false
@@ -112,7 +115,7 @@ fn is_among(file: &[u8], from: usize, n: usize, index: usize) -> bool
 pub fn lists_it(file: &[u8], index: usize, parent: Item) -> bool
     ensures { λ r. ⌜ r ≡ listsIt (now (file .entry)) index parent ⌝ }
 {
-    if parent.kind != b'L' {
+    if parent.kind != CONTAINER_BYTE {
         return false;
     }
     if !value_opens(file, parent) {

@@ -5,6 +5,7 @@ use crate::rules::child_count;
 use crate::rules::value_opens;
 use layout::item::Item;
 use layout::item::item_at;
+use layout::kind::CONTAINER_BYTE;
 use layout::table::Table;
 use words::field::word_at;
 use words::wide::word_size;
@@ -68,7 +69,7 @@ fn survey_container(file: &[u8], table: Table, index: usize, item: Item, bits: &
     ensures said { λ r. ⌜ r ≡ fiveOrShut (now (file .entry)) table index item ⌝ }
     ensures wrote { λ r. ⌜ Surveying (now (file .entry)) table index (λ c. listsIt (now (file .entry)) c item) (now (bits .entry)) (now (bits .exit)) r ⌝ }
 {
-    if item.kind != b'L' {
+    if item.kind != CONTAINER_BYTE {
         return true;
     }
     if !value_opens(file, item) {

@@ -1,46 +1,76 @@
--- Demands 2 and 3: what the statements say holds of every history and every write that succeeds.
-use Prim.Native.Nat.{ℕ, zero, suc, _<_, _≤_}
+-- Demand 2: what the statement says holds of every history and every write that succeeds.
+use Prim.Native.Nat.{ℕ, zero, suc, _<_}
 use mathlib.Core.Path.{_≡_, refl, sym, ap, _∙_, subst}
-use mathlib.Core.Bool.{Bool, true, false}
-use mathlib.Core.List.{List}
+use mathlib.Core.Bool.{true}
+use mathlib.Core.List.{List, [], _∷_}
 use native.Mathlib.Omega.{arith}
 use borrow.Author.Tests.{lt-ltb, ltb-true}
 use lib.Dec.{ltb}
-use lib.ListN.{length, take}
+use lib.ListN.{length, take, getD}
 use Rattle.words.specs.Hash.{plain}
 use Rattle.words.proofs.ChoiceLaws.{both, pick-true}
 use Rattle.text.specs.Utf8.{isUtf8}
+use Rattle.layout.specs.Answer.{openedNumber}
+use Rattle.layout.specs.Table.{openTable}
+use Rattle.layout.specs.declared.table.Opened.{Opened}
 use Rattle.read.specs.declared.lookup.Looked.{Looked}
 use Rattle.read.specs.Lookup.{lookupTable}
-use Rattle.read.specs.Answer.{lookedNumber}
 use Rattle.model.specs.declared.Counted.{Counted}
-use Rattle.model.specs.Table.{Content, Has, rowsOf}
+use Rattle.model.specs.Table.{Content, State, Has, rowsOf}
 use Rattle.model.specs.Builder as model
-use Rattle.build_memory.specs.Memory.{Memory, leastWords, tableTotal}
+use Rattle.model.specs.Builder.{Builder}
+use Rattle.build_memory.specs.Memory.{Memory, tableTotal}
 use Rattle.build_memory.specs.Meaning.{meaning, standingOf}
 use Rattle.build_tables.specs.Table.{itemCount}
+use Rattle.build_tables.specs.Answer.{countedNumber, countedItems}
 use Rattle.build_rules.specs.Valid.{fullyValid}
 use Rattle.build_rules.proofs.ValidFacts.{whole-facts}
-use Rattle.image.specs.Image.{headerSize, depth}
+use Rattle.layout.specs.Sizes.{headerSize}
+use Rattle.layout.specs.Limits.{deepest}
 use Rattle.image.specs.Fits.{openedAs}
 use Rattle.laid.specs.Back.{endOf, tableOpened}
 use Rattle.laid.specs.Told.{TableBack, AllBack}
-use Rattle.laid.specs.Passing.{AllPass}
 use Rattle.write_numbers.specs.Roster.{stateOf}
-use Rattle.write.specs.Write.{freeStanding, imageAfter}
-use Rattle.write.proofs.StateLaws.{content-is, item-below}
+use Rattle.write.specs.declared.Written.{Written}
+use Rattle.build_tables.specs.Table.{freeStanding}
+use Rattle.write.specs.Write.{writtenNumber, writeAnswer, imageAfter}
+use Rattle.write_numbers.proofs.StateLaws.{state-below}
+use Rattle.write.proofs.StateLaws.{content-is}
 use Rattle.history.specs.Honest.{Honest}
+use Rattle.history.proofs.History.{reached-honest}
 use Rattle.history.proofs.ModelCalls.{count-alike}
-use Rattle.history.proofs.Meaning.{listed-length}
-use Rattle.demands.specs.Calls.{Call, started, after}
-use Rattle.demands.specs.Last.{Held}
-use Rattle.demands.specs.Demand2.{Tells, Answers, Demand2}
-use Rattle.demands.specs.Demand3.{AllSound, EveryImagePasses, Demand3}
+use Rattle.build_memory.proofs.MeaningLaws.{length-listed}
+use Rattle.gvdb.specs.declared.reading.GvdbOpened.{GvdbOpened}
+use Rattle.gvdb.specs.Reading.{openedCount, openedAnswer}
+use Rattle.gvdb.specs.Writing.{writtenImage}
+use Rattle.demands.specs.Calls.{Call, Does, Event, History}
+use Rattle.demands.specs.Readers.{Opening}
+use Rattle.demands.specs.Last.{Held, held}
+use Rattle.demands.specs.Model.{counted, written}
+use Rattle.demands.specs.Demand2.{Tells, Opens, Answers, Demand2}
+use Rattle.demands.proofs.Contracts.{answers, leavesLent, does-is, opening-is}
+use Rattle.demands.proofs.Told.{refused-some, value-told, table-told, both-told, bytes-told, pointer-told}
 use Rattle.demands.proofs.HeldLaws.{heldIn}
-use Rattle.demands.proofs.Rows.{ItemOf, item-of, no-item}
+use Rattle.demands.proofs.Rows.{item-of, no-item}
 use Rattle.demands.proofs.Writable.{holds-guest}
-use Rattle.demands.proofs.Write.{success, success-back, success-passes}
-use Rattle.demands.proofs.Histories.{after-honest, held-is}
+use Rattle.demands.proofs.Write.{success, success-back}
+use Rattle.demands.proofs.Models.{meant, stands}
+use Rattle.demands.proofs.Histories.{held-is}
+
+-- ---- a write that succeeds, as its contract tells it
+
+image-by : (w : Written) (start end size : ℕ) → 0 ∷ start ∷ end ∷ size ∷ [] ≡ written w → w ≡ Written.Image start end size
+unfolding written writtenNumber writtenImage
+image-by (Written.Image a b c) start end size e = cc
+image-by (Written.Refused why) start end size e = absurd (refused-some why (let z : 0 ≡ _ = ap (λ (l : List ℕ). getD l 0 0) e in sym z))
+
+pub image-is : (m : Memory) (t : ℕ) (buffer : List ℕ) (start end size : ℕ) (after : Memory) (left : List ℕ)
+    → Does m (Call.write t buffer) (0 ∷ start ∷ end ∷ size ∷ []) after left
+    → (writeAnswer (m .words) (m .arena) t (length buffer) ≡ Written.Image start end size) × (left ≡ imageAfter (m .words) (m .arena) t buffer)
+unfolding answers leavesLent
+image-is m t buffer start end size after left d =
+    let did = does-is m (Call.write t buffer) _ after left d in
+    (image-by _ start end size (did .answer), did .lent)
 
 -- ---- a table of the memory, as a reader finds it
 
@@ -54,133 +84,83 @@ module _ (file ws ar : List ℕ) (t at : ℕ) (back : TableBack plain file (stat
       → (from : ℕ) × (to : ℕ) × (lookupTable plain file at end (stateOf ws ar t .key i) ≡ Looked.Pointer from to) × inside u from to)
       → (key : List ℕ) → isUtf8 key ≡ true → (h : Held) → heldIn (meaning ws ar .items) t key ≡ h → Tells inside file at end key h
   unfolding Tells
-  told inside nest key text Held.nothing is = back .absent key text (no-item ws ar t key is)
+  told inside nest key text Held.nothing is = both-told file at end key 12 (back .absent key text (no-item ws ar t key is))
   told inside nest key text (Held.holds (Content.bytes value)) is =
       let x = item-of ws ar t key (Content.bytes value) is in
       subst (λ (k : List ℕ). Tells inside file at end k (Held.holds (Content.bytes value))) (x .key)
-      (back .values (x .item) value (x .has) (x .content), back .no-table (x .item) value (x .has) (x .content))
+      (bytes-told file at end _ value (back .values (x .item) value (x .has) (x .content)), table-told file at end _ 13 (back .no-table (x .item) value (x .has) (x .content)))
   told inside nest key text (Held.holds (Content.nested u)) is =
       let x = item-of ws ar t key (Content.nested u) is in
-      subst (λ (k : List ℕ). Tells inside file at end k (Held.holds (Content.nested u))) (x .key)
-      (back .no-value (x .item) u (x .has) (x .content), nest (x .item) u (x .has) (x .content))
+      let n = nest (x .item) u (x .has) (x .content) in
+      subst (λ (k : List ℕ). Tells inside file at end k (Held.holds (Content.nested u))) (x .key) (
+        value-told file at end _ 13 (back .no-value (x .item) u (x .has) (x .content)),
+        λ r g.
+            let p = pointer-told file at end _ (n .0) (n .1) (n .2) r g in
+            (p .0, rw (p .1, p .2) (n .3)),
+      )
   told inside nest key text (Held.holds Content.container) is =
       let x = item-of ws ar t key Content.container is in
-      subst (λ (k : List ℕ). Tells inside file at end k (Held.holds Content.container)) (x .key) (back .containers (x .item) (x .has) (x .content))
+      subst (λ (k : List ℕ). Tells inside file at end k (Held.holds Content.container)) (x .key) (both-told file at end _ 13 (back .containers (x .item) (x .has) (x .content)))
 
 -- the builder counts as many items as the table opens with
 counts : (ws ar : List ℕ) → Honest ws ar → (t : ℕ) → t < tableTotal ws → itemCount ws ar t ≡ Counted.Items (length (stateOf ws ar t .members))
 unfolding model.itemCount stateOf rowsOf meaning
 counts ws ar honest t known =
     count-alike ws ar honest t
-    ∙ pick-true _ _ (lt-ltb t (length (meaning ws ar .tables)) (omega (arith, listed-length (standingOf ws) (tableTotal ws))))
+    ∙ pick-true _ _ (lt-ltb t (length (meaning ws ar .tables)) (omega (arith, length-listed (standingOf ws) (tableTotal ws))))
 
-module _ (file ws ar : List ℕ) (whole : fullyValid ws ar ≡ true) where
-  -- a table that an item holds is known
-  guest-known : (t i u : ℕ) → Has (stateOf ws ar t .members) i → stateOf ws ar t .content i ≡ Content.nested u → u < tableTotal ws
-  guest-known t i u has is =
-      let l = item-below ws ar t i has in
-      let (kind, guest) = holds-guest ws ar i u (sym (content-is ws ar t i l) ∙ is) in
-      subst (λ (g : ℕ). g < tableTotal ws) guest (whole-facts ws ar whole .guest i l kind .known)
+opens : (m : Memory) → Honest (m .words) (m .arena) → (file : List ℕ) (t at end : ℕ) → t < tableTotal (m .words)
+    → openTable file at end ≡ Opened.Table (tableOpened (stateOf (m .words) (m .arena)) t at) → Opens m t file at end
+unfolding Opens openedAnswer openedNumber openedCount openedAs answers counted countedNumber countedItems
+opens m honest file t at end known is r o =
+    let e = opening-is file at end r o ∙ ap openedAnswer is in (
+      ap (λ (x : GvdbOpened). x .number) e,
+      λ said after left d.
+          does-is m (Call.item-count t) said after left d .answer ∙ ap counted (counts (m .words) (m .arena) honest t known)
+          ∙ ap (λ (x : GvdbOpened). 0 ∷ x .items ∷ []) (sym e),
+    )
+
+-- a table that an item holds is known
+guest-known : (ws ar : List ℕ) → fullyValid ws ar ≡ true → (t i u : ℕ) → Has (stateOf ws ar t .members) i → stateOf ws ar t .content i ≡ Content.nested u → u < tableTotal ws
+guest-known ws ar whole t i u has is =
+    let l = state-below ws ar t i has in
+    let (kind, guest) = holds-guest ws ar i u (sym (content-is ws ar t i l) ∙ is) in
+    subst (λ (g : ℕ). g < tableTotal ws) guest (whole-facts ws ar whole .guest i l kind .known)
 
 -- ---- demand 2
 
-module _ (ws ar : List ℕ) (long : leastWords ≤ length ws) (calls : List Call) (file : List ℕ) where
-  abbrev m : Memory
-  m = after (started ws ar) calls
+module _ (room : ℕ) (events : List Event) (m : Memory) (h : History room events m) (file : List ℕ) where
+  abbrev state : State
+  state = stateOf (m .words) (m .arena)
 
-  answers : fullyValid (m .words) (m .arena) ≡ true → (d t at : ℕ) → t < tableTotal (m .words) → AllBack plain file (stateOf (m .words) (m .arena)) d t at
-      → Answers (started ws ar) calls file d t at (endOf (stateOf (m .words) (m .arena)) t at)
-  unfolding AllBack Answers openedAs
-  answers whole zero t at known back = back
-  answers whole (suc d) t at known back =
-      let state = stateOf (m .words) (m .arena) in (
-        record {
-          table = tableOpened state t at;
-          opens = back .0 .opens;
-          counts = counts (m .words) (m .arena) (after-honest ws ar long calls) t known;
-        },
-        λ key text.
-            subst (Tells (λ u from to. Answers (started ws ar) calls file d u from to) file at (endOf state t at) key) (held-is ws ar long t key calls)
-            (told file (m .words) (m .arena) t at (back .0) (λ u from to. Answers (started ws ar) calls file d u from to)
-            (λ i u has is.
-            let r = back .1 i u has is in
-            (r .0, endOf state u (r .0), r .1, answers whole d u (r .0) (guest-known file (m .words) (m .arena) whole t i u has is) (r .2)))
-            key text (heldIn (meaning (m .words) (m .arena) .items) t key) refl),
-        λ key bad. back .0 .not-text key bad,
-      )
+  -- what the items hold is what the calls say
+  holds : (t : ℕ) (key : List ℕ) → heldIn (meant m .items) t key ≡ held t key events
+  holds t key = ap (λ (b : Builder). heldIn (b .items) t key) (stands room events m h .means) ∙ held-is t key room events m h
+
+  reads : fullyValid (m .words) (m .arena) ≡ true → (d t at : ℕ) → t < tableTotal (m .words) → AllBack plain file state d t at → Answers events m file d t at (endOf state t at)
+  unfolding AllBack Answers
+  reads whole zero t at known back = back
+  reads whole (suc d) t at known back = (
+    opens m (reached-honest _ _ (stands room events m h .reached)) file t at (endOf state t at) known (back .0 .opens),
+    λ key text.
+        subst (Tells (λ u from to. Answers events m file d u from to) file at (endOf state t at) key) (holds t key)
+        (told file (m .words) (m .arena) t at (back .0) (λ u from to. Answers events m file d u from to)
+        (λ i u has is.
+        let r = back .1 i u has is in
+        (r .0, endOf state u (r .0), r .1, reads whole d u (r .0) (guest-known (m .words) (m .arena) whole t i u has is) (r .2)))
+        key text (heldIn (meant m .items) t key) refl),
+    λ key bad. both-told file at (endOf state t at) key 8 (back .0 .not-text key bad),
+  )
 
 pub demand-2 : Demand2
 unfolding freeStanding
-demand-2 ws ar long calls t buffer start end size is =
-    let m = after (started ws ar) calls in
+demand-2 room events m h t buffer start end size after left d =
+    let (is, laid) = image-is m t buffer start end size after left d in
     let s = success (m .words) (m .arena) t (length buffer) start end size is in
     let back = success-back (m .words) (m .arena) buffer t start end size is in
     let known : t < tableTotal (m .words) = ltb-true _ _ (both (ltb t (tableTotal (m .words))) _ (s .root) .0) in
     let file = take size (imageAfter (m .words) (m .arena) t buffer) in
-    subst (λ (at : ℕ). Answers (started ws ar) calls file depth t at end) (sym (s .starts))
-    (subst (λ (to : ℕ). Answers (started ws ar) calls file depth t headerSize to) (sym (s .ends))
-    (answers ws ar long calls file (s .whole) depth t headerSize known back))
-
--- ---- demand 3
-
--- an answer with a pointer has no refusal's number
-placed-none : (l : Looked) (from to n : ℕ) → l ≡ Looked.Pointer from to → lookedNumber l ≡ suc n → ⊥
-unfolding lookedNumber
-placed-none l from to n is e = let z : _≡_ {A = ℕ} 0 (suc n) = sym (ap lookedNumber is) ∙ e in omega arith
-
-same-place : (l : Looked) (a b c d : ℕ) → l ≡ Looked.Pointer a b → l ≡ Looked.Pointer c d → (a ≡ c) × (b ≡ d)
-same-place l a b c d p q = (cc, cc)
-
-module _ (file ws ar : List ℕ) where
-  -- a key that answers a nested table is the key of an item that holds one
-  record Nests (t : ℕ) (key : List ℕ) : Type 0 where
-    pub guest : ℕ
-    pub item : ItemOf ws ar t key (Content.nested guest)
-
-  nests : (t at : ℕ) → TableBack plain file (stateOf ws ar) t at → (key : List ℕ) (from to : ℕ) → lookupTable plain file at (endOf (stateOf ws ar) t at) key ≡ Looked.Pointer from to → Nests t key
-  nests t at back key from to is = by-text (isUtf8 key) refl
-    where
-      by-held : (h : Held) → isUtf8 key ≡ true → heldIn (meaning ws ar .items) t key ≡ h → Nests t key
-      by-held Held.nothing text e = absurd (placed-none _ from to 11 is (back .absent key text (no-item ws ar t key e) .table))
-      by-held (Held.holds (Content.bytes value)) text e =
-          let x = item-of ws ar t key (Content.bytes value) e in
-          absurd (placed-none _ from to 12 is (subst (λ (k : List ℕ). lookedNumber (lookupTable plain file at (endOf (stateOf ws ar) t at) k) ≡ 13) (x .key) (back .no-table (x .item) value (x .has) (x .content))))
-      by-held (Held.holds (Content.nested u)) text e = record { guest = u; item = item-of ws ar t key (Content.nested u) e }
-      by-held (Held.holds Content.container) text e =
-          let x = item-of ws ar t key Content.container e in
-          absurd (placed-none _ from to 12 is (subst (λ (k : List ℕ). lookedNumber (lookupTable plain file at (endOf (stateOf ws ar) t at) k) ≡ 13) (x .key) (back .containers (x .item) (x .has) (x .content) .table)))
-
-      by-text : (b : Bool) → isUtf8 key ≡ b → Nests t key
-      by-text true e = by-held (heldIn (meaning ws ar .items) t key) e refl
-      by-text false e = absurd (placed-none _ from to 7 is (back .not-text key e .table))
-
-  all-sound : (d t at : ℕ) → AllBack plain file (stateOf ws ar) d t at → AllPass plain file (stateOf ws ar) d t at → AllSound file d at (endOf (stateOf ws ar) t at)
-  unfolding AllBack AllPass AllSound
-  all-sound zero t at back pass = pass
-  all-sound (suc d) t at back pass = (
-    pass .0,
-    λ key from to is.
-        let n = nests t at (back .0) key from to is in
-        let x = n .item in
-        let u = n .guest in
-        let b = back .1 (x .item) u (x .has) (x .content) in
-        let p = pass .1 (x .item) u (x .has) (x .content) in
-        let here : lookupTable plain file at (endOf (stateOf ws ar) t at) (stateOf ws ar t .key (x .item)) ≡ Looked.Pointer from to =
-        ap (lookupTable plain file at (endOf (stateOf ws ar) t at)) (x .key) ∙ is in
-        let pb = same-place _ (b .0) (endOf (stateOf ws ar) u (b .0)) (p .0) (endOf (stateOf ws ar) u (p .0)) (b .1) (p .1) in
-        let pp = same-place _ (p .0) (endOf (stateOf ws ar) u (p .0)) from to (p .1) here in
-        subst (λ (f : ℕ). AllSound file d f to) (pp .0)
-        (subst (AllSound file d (p .0)) (pp .1)
-        (all-sound d u (p .0) (subst (AllBack plain file (stateOf ws ar) d u) (pb .0) (b .2)) (p .2))),
-  )
-
-pub every-image-passes : EveryImagePasses
-every-image-passes ws ar t buffer start end size is =
-    let s = success ws ar t (length buffer) start end size is in
-    let file = take size (imageAfter ws ar t buffer) in
-    subst (λ (at : ℕ). AllSound file depth at end) (sym (s .starts))
-    (subst (AllSound file depth headerSize) (sym (s .ends))
-    (all-sound file ws ar depth t headerSize (success-back ws ar buffer t start end size is) (success-passes ws ar buffer t start end size is)))
-
-pub demand-3 : Demand3
-demand-3 ws ar long calls = every-image-passes (after (started ws ar) calls .words) (after (started ws ar) calls .arena)
+    subst (λ (bytes : List ℕ). Answers events m (take size bytes) deepest t start end) (sym laid)
+    (subst (λ (at : ℕ). Answers events m file deepest t at end) (sym (s .starts))
+    (subst (λ (to : ℕ). Answers events m file deepest t headerSize to) (sym (s .ends))
+    (reads room events m h file (s .whole) deepest t headerSize known back)))

@@ -1,6 +1,6 @@
 -- What each call leaves under every key, on the model: an accepted insert what `walk-held` says; and every table keeps its separator.
 use Prim.Native.Nat.{ℕ, zero, suc}
-use mathlib.Core.Path.{_≡_, refl, ap, _∙_}
+use mathlib.Core.Path.{_≡_, refl, sym, ap, _∙_}
 use mathlib.Core.Bool.{Bool, true, false, _&&_}
 use mathlib.Core.List.{List, [], _∷_}
 use lib.Dec.{eqb, ltb}
@@ -12,9 +12,11 @@ use Rattle.layout.specs.declared.refusal.Refusal.{Refusal}
 use Rattle.layout.specs.declared.refusal.Refusal.the-variants.{KeyNotUtf8, KeyTooLong, NotContainer, TooManyItems, ArenaFull, TableUnknown, TableInItself, NestedTooDeep}
 use Rattle.layout.specs.Refusal.{number}
 use Rattle.model.specs.declared.Inserted.{Inserted}
-use Rattle.model.specs.Table.{Content, Entry, noItem}
+use Rattle.layout.specs.Item.{noItem}
+use Rattle.model.specs.Table.{Content, Entry}
 use Rattle.model.specs.Walk.{Walked, walk}
-use Rattle.model.specs.Builder.{Builder, Standing, noStanding, standingAt, Result, result, refused, counted, atWalked, put, keyed, insertValue, place, whenAccepted, settled, insertTable, height, deepest}
+use Rattle.layout.specs.Limits.{deepest}
+use Rattle.model.specs.Builder.{Builder, Standing, noStanding, standingAt, Result, result, refused, news, counted, atWalked, put, keyed, insertValue, place, whenAccepted, settled, insertTable, height}
 use Rattle.build_values.specs.Answer.{insertedNumber}
 use Rattle.demands.specs.Last.{Held, orElse, among}
 use Rattle.demands.proofs.HeldLaws.{heldIn, hit}
@@ -26,14 +28,19 @@ putHeld m t key content u k =
     orElse (pick (hit t key u k) (Held.holds content) Held.nothing)
     (pick (eqb t u && among (prefixes (standingAt m t .separator) key) k) (orElse (heldIn (m .items) u k) (Held.holds Content.container)) (heldIn (m .items) u k))
 
+news-accepted : (items : List Entry) (t : ℕ) (key : List ℕ) → eqb (insertedNumber (news items t key)) 0 ≡ true
+unfolding news insertedNumber
+news-accepted items t key = pick-with (λ (a : Inserted). eqb (insertedNumber a) 0 ≡ true) _ _ _ (λ _. refl) (λ _. refl)
+
 module _ (m : Builder) (t : ℕ) (key : List ℕ) (content : Content) where
   pub record Took (r : Result Inserted) : Type 0 where
     pub took : eqb (insertedNumber (r .answer)) 0 ≡ true → (u : ℕ) (k : List ℕ) → heldIn (r .after .items) u k ≡ putHeld m t key content u k
+    pub kept : eqb (insertedNumber (r .answer)) 0 ≡ false → r .after ≡ m
     pub seps : (u : ℕ) → standingAt (r .after) u .separator ≡ standingAt m u .separator
 
   refused-took : (why : Refusal) → eqb (number why) 0 ≡ false → Took (refused why m)
   unfolding insertedNumber
-  refused-took why e = record { took = λ n u k. cc; seps = λ u. refl }
+  refused-took why e = record { took = λ n u k. cc; kept = λ n. refl; seps = λ u. refl }
 
   pick-took : (b : Bool) (r s : Result Inserted) → Took r → Took s → Took (pick b r s)
   pick-took b r s x y = pick-with Took b r s (λ _. x) (λ _. y)
@@ -44,7 +51,11 @@ module _ (m : Builder) (t : ℕ) (key : List ℕ) (content : Content) where
   counted-took size after is =
       pick-took _ _ _ (refused-took TooManyItems refl)
       (pick-took _ _ _ (refused-took ArenaFull refl)
-      (record { took = λ n u k. walk-held t content (standingAt m t .separator) key (m .items) noItem after is u k; seps = λ u. refl }))
+      (record {
+        took = λ n u k. walk-held t content (standingAt m t .separator) key (m .items) noItem after is u k;
+        kept = λ n. let y : true ≡ false = sym (news-accepted (m .items) t key) ∙ n in cc;
+        seps = λ u. refl;
+      }))
 
   walked-took : (size : ℕ) (deep : Bool) (w : Walked) → walk t content (prefixes (standingAt m t .separator) key) (m .items) noItem ≡ w → Took (atWalked w deep m t key size)
   unfolding atWalked
@@ -82,13 +93,19 @@ placed-items : (m : Builder) (g : ℕ) → place m g .items ≡ m .items
 unfolding place
 placed-items m g = refl
 
+placed-took : (m : Builder) (t : ℕ) (key : List ℕ) (content : Content) (g : ℕ) (a : Inserted) → eqb (insertedNumber a) 0 ≡ true → (after : Builder)
+    → Took m t key content (result a after) → Took m t key content (result a (place after g))
+placed-took m t key content g a yes-it-is after x = record {
+  took = λ n u k. ap (λ (l : List Entry). heldIn l u k) (placed-items after g) ∙ x .took n u k;
+  kept = λ n. let y : true ≡ false = sym yes-it-is ∙ n in cc;
+  seps = λ u. placed-sep after g u ∙ x .seps u;
+}
+
 settled-took : (m : Builder) (t : ℕ) (key : List ℕ) (content : Content) (g : ℕ) (a : Inserted) (after : Builder) → Took m t key content (result a after)
     → Took m t key content (settled g (result a after))
-unfolding settled whenAccepted
-settled-took m t key content g Inserted.New after x =
-    record { took = λ n u k. ap (λ (l : List Entry). heldIn l u k) (placed-items after g) ∙ x .took n u k; seps = λ u. placed-sep after g u ∙ x .seps u }
-settled-took m t key content g (Inserted.Replaced kind) after x =
-    record { took = λ n u k. ap (λ (l : List Entry). heldIn l u k) (placed-items after g) ∙ x .took n u k; seps = λ u. placed-sep after g u ∙ x .seps u }
+unfolding settled whenAccepted insertedNumber
+settled-took m t key content g Inserted.New after x = placed-took m t key content g _ refl after x
+settled-took m t key content g (Inserted.Replaced kind) after x = placed-took m t key content g _ refl after x
 settled-took m t key content g (Inserted.Refused why) after x = x
 
 pub table-took : (m : Builder) (t : ℕ) (key : List ℕ) (guest : ℕ) → Took m t key (Content.nested guest) (insertTable m t key guest)

@@ -1,6 +1,6 @@
 -- Demand 1: callers who change nothing between calls never meet 29.
 use Prim.Native.Nat.{ℕ}
-use mathlib.Core.Path.{_≡_}
+use mathlib.Core.Path.{_≡_, sym, ap, _∙_}
 use mathlib.Core.Bool.{Bool, true}
 use mathlib.Core.List.{List}
 use native.Mathlib.Omega.{arith}
@@ -9,7 +9,7 @@ use Rattle.words.specs.Choice.{pick}
 use Rattle.words.proofs.ChoiceLaws.{pick-with, pick-true}
 use Rattle.layout.specs.declared.refusal.Refusal.{Refusal}
 use Rattle.layout.specs.declared.refusal.Refusal.the-variants.{KeyNotUtf8, KeyTooLong, NotContainer, TooManyItems, ArenaFull, TableUnknown, TableInItself, NestedTooDeep}
-use Rattle.layout.specs.Refusal.{number}
+use Rattle.layout.specs.Refusal as refusal
 use Rattle.model.specs.declared.Inserted.{Inserted}
 use Rattle.model.specs.declared.Added.{Added}
 use Rattle.model.specs.declared.Counted.{Counted}
@@ -24,9 +24,11 @@ use Rattle.build_rules.specs.Valid.{fullyValid}
 use Rattle.write.specs.declared.Written.{Written}
 use Rattle.write.specs.Write.{writeAnswer, writtenNumber}
 use Rattle.history.proofs.History.{reached-valid, reached-whole}
-use Rattle.demands.specs.Calls.{Call, answered, started, after}
+use Rattle.demands.specs.Calls.{Call, number}
+use Rattle.demands.specs.Model as model
 use Rattle.demands.specs.Demand1.{Never29}
-use Rattle.demands.proofs.Histories.{after-reached}
+use Rattle.demands.proofs.Contracts.{answers, does-is}
+use Rattle.demands.proofs.Models.{stands}
 
 -- an answer of another number
 record Other {A : Type 0} (number : A → ℕ) (a : A) : Type 0 where
@@ -40,7 +42,7 @@ other-pick number of b x y p q = pick-with (λ a. Other number (of a)) b x y (λ
 abbrev said : Outcome Inserted → Inserted
 said o = o .answer
 
-no : (why : Refusal) → (number why ≡ 29 → ⊥) → Other insertedNumber (Inserted.Refused why)
+no : (why : Refusal) → (refusal.number why ≡ 29 → ⊥) → Other insertedNumber (Inserted.Refused why)
 unfolding insertedNumber
 no why n = record { other = n }
 
@@ -104,18 +106,15 @@ write-other ws ar t room ok =
     (other-pick writtenNumber same _ _ _ (record { other = λ e. omega arith }) (record { other = λ e. omega arith })))
     (record { other = λ e. omega arith }))
 
-pub never-29 : Never29
-unfolding answered
-never-29 ws ar long calls call e =
-    let r = after-reached ws ar long calls in
-    by call (reached-valid _ _ r) (reached-whole _ _ r) e
-  where
-    m : Memory
-    m = after (started ws ar) calls
+call-other : (m : Memory) → valid (m .words) (length (m .arena)) ≡ true → fullyValid (m .words) (m .arena) ≡ true → (call : Call) → number (answers m call) ≡ 29 → ⊥
+unfolding answers model.added model.inserted model.counted model.written
+call-other m ok whole (Call.new-table given) e = new-table-other (m .words) (m .arena) given ok .other e
+call-other m ok whole (Call.insert-value t key value) e = value-other (m .words) (m .arena) t key value ok .other e
+call-other m ok whole (Call.insert-table t key guest) e = table-other (m .words) (m .arena) t key guest ok .other e
+call-other m ok whole (Call.item-count t) e = count-other (m .words) (m .arena) t ok .other e
+call-other m ok whole (Call.write t buffer) e = write-other (m .words) (m .arena) t (length buffer) whole .other e
 
-    by : (x : Call) → valid (m .words) (length (m .arena)) ≡ true → fullyValid (m .words) (m .arena) ≡ true → answered m x ≡ 29 → ⊥
-    by (Call.new-table given) ok whole e = new-table-other (m .words) (m .arena) given ok .other e
-    by (Call.insert-value t key value) ok whole e = value-other (m .words) (m .arena) t key value ok .other e
-    by (Call.insert-table t key guest) ok whole e = table-other (m .words) (m .arena) t key guest ok .other e
-    by (Call.item-count t) ok whole e = count-other (m .words) (m .arena) t ok .other e
-    by (Call.write t buffer) ok whole e = write-other (m .words) (m .arena) t (length buffer) whole .other e
+pub never-29 : Never29
+never-29 room events m h call said after left d e =
+    let r = stands room events m h .reached in
+    call-other m (reached-valid _ _ r) (reached-whole _ _ r) call (ap number (sym (does-is m call said after left d .answer)) ∙ e)

@@ -1,17 +1,22 @@
 -- Demand 1: a refusal changes nothing.
-use Prim.Native.Nat.{ℕ}
-use mathlib.Core.Path.{_≡_, refl}
+use Prim.Native.Nat.{ℕ, _+_}
+use mathlib.Core.Path.{_≡_, refl, sym, ap, _∙_}
 use mathlib.Core.Bool.{Bool, true, false}
 use mathlib.Core.List.{List}
-use lib.Dec.{eqb, leb}
+use lib.Dec.{eqb, leb, ltb}
 use lib.ListN.{length}
 use Rattle.words.specs.Choice.{pick}
+use Rattle.words.specs.Store.{putAt}
 use Rattle.words.proofs.ChoiceLaws.{pick-with}
 use Rattle.layout.specs.declared.refusal.Refusal.{Refusal}
-use Rattle.layout.specs.declared.refusal.Refusal.the-variants.{SeparatorOutside, TooManyTables, MemoryBroken}
+use Rattle.layout.specs.declared.refusal.Refusal.the-variants.{SeparatorOutside, TooManyTables, MemoryBroken, BufferTooShort}
+use Rattle.read.specs.declared.listing.Listed.{Listed}
+use Rattle.read.specs.Chain.{Joined}
+use Rattle.read.specs.Listing.{keyAt, listed, written}
+use Rattle.read.specs.Answer.{listedNumber}
 use Rattle.model.specs.declared.Inserted.{Inserted}
 use Rattle.model.specs.declared.Added.{Added}
-use Rattle.build_memory.specs.Memory.{leastWords, Memory, memory, Outcome, freshStart}
+use Rattle.build_memory.specs.Memory.{leastWords, Memory, Outcome, freshStart}
 use Rattle.build_memory.specs.Answer.{startedNumber}
 use Rattle.build_tables.specs.Table.{notAdded, addTable, newTable}
 use Rattle.build_tables.specs.Answer.{addedNumber}
@@ -22,8 +27,12 @@ use Rattle.build_nested.specs.Nest.{insertTable}
 use Rattle.build_nested.proofs.AnswerLaws.{table-still}
 use Rattle.write.specs.declared.Written.{Written}
 use Rattle.write.specs.Write.{writeAnswer, writtenNumber, imageFor, laidBy, imageAfter}
-use Rattle.demands.specs.Calls.{Call, answered, accepted, leaves, lent, leavesLent}
-use Rattle.demands.specs.Demand1.{RefusalChangesNothing, RefusedStartChangesNothing}
+use Rattle.gvdb.specs.declared.reading.GvdbKey.{GvdbKey}
+use Rattle.gvdb.specs.Reading.{listedAnswer}
+use Rattle.demands.specs.Calls.{Call, lent, accepted}
+use Rattle.demands.specs.Model as model
+use Rattle.demands.specs.Demand1.{RefusalChangesNothing, RefusedStartChangesNothing, RefusedListingWritesNothing}
+use Rattle.demands.proofs.Contracts.{answers, leaves, leavesLent, does-is, starts-is, listing-is}
 
 -- ---- inserts
 
@@ -58,20 +67,46 @@ laid-still (Written.Refused why) image buffer n = refl
 
 -- ---- all of them
 
-pub refusal-changes-nothing : RefusalChangesNothing
-unfolding accepted answered leaves lent leavesLent imageAfter
-refusal-changes-nothing m (Call.new-table separator) n = (new-table-still m separator .same n, refl)
-refusal-changes-nothing m (Call.insert-value t key value) n =
+call-still : (m : Memory) (call : Call) → accepted (answers m call) ≡ false → (leaves m call ≡ m) × (leavesLent m call ≡ lent call)
+unfolding answers model.added model.inserted model.counted model.written leaves lent leavesLent imageAfter
+call-still m (Call.new-table separator) n = (new-table-still m separator .same n, refl)
+call-still m (Call.insert-value t key value) n =
     (inserted-still m (insertValue (m .words) (m .arena) t key value) (value-still (m .words) (m .arena) t key value) _ refl n, refl)
-refusal-changes-nothing m (Call.insert-table t key guest) n =
+call-still m (Call.insert-table t key guest) n =
     (inserted-still m (insertTable (m .words) (m .arena) t key guest) (table-still (m .words) (m .arena) t key guest) _ refl n, refl)
-refusal-changes-nothing m (Call.item-count t) n = (refl, refl)
-refusal-changes-nothing m (Call.write t buffer) n = (refl, laid-still (writeAnswer (m .words) (m .arena) t (length buffer)) (imageFor (m .words) (m .arena) t) buffer n)
+call-still m (Call.item-count t) n = (refl, refl)
+call-still m (Call.write t buffer) n = (refl, laid-still (writeAnswer (m .words) (m .arena) t (length buffer)) (imageFor (m .words) (m .arena) t) buffer n)
 
-started-still : (ws ar : List ℕ) (b : Bool) → leb leastWords (length ws) ≡ b → (startedNumber (freshStart ws ar .answer) ≡ 0 → ⊥) → freshStart ws ar .after ≡ memory ws ar
+pub refusal-changes-nothing : RefusalChangesNothing
+refusal-changes-nothing m call said after left d n =
+    let did = does-is m call said after left d in
+    let (same, still) = call-still m call (ap accepted (sym (did .answer)) ∙ n) in
+    (did .memory ∙ same, did .lent ∙ still)
+
+started-still : (m : Memory) (b : Bool) → leb leastWords (length (m .words)) ≡ b → (startedNumber (freshStart (m .words) (m .arena) .answer) ≡ 0 → ⊥)
+    → freshStart (m .words) (m .arena) .after ≡ m
 unfolding freshStart startedNumber pick
-started-still ws ar true e n = absurd (n (rw e refl))
-started-still ws ar false e n = rw e refl
+started-still m true e n = absurd (n (rw e refl))
+started-still m false e n = rw e refl
 
 pub refused-start-changes-nothing : RefusedStartChangesNothing
-refused-start-changes-nothing ws ar n = started-still ws ar (leb leastWords (length ws)) refl n
+refused-start-changes-nothing m said after s n =
+    let is = starts-is m said after s in
+    is .1 ∙ started-still m (leb leastWords (length (m .words))) refl (λ e. n (is .0 ∙ e))
+
+-- ---- key listing
+
+listed-still : (j : Joined) (out : List ℕ) (at : ℕ) → (listedNumber (listed j (length out) at) ≡ 0 → ⊥) → written j out ≡ out
+unfolding listed written listedNumber pick
+listed-still (Joined.broken why) out at n = refl
+listed-still (Joined.joined k) out at n = by (ltb (length out) (length k)) n
+  where
+    by : (b : Bool) → (listedNumber (pick b (Listed.Refused BufferTooShort) (Listed.Key (length k) (record { at = at + 1 }))) ≡ 0 → ⊥) → pick b out (putAt out 0 k) ≡ out
+    by true n = refl
+    by false n = absurd (n refl)
+
+pub refused-listing-writes-nothing : RefusedListingWritesNothing
+unfolding listedAnswer
+refused-listing-writes-nothing file start end position out r left l n =
+    let is = listing-is file start end position out r left l in
+    is .1 ∙ listed-still (keyAt file start end position) out position (λ e. n (ap (λ (k : GvdbKey). k .number) (is .0) ∙ e))

@@ -2,16 +2,19 @@
 use mathlib.Core.Path.{_≡_, sym, ap, _∙_}
 use mathlib.Core.Logic.{⊎-elim}
 use mathlib.Core.List.{List, [], _∷_, _++_}
-use Prim.Native.Nat.{ℕ, zero, suc, _+_, _≤_, _<_}
+use Prim.Native.Nat.{ℕ, zero, suc, _+_, _<_}
 use native.Mathlib.Omega.{arith}
 use lib.ListN.{length, getD, length-append, List·getD-append}
 use lib.Seq.{getD-at}
 use Rattle.model.specs.Table.{Has}
 use Rattle.build_memory.specs.Memory.{itemTotal, itemTable}
 use Rattle.image.specs.Index.{indexIn}
-use Rattle.image.proofs.TimesLaws.{eq-or-ne, lt-or-ge, index-stands}
+use Rattle.words.proofs.ChoiceLaws.{eq-or-ne, lt-or-ge}
+use Rattle.image.proofs.TimesLaws.{index-stands}
 use Rattle.write_numbers.specs.Roster.{stateOf}
-use Rattle.write.proofs.StateLaws.{among, among-hit, among-miss, among-none, members-are}
+use Rattle.write_numbers.specs.Fill.{ofTable, allOfTable}
+use Rattle.write_numbers.proofs.OfTableLaws.{of-table-more, of-table-pass}
+use Rattle.write_numbers.proofs.StateLaws.{state-members}
 
 -- indices below n that rise
 record Rising (n : ℕ) (l : List ℕ) : Type 0 where
@@ -62,12 +65,14 @@ rising-index n l r a b ha hb less =
     (lt-or-ge (indexIn l a) (indexIn l b))
 
 module _ (ws ar : List ℕ) (t : ℕ) where
-  among-rising : (n : ℕ) → n ≤ itemTotal ws → Rising n (among ws ar t n)
-  among-rising zero h = rw (among-none ws ar t) (rising-none 0)
-  among-rising (suc n) h =
-      let r = among-rising n (omega arith) in
-      ⊎-elim (λ e. rw (among-hit ws ar t n h e) (rising-snoc n (among ws ar t n) r)) (λ ne. rw (among-miss ws ar t n h ne) (rising-later n (among ws ar t n) r)) (eq-or-ne (itemTable ws n) t)
+  of-table-rising : (n : ℕ) → Rising n (ofTable ws t n)
+  unfolding ofTable
+  of-table-rising zero = rising-none 0
+  of-table-rising (suc n) =
+      let r = of-table-rising n in
+      ⊎-elim (λ e. rw (of-table-more ws t n e) (rising-snoc n (ofTable ws t n) r)) (λ ne. rw (of-table-pass ws t n ne) (rising-later n (ofTable ws t n) r)) (eq-or-ne (itemTable ws n) t)
 
   pub member-earlier : (a b : ℕ) → Has (stateOf ws ar t .members) a → Has (stateOf ws ar t .members) b → a < b
       → indexIn (stateOf ws ar t .members) a < indexIn (stateOf ws ar t .members) b
-  member-earlier a b = rising-index (itemTotal ws) (stateOf ws ar t .members) (rw (members-are ws ar t) (among-rising (itemTotal ws) (omega arith))) a b
+  unfolding allOfTable
+  member-earlier a b = rising-index (itemTotal ws) (stateOf ws ar t .members) (rw (state-members ws ar t) (of-table-rising (itemTotal ws))) a b

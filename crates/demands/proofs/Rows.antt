@@ -10,7 +10,8 @@ use Rattle.model.specs.Table.{Content, Entry, entryAt, Has, rowsOf}
 use Rattle.build_memory.specs.Memory.{itemTotal}
 use Rattle.build_memory.specs.Meaning.{meaning}
 use Rattle.write_numbers.specs.Roster.{stateOf}
-use Rattle.write.proofs.StateLaws.{table-is, total-is, has-item, item-below, item-table}
+use Rattle.write_numbers.proofs.StateLaws.{state-below, state-table, state-has}
+use Rattle.write.proofs.StateLaws.{table-is, total-is}
 use Rattle.demands.specs.Last.{Held}
 use Rattle.demands.proofs.HeldLaws.{heldIn, hit, hit-same, hit-is}
 
@@ -73,10 +74,10 @@ module _ (ws ar : List ℕ) (t : ℕ) (k : List ℕ) where
   item-of c is =
       let f = found (meaning ws ar .items) t k c is in
       let l : f .index < itemTotal ws = omega (arith, f .below, total-is ws ar) in
-      record { item = f .index; has = has-item ws ar t (f .index) l (sym (table-is ws ar (f .index) l) ∙ f .table); key = f .key; content = f .content }
+      record { item = f .index; has = state-has ws ar t (f .index) l (sym (table-is ws ar (f .index) l) ∙ f .table); key = f .key; content = f .content }
 
   pub no-item : heldIn (meaning ws ar .items) t k ≡ Held.nothing → (i : ℕ) → Has (stateOf ws ar t .members) i → stateOf ws ar t .key i ≡ k → ⊥
   unfolding stateOf rowsOf
   no-item is i has key =
-      let l = item-below ws ar t i has in
-      missing (meaning ws ar .items) t k is i (omega (arith, total-is ws ar)) (table-is ws ar i l ∙ item-table ws ar t i has) key
+      let l = state-below ws ar t i has in
+      missing (meaning ws ar .items) t k is i (omega (arith, total-is ws ar)) (table-is ws ar i l ∙ state-table ws ar t i has) key

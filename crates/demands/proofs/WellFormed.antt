@@ -7,20 +7,21 @@ use Prim.Native.Nat.{ℕ, _-_, _≤_, _<_}
 use native.Mathlib.Omega.{arith}
 use borrow.Author.Tests.{eq-eqb, ne-eqb}
 use lib.ListN.{length}
-use Rattle.words.proofs.ChoiceLaws.{pick-true, pick-false}
+use Rattle.words.proofs.ChoiceLaws.{pick-true, pick-false, eq-or-ne}
 use Rattle.text.specs.Utf8.{isUtf8}
-use Rattle.model.specs.Table.{Rows, Has, isChild, isContainer, noItem}
-use Rattle.model.specs.Builder.{longestKey, mostItems}
+use Rattle.layout.specs.Item.{noItem}
+use Rattle.model.specs.Table.{Rows, Has, isChild, isContainer}
+use Rattle.layout.specs.Limits.{longestKey, mostItems}
 use Rattle.build_memory.specs.Memory.{itemTotal, itemParent, keyOf}
 use Rattle.build_memory.specs.Find.{findKey}
 use Rattle.build_rules.specs.Valid.{fullyValid}
 use Rattle.build_rules.proofs.ValidFacts.{WholeFacts, whole-facts}
 use Rattle.image.specs.WellFormed.{ChildFits, WellFormed}
-use Rattle.image.proofs.TimesLaws.{eq-or-ne}
 use Rattle.write_numbers.specs.Roster.{stateOf}
-use Rattle.write_numbers.proofs.StateLaws.{state-members, all-of-table-few}
+use Rattle.write_numbers.proofs.StateLaws.{state-members, state-key, state-below, state-once, state-table, state-has, all-of-table-few}
+use Rattle.build_memory.proofs.MeaningLaws.{key-length}
 use Rattle.write_numbers.proofs.RosterLaws.{whole-fit}
-use Rattle.write.proofs.StateLaws.{key-length, key-is, above-is, content-past, member-once, has-item, item-below, item-table}
+use Rattle.write.proofs.StateLaws.{above-is, content-past}
 use Rattle.demands.proofs.Rising.{member-earlier}
 
 module _ (ws ar : List ℕ) (whole : fullyValid ws ar ≡ true) (t : ℕ) where
@@ -35,10 +36,10 @@ module _ (ws ar : List ℕ) (whole : fullyValid ws ar ≡ true) (t : ℕ) where
 
   module _ (i : ℕ) (has : Has (table .members) i) where
     inside : i < itemTotal ws
-    inside = item-below ws ar t i has
+    inside = state-below ws ar t i has
 
     key : table .key i ≡ keyOf ws ar i
-    key = key-is ws ar t i inside
+    key = state-key ws ar t i inside
 
     short : length (table .key i) ≤ longestKey
     short =
@@ -50,7 +51,7 @@ module _ (ws ar : List ℕ) (whole : fullyValid ws ar ≡ true) (t : ℕ) where
 
     -- the search for its key in the table answers it
     found : findKey ws ar t (table .key i) ≡ i
-    found = rw key (ap (λ (u : ℕ). findKey ws ar u (keyOf ws ar i)) (sym (item-table ws ar t i has)) ∙ facts .found i inside)
+    found = rw key (ap (λ (u : ℕ). findKey ws ar u (keyOf ws ar i)) (sym (state-table ws ar t i has)) ∙ facts .found i inside)
 
     -- ---- the item above it
 
@@ -69,10 +70,10 @@ module _ (ws ar : List ℕ) (whole : fullyValid ws ar ≡ true) (t : ℕ) where
         let p = itemParent ws i - 1 in
         let f = facts .parent i inside some in
         let early : p < i = omega (arith, f .earlier) in
-        let member = has-item ws ar t p (omega (arith, inside)) (f .same ∙ item-table ws ar t i has) in record {
+        let member = state-has ws ar t p (omega (arith, inside)) (f .same ∙ state-table ws ar t i has) in record {
           member = rw (above some) member;
           earlier = rw (above some) (member-earlier ws ar t p i member has early);
-          begins = rw (above some, key, key-is ws ar t p (omega (arith, inside))) (f .begins);
+          begins = rw (above some, key, state-key ws ar t p (omega (arith, inside))) (f .begins);
         }
 
     child : isChild table i ≡ true → ChildFits table i
@@ -82,4 +83,4 @@ module _ (ws ar : List ℕ) (whole : fullyValid ws ar ≡ true) (t : ℕ) where
   distinct i j a b e = sym (found i a) ∙ ap (findKey ws ar t) e ∙ found j b
 
   pub table-formed : WellFormed (stateOf ws ar t)
-  table-formed = record { few = few; once = member-once ws ar t; short = short; utf8 = utf8; distinct = distinct; child = child }
+  table-formed = record { few = few; once = state-once ws ar t; short = short; utf8 = utf8; distinct = distinct; child = child }

@@ -10,16 +10,18 @@ use Rattle.words.specs.Choice.{pick}
 use Rattle.words.specs.Store.{part}
 use Rattle.words.proofs.ChoiceLaws.{both}
 use Rattle.model.specs.Table.{Content}
-use Rattle.build_memory.specs.Memory.{tableTotal, itemKind, itemGuest, valueStart, valueSize, valueKind, tableKind}
+use Rattle.layout.specs.Kind.{valueKind, tableKind}
+use Rattle.build_memory.specs.Memory.{tableTotal, itemKind, itemGuest, valueStart, valueSize}
 use Rattle.build_memory.specs.Meaning.{contentOf}
 use Rattle.build_rules.specs.Valid.{heightLimit, fullyValid}
 use Rattle.build_rules.proofs.ValidLaws.{limit-loose, limit-placed}
 use Rattle.build_rules.proofs.ValidFacts.{whole-facts}
-use Rattle.image.specs.Image.{depth}
+use Rattle.layout.specs.Limits.{deepest}
 use Rattle.image.specs.WellFormed.{Writable}
 use Rattle.write_numbers.specs.Roster.{stateOf}
-use Rattle.write.specs.Write.{freeStanding}
-use Rattle.write.proofs.StateLaws.{content-is, item-below, item-table}
+use Rattle.build_tables.specs.Table.{freeStanding}
+use Rattle.write_numbers.proofs.StateLaws.{state-below, state-table}
+use Rattle.write.proofs.StateLaws.{content-is}
 use Rattle.demands.specs.Success.{FreeStandingWritable}
 use Rattle.demands.proofs.WellFormed.{table-formed}
 
@@ -42,9 +44,9 @@ module _ (ws ar : List ℕ) (whole : fullyValid ws ar ≡ true) where
   limit-writable (suc d) t some low = (
     table-formed ws ar whole t,
     λ i u has is.
-        let l = item-below ws ar t i has in
+        let l = state-below ws ar t i has in
         let (kind, guest) = holds-guest ws ar i u (sym (content-is ws ar t i l) ∙ is) in
-        let g = rw (guest, item-table ws ar t i has) at (whole-facts ws ar whole .guest i l kind) in
+        let g = rw (guest, state-table ws ar t i has) at (whole-facts ws ar whole .guest i l kind) in
         let limit = limit-placed ws u (g .placed) in
         limit-writable d u (omega (arith, g .some)) (omega (arith, g .lower)),
   )
@@ -54,4 +56,4 @@ pub free-standing-writable : FreeStandingWritable
 unfolding freeStanding
 free-standing-writable ws ar whole t root =
     let limit = limit-loose ws t (eqb-true _ _ (both (ltb t (tableTotal ws)) _ root .1)) in
-    limit-writable ws ar whole depth t (omega arith) (omega arith)
+    limit-writable ws ar whole deepest t (omega arith) (omega arith)

@@ -12,16 +12,17 @@ use Rattle.words.specs.Store.{putAt}
 use Rattle.words.specs.Hash.{plain}
 use Rattle.words.proofs.StoreLaws.{part-put}
 use Rattle.layout.specs.declared.refusal.Refusal.the-variants.{MemoryBroken, TableUnknown, EmptyKey, ImageTooLong}
-use Rattle.layout.specs.Table.{longestFile}
-use Rattle.image.specs.Plan.{chunkSize}
-use Rattle.image.specs.Image.{headerSize, depth, imageOf}
+use Rattle.layout.specs.Limits.{longestFile, deepest}
+use Rattle.layout.specs.Sizes.{headerSize, chunkSize}
+use Rattle.image.specs.Image.{imageOf}
 use Rattle.image.specs.WellFormed.{Writable}
 use Rattle.laid.proofs.ImageBack.{alone-back}
 use Rattle.laid.proofs.Passes.{alone-passes}
 use Rattle.build_rules.specs.Valid.{fullyValid}
 use Rattle.write_numbers.specs.Roster.{stateOf}
 use Rattle.write.specs.declared.Written.{Written}
-use Rattle.write.specs.Write.{hasEmpty, freeStanding, imageFor, tooLong, writeAnswer, laidBy, imageAfter}
+use Rattle.build_tables.specs.Table.{freeStanding}
+use Rattle.write.specs.Write.{hasEmpty, imageFor, tooLong, writeAnswer, laidBy, imageAfter}
 use Rattle.demands.specs.Success.{Success, SuccessSays, SuccessLays, SuccessReadsBack, SuccessPasses}
 use Rattle.demands.proofs.Writable.{free-standing-writable}
 
@@ -59,7 +60,7 @@ unfolding writeAnswer
 success ws ar t room start end size e =
     let image = length (imageFor ws ar t) in
     let good = Written.Image headerSize (headerSize + chunkSize (length (stateOf ws ar t .members))) image in
-    let p = passed good start end size (fullyValid ws ar) (freeStanding ws t) (hasEmpty (stateOf ws ar) depth t) (tooLong room image) e in
+    let p = passed good start end size (fullyValid ws ar) (freeStanding ws t) (hasEmpty (stateOf ws ar) deepest t) (tooLong room image) e in
     let (short, fits) = not-too-long room image (p .long-is) in
     let is = p .answer-is in
     let long : size ≡ image = cc in record {
@@ -90,7 +91,7 @@ module _ (ws ar buffer : List ℕ) (t start end size : ℕ) (e : writeAnswer ws 
   made : Success ws ar t (length buffer) start end size
   made = success ws ar t (length buffer) start end size e
 
-  writable : Writable (stateOf ws ar) depth t
+  writable : Writable (stateOf ws ar) deepest t
   writable = free-standing-writable ws ar (made .whole) t (made .root)
 
   short-image : length (imageOf plain (stateOf ws ar) t) ≤ longestFile

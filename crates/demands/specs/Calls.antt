@@ -1,19 +1,37 @@
--- A history: a fresh start on any memory that is long enough, then any calls with any arguments, accepted or refused, in any order. What
--- each call answers and leaves is what its contract says.
+-- HISTORIES OF CALLS. What a call does is what the contract of its C function says, as the checker reads it in the source (`FUNCTION.Reads.Post`). So nothing
+-- behind a contract has to be believed for what is said over histories: no place of a word, no search, no chain of items.
 use Prim.Native.Nat.{ℕ}
 use mathlib.Core.Bool.{Bool}
 use mathlib.Core.List.{List, [], _∷_}
+use contract.Lifetimes.{Lfts}
+use denote.Ref.{now}
+use denote.Triple.Clauses.{AtExit}
+use borrow.Fn.Kinds.{PK, RK, Dens, resT, endedOf, Out}
 use lib.Dec.{eqb}
-use lib.ListN.{length}
-use Rattle.build_memory.specs.Memory.{Memory, memory, freshWords}
-use Rattle.build_tables.specs.Table.{newTable, itemCount}
-use Rattle.build_tables.specs.Answer.{addedNumber, countedNumber}
-use Rattle.build_values.specs.Insert.{insertValue}
-use Rattle.build_values.specs.Answer.{insertedNumber}
-use Rattle.build_nested.specs.Nest.{insertTable}
-use Rattle.write.specs.Write.{writeAnswer, writtenNumber, imageAfter}
+use lib.ListN.{length, getD}
+use Rattle.build_memory.specs.Memory.{Memory, memory}
+use Rattle.gvdb.proofs.building.gvdb_fresh.Kinds as fresh-kinds
+use Rattle.gvdb.proofs.building.gvdb_fresh.Reads as fresh-reads
+use Rattle.gvdb.proofs.building.gvdb_new_table.Kinds as new-table-kinds
+use Rattle.gvdb.proofs.building.gvdb_new_table.Reads as new-table-reads
+use Rattle.gvdb.proofs.building.gvdb_insert.Kinds as insert-kinds
+use Rattle.gvdb.proofs.building.gvdb_insert.Reads as insert-reads
+use Rattle.gvdb.proofs.building.gvdb_insert_table.Kinds as insert-table-kinds
+use Rattle.gvdb.proofs.building.gvdb_insert_table.Reads as insert-table-reads
+use Rattle.gvdb.proofs.building.gvdb_item_count.Kinds as item-count-kinds
+use Rattle.gvdb.proofs.building.gvdb_item_count.Reads as item-count-reads
+use Rattle.gvdb.proofs.writing.gvdb_write.Kinds as write-kinds
+use Rattle.gvdb.proofs.writing.gvdb_write.Reads as write-reads
 
--- a call with its arguments; a write with the bytes that its lent buffer held
+-- a call that meets a contract: its arguments, its answer, and what the arguments hold at its end, each by its place
+pub record Met {n : ℕ} (ps : List (PK n)) (r : RK n) (Post : Out n ps r) : Type 0 where
+  pub lifetimes : Lfts n
+  pub given : Dens lifetimes ps
+  pub answer : resT r lifetimes .Denot
+  pub left : AtExit (endedOf n ps r) lifetimes
+  pub meets : Post lifetimes given answer left
+
+-- a call of the builder with its arguments; a write with the bytes that its lent buffer held
 pub data Call : Type 0 where
   new-table : (separator : List ℕ) → Call
   insert-value : (t : ℕ) (key value : List ℕ) → Call
@@ -21,26 +39,30 @@ pub data Call : Type 0 where
   item-count : (t : ℕ) → Call
   write : (t : ℕ) (buffer : List ℕ) → Call
 
--- the number that it answers: 0, or the refusal's
-unfoldable pub answered : Memory → Call → ℕ
-answered m (Call.new-table separator) = addedNumber (newTable (m .words) (m .arena) separator .answer)
-answered m (Call.insert-value t key value) = insertedNumber (insertValue (m .words) (m .arena) t key value .answer)
-answered m (Call.insert-table t key guest) = insertedNumber (insertTable (m .words) (m .arena) t key guest .answer)
-answered m (Call.item-count t) = countedNumber (itemCount (m .words) (m .arena) t)
-answered m (Call.write t buffer) = writtenNumber (writeAnswer (m .words) (m .arena) t (length buffer))
+-- on a memory a call answers some numbers, those of its struct in their order, and leaves a memory, and bytes in the buffer that it was lent besides
+pub data Does : Memory → Call → List ℕ → Memory → List ℕ → Type 0 where
+  new-table : (c : Met new-table-kinds.ps new-table-kinds.r new-table-reads.Post)
+      → Does (memory (now (c .given .0)) (now (c .given .1 .0))) (Call.new-table (now (c .given .1 .1 .0)))
+      (c .answer .number ∷ c .answer .table ∷ []) (memory (now (c .left .0)) (now (c .given .1 .0))) []
+  insert-value : (c : Met insert-kinds.ps insert-kinds.r insert-reads.Post)
+      → Does (memory (now (c .given .0)) (now (c .given .1 .0))) (Call.insert-value (c .given .1 .1 .0) (now (c .given .1 .1 .1 .0)) (now (c .given .1 .1 .1 .1 .0)))
+      (c .answer .number ∷ c .answer .replaced ∷ []) (memory (now (c .left .0)) (now (c .left .1 .0))) []
+  insert-table : (c : Met insert-table-kinds.ps insert-table-kinds.r insert-table-reads.Post)
+      → Does (memory (now (c .given .0)) (now (c .given .1 .0))) (Call.insert-table (c .given .1 .1 .0) (now (c .given .1 .1 .1 .0)) (c .given .1 .1 .1 .1 .0))
+      (c .answer .number ∷ c .answer .replaced ∷ []) (memory (now (c .left .0)) (now (c .left .1 .0))) []
+  item-count : (c : Met item-count-kinds.ps item-count-kinds.r item-count-reads.Post)
+      → Does (memory (now (c .given .0)) (now (c .given .1 .0))) (Call.item-count (c .given .1 .1 .0))
+      (c .answer .number ∷ c .answer .count ∷ []) (memory (now (c .given .0)) (now (c .given .1 .0))) []
+  write : (c : Met write-kinds.ps write-kinds.r write-reads.Post)
+      → Does (memory (now (c .given .0)) (now (c .given .1 .0))) (Call.write (c .given .1 .1 .0) (now (c .given .1 .1 .1 .0)))
+      (c .answer .number ∷ c .answer .start ∷ c .answer .end ∷ c .answer .length ∷ []) (memory (now (c .left .0)) (now (c .given .1 .0))) (now (c .left .1 .1 .1 .0))
 
-unfoldable pub accepted : Memory → Call → Bool
-accepted m call = eqb (answered m call) 0
+-- a fresh start on a memory answers a number and leaves a memory
+pub data Starts : Memory → ℕ → Memory → Type 0 where
+  fresh : (c : Met fresh-kinds.ps fresh-kinds.r fresh-reads.Post)
+      → Starts (memory (now (c .given .0)) (now (c .given .1 .0))) (c .answer) (memory (now (c .left .0)) (now (c .given .1 .0)))
 
--- the memory that it leaves
-unfoldable pub leaves : Memory → Call → Memory
-leaves m (Call.new-table separator) = newTable (m .words) (m .arena) separator .after
-leaves m (Call.insert-value t key value) = insertValue (m .words) (m .arena) t key value .after
-leaves m (Call.insert-table t key guest) = insertTable (m .words) (m .arena) t key guest .after
-leaves m (Call.item-count t) = m
-leaves m (Call.write t buffer) = m
-
--- the buffer that is lent to it besides, and what it leaves there; only a write is lent one
+-- the bytes that the buffer held which is lent besides; only a write is lent one
 unfoldable pub lent : Call → List ℕ
 lent (Call.new-table separator) = []
 lent (Call.insert-value t key value) = []
@@ -48,18 +70,25 @@ lent (Call.insert-table t key guest) = []
 lent (Call.item-count t) = []
 lent (Call.write t buffer) = buffer
 
-unfoldable pub leavesLent : Memory → Call → List ℕ
-leavesLent m (Call.new-table separator) = []
-leavesLent m (Call.insert-value t key value) = []
-leavesLent m (Call.insert-table t key guest) = []
-leavesLent m (Call.item-count t) = []
-leavesLent m (Call.write t buffer) = imageAfter (m .words) (m .arena) t buffer
+-- the first of the numbers is 0, or the refusal's
+abbrev pub number : List ℕ → ℕ
+number said = getD said 0 0
 
--- the memory of a fresh start
-unfoldable pub started : List ℕ → List ℕ → Memory
-started ws ar = memory (freshWords ws (length ar)) ar
+abbrev pub accepted : List ℕ → Bool
+accepted said = eqb (number said) 0
 
--- the memory after some calls, the latest first
-unfoldable pub after : Memory → List Call → Memory
-after start [] = start
-after start (call ∷ earlier) = leaves (after start earlier) call
+-- ---- a history: a fresh start that is accepted, then any calls with any arguments, accepted or refused, in any order
+
+-- a call and what it answered
+pub record Event : Type 0 where
+  pub call : Call
+  pub said : List ℕ
+
+abbrev pub event : Call → List ℕ → Event
+event call said = record { call = call; said = said }
+
+-- the arena's length, the events, the latest first, and the memory that they leave
+pub data History : ℕ → List Event → Memory → Type 0 where
+  start : (before after : Memory) → Starts before 0 after → History (length (after .arena)) [] after
+  then : (room : ℕ) (events : List Event) (m : Memory) → History room events m
+      → (call : Call) (said : List ℕ) (after : Memory) (left : List ℕ) → Does m call said after left → History room (event call said ∷ events) after

@@ -1,22 +1,32 @@
 -- DEMAND 1. 'No bytes, pointer, key or order of calls can make it fail .. a refusal changes nothing in the builder or in any lent buffer.'
--- In one statement over all builder calls: whatever the memory holds, a refusal leaves words (the links among them), arena and image as they
--- were. And on every history none of the calls meets 29.
-use Prim.Native.Nat.{ℕ, _≤_}
+-- Whatever memory and file hold, a refusal leaves words (the links among them), arena and lent buffer as they were. And on every history no call meets 29.
+use Prim.Native.Nat.{ℕ}
 use mathlib.Core.Path.{_≡_}
 use mathlib.Core.Bool.{false}
 use mathlib.Core.List.{List}
-use lib.ListN.{length}
-use Rattle.build_memory.specs.Memory.{Memory, memory, leastWords, freshStart}
-use Rattle.build_memory.specs.Answer.{startedNumber}
-use Rattle.demands.specs.Calls.{Call, answered, accepted, leaves, lent, leavesLent, started, after}
+use Rattle.build_memory.specs.Memory.{Memory}
+use Rattle.gvdb.specs.declared.reading.GvdbKey.{GvdbKey}
+use Rattle.demands.specs.Calls.{Call, Does, Starts, lent, number, accepted, Event, History}
+use Rattle.demands.specs.Readers.{Listing}
 
+-- the builder's calls
 abbrev pub RefusalChangesNothing : Type 0
-RefusalChangesNothing = (m : Memory) (call : Call) → accepted m call ≡ false → (leaves m call ≡ m) × (leavesLent m call ≡ lent call)
+RefusalChangesNothing =
+    (m : Memory) (call : Call) (said : List ℕ) (after : Memory) (left : List ℕ) → Does m call said after left
+    → accepted said ≡ false → (after ≡ m) × (left ≡ lent call)
 
--- the fresh start too
+-- the fresh start
 abbrev pub RefusedStartChangesNothing : Type 0
-RefusedStartChangesNothing = (ws ar : List ℕ) → (startedNumber (freshStart ws ar .answer) ≡ 0 → ⊥) → freshStart ws ar .after ≡ memory ws ar
+RefusedStartChangesNothing = (m : Memory) (said : ℕ) (after : Memory) → Starts m said after → (said ≡ 0 → ⊥) → after ≡ m
 
--- after any history from a fresh start, no call is refused with 29
+-- key listing, the one reader that is lent a buffer to write
+abbrev pub RefusedListingWritesNothing : Type 0
+RefusedListingWritesNothing =
+    (file : List ℕ) (start end position : ℕ) (out : List ℕ) (r : GvdbKey) (left : List ℕ) → Listing file start end position out r left
+    → (r .number ≡ 0 → ⊥) → left ≡ out
+
+-- after any history, no call is refused with 29
 abbrev pub Never29 : Type 0
-Never29 = (ws ar : List ℕ) → leastWords ≤ length ws → (calls : List Call) (call : Call) → answered (after (started ws ar) calls) call ≡ 29 → ⊥
+Never29 =
+    (room : ℕ) (events : List Event) (m : Memory) → History room events m
+    → (call : Call) (said : List ℕ) (after : Memory) (left : List ℕ) → Does m call said after left → number said ≡ 29 → ⊥

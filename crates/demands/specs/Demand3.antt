@@ -1,34 +1,42 @@
--- DEMAND 3. 'Every table in every image that our writer lays, nested ones too, after any accepted or refused calls on a fresh builder,
--- passes.' It holds of every memory, reached by calls or not.
-use Prim.Native.Nat.{ℕ, zero, suc, _≤_}
+-- DEMAND 3. 'Every table in every image that our writer lays, nested ones too, after any accepted or refused calls on a fresh builder, passes.' It holds of every memory,
+-- reached by calls or not. And the check passes exactly the sound tables; where it passes none, it names the first item and the first rule that it breaks.
+use Prim.Native.Nat.{ℕ, zero, suc}
 use mathlib.Core.Path.{_≡_}
-use mathlib.Core.List.{List}
-use lib.ListN.{length, take}
+use mathlib.Core.Logic.{_↔_}
+use mathlib.Core.List.{List, [], _∷_}
+use lib.ListN.{take}
 use Rattle.words.specs.Hash.{plain}
-use Rattle.read.specs.declared.lookup.Looked.{Looked}
-use Rattle.read.specs.Lookup.{lookupTable}
-use Rattle.check_table.specs.declared.check.Checked.{Checked}
-use Rattle.check_table.specs.Rules.{checkTable}
-use Rattle.build_memory.specs.Memory.{leastWords}
-use Rattle.image.specs.Image.{depth}
-use Rattle.write.specs.declared.Written.{Written}
-use Rattle.write.specs.Write.{writeAnswer, imageAfter}
-use Rattle.demands.specs.Calls.{Call, started, after}
+use Rattle.check_table.specs.Sound.{SoundTable}
+use Rattle.check_table.specs.Broken.{BrokenAt}
+use Rattle.layout.specs.Limits.{deepest}
+use Rattle.build_memory.specs.Memory.{Memory}
+use Rattle.gvdb.specs.declared.reading.GvdbOpened.{GvdbOpened}
+use Rattle.gvdb.specs.declared.reading.GvdbPlace.{GvdbPlace}
+use Rattle.gvdb.specs.declared.checking.GvdbCheck.{GvdbCheck}
+use Rattle.demands.specs.Calls.{Call, Does}
+use Rattle.demands.specs.Readers.{Opening, GettingTable, Checking}
 
 -- the table from `start` to `end` passes, and so does every table that a reader can find in it, at most so many tables deep
-unfoldable pub AllSound : List ℕ → ℕ → ℕ → ℕ → Type 0
-AllSound file zero start end = ⊥
-AllSound file (suc d) start end =
-    (checkTable plain file start end ≡ Checked.Sound)
-    × ((key : List ℕ) (from to : ℕ) → lookupTable plain file start end key ≡ Looked.Pointer from to → AllSound file d from to)
+unfoldable pub AllPass : List ℕ → ℕ → ℕ → ℕ → Type 0
+AllPass file zero start end = ⊥
+AllPass file (suc d) start end =
+    ((r : GvdbCheck) → Checking file start end r → r .number ≡ 0)
+    × ((key : List ℕ) (r : GvdbPlace) → GettingTable file start end key r → r .number ≡ 0 → AllPass file d (r .start) (r .end))
 
 abbrev pub EveryImagePasses : Type 0
 EveryImagePasses =
-    (ws ar : List ℕ) (t : ℕ) (buffer : List ℕ) (start end size : ℕ) → writeAnswer ws ar t (length buffer) ≡ Written.Image start end size
-    → AllSound (take size (imageAfter ws ar t buffer)) depth start end
+    (m : Memory) (t : ℕ) (buffer : List ℕ) (start end size : ℕ) (after : Memory) (left : List ℕ)
+    → Does m (Call.write t buffer) (0 ∷ start ∷ end ∷ size ∷ []) after left → AllPass (take size left) deepest start end
 
-abbrev pub Demand3 : Type 0
-Demand3 =
-    (ws ar : List ℕ) → leastWords ≤ length ws → (calls : List Call) (t : ℕ) (buffer : List ℕ) (start end size : ℕ)
-    → writeAnswer (after (started ws ar) calls .words) (after (started ws ar) calls .arena) t (length buffer) ≡ Written.Image start end size
-    → AllSound (take size (imageAfter (after (started ws ar) calls .words) (after (started ws ar) calls .arena) t buffer)) depth start end
+-- 0 just for a sound table
+abbrev pub PassesExactlyTheSound : Type 0
+PassesExactlyTheSound = (file : List ℕ) (start end : ℕ) (r : GvdbCheck) → Checking file start end r → (r .number ≡ 0) ↔ SoundTable plain file start end
+
+-- 40 with the first item that breaks a rule, and the first rule that it breaks
+abbrev pub NamesTheFirst : Type 0
+NamesTheFirst = (file : List ℕ) (start end : ℕ) (r : GvdbCheck) → Checking file start end r → r .number ≡ 40 → BrokenAt plain file start end (r .rule) (r .item)
+
+-- a table that does not open is refused with the number of its opening
+abbrev pub OpensFirst : Type 0
+OpensFirst =
+    (file : List ℕ) (start end : ℕ) (o : GvdbOpened) (r : GvdbCheck) → Opening file start end o → Checking file start end r → (o .number ≡ 0 → ⊥) → r .number ≡ o .number

@@ -1,18 +1,16 @@
--- What stands under a key of a table, said over the list of calls and their answers, not over the memory: what the last accepted insert
--- under that key put there; else a container, where an accepted insert went along it; else nothing.
+-- What stands under a key of a table, said over the calls and their answers, not over the memory: what the last accepted insert under that key put there; else
+-- a container, where an accepted insert went along it; else nothing.
 use Prim.Native.Nat.{ℕ}
 use mathlib.Core.Bool.{Bool, false, _&&_, _||_}
 use mathlib.Core.List.{List, [], _∷_}
 use lib.Dec.{eqb}
+use lib.ListN.{getD}
 use Rattle.words.specs.Choice.{pick}
 use Rattle.text.specs.Compare.{sameBytes}
 use Rattle.text.specs.Prefix.{prefixes}
-use Rattle.model.specs.declared.Added.{Added}
 use Rattle.model.specs.Table.{Content}
 use Rattle.model.specs.Builder.{noSeparator, separatorOf}
-use Rattle.build_memory.specs.Memory.{Memory}
-use Rattle.build_tables.specs.Table.{newTable}
-use Rattle.demands.specs.Calls.{Call, accepted, after}
+use Rattle.demands.specs.Calls.{Call, Event, accepted}
 
 pub data Held : Type 0 where
   nothing : Held
@@ -46,36 +44,31 @@ passes separator (Call.insert-table u key guest) t k = eqb u t && among (prefixe
 passes separator (Call.item-count u) t k = false
 passes separator (Call.write u buffer) t k = false
 
--- ---- over a history, the latest call first
+-- ---- over a history, the latest event first
 
--- what the call answers is table t
-unfoldable pub isTable : Added → ℕ → Bool
-isTable (Added.Table u) t = eqb u t
-isTable (Added.Refused why) t = false
+-- the separator of table t, as the call that made it said: what it answered, 0 and the table's number
+unfoldable pub madeBy : Call → List ℕ → ℕ → ℕ → ℕ
+madeBy (Call.new-table separator) said t before = pick (accepted said && eqb (getD said 1 0) t) (separatorOf separator) before
+madeBy (Call.insert-value u key value) said t before = before
+madeBy (Call.insert-table u key guest) said t before = before
+madeBy (Call.item-count u) said t before = before
+madeBy (Call.write u buffer) said t before = before
 
--- the separator of table t, as the call that made it said
-unfoldable pub madeBy : Memory → Call → ℕ → ℕ → ℕ
-madeBy m (Call.new-table separator) t before = pick (isTable (newTable (m .words) (m .arena) separator .answer) t) (separatorOf separator) before
-madeBy m (Call.insert-value u key value) t before = before
-madeBy m (Call.insert-table u key guest) t before = before
-madeBy m (Call.item-count u) t before = before
-madeBy m (Call.write u buffer) t before = before
-
-module _ (start : Memory) (t : ℕ) where
-  unfoldable pub separator : List Call → ℕ
+module _ (t : ℕ) where
+  unfoldable pub separator : List Event → ℕ
   separator [] = noSeparator
-  separator (call ∷ earlier) = madeBy (after start earlier) call t (separator earlier)
+  separator (e ∷ earlier) = madeBy (e .call) (e .said) t (separator earlier)
 
   module _ (k : List ℕ) where
     -- what the last accepted insert under key k put there
-    unfoldable pub last : List Call → Held
+    unfoldable pub last : List Event → Held
     last [] = Held.nothing
-    last (call ∷ earlier) = pick (accepted (after start earlier) call) (orElse (puts call t k) (last earlier)) (last earlier)
+    last (e ∷ earlier) = pick (accepted (e .said)) (orElse (puts (e .call) t k) (last earlier)) (last earlier)
 
     -- an accepted insert went along k
-    unfoldable pub passed : List Call → Bool
+    unfoldable pub passed : List Event → Bool
     passed [] = false
-    passed (call ∷ earlier) = accepted (after start earlier) call && passes (separator earlier) call t k || passed earlier
+    passed (e ∷ earlier) = accepted (e .said) && passes (separator earlier) (e .call) t k || passed earlier
 
-    unfoldable pub held : List Call → Held
-    held calls = orElse (last calls) (pick (passed calls) (Held.holds Content.container) Held.nothing)
+    unfoldable pub held : List Event → Held
+    held events = orElse (last events) (pick (passed events) (Held.holds Content.container) Held.nothing)

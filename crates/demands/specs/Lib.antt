@@ -1,6 +1,9 @@
-pub mod Success
 pub mod Calls
+pub mod Readers
 pub mod Last
+pub mod Model
 pub mod Demand1
 pub mod Demand2
 pub mod Demand3
+pub mod Success
+pub mod Inhabited

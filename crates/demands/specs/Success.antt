@@ -6,8 +6,8 @@ use mathlib.Core.Bool.{true, false}
 use mathlib.Core.List.{List}
 use lib.ListN.{length, take}
 use Rattle.words.specs.Hash.{plain}
-use Rattle.layout.specs.Table.{longestFile}
-use Rattle.image.specs.Image.{headerSize, depth}
+use Rattle.layout.specs.Limits.{longestFile, deepest}
+use Rattle.layout.specs.Sizes.{headerSize}
 use Rattle.image.specs.WellFormed.{Writable}
 use Rattle.laid.specs.Back.{endOf}
 use Rattle.laid.specs.Told.{AllBack}
@@ -15,11 +15,12 @@ use Rattle.laid.specs.Passing.{AllPass}
 use Rattle.build_rules.specs.Valid.{fullyValid}
 use Rattle.write_numbers.specs.Roster.{stateOf}
 use Rattle.write.specs.declared.Written.{Written}
-use Rattle.write.specs.Write.{hasEmpty, freeStanding, imageFor, writeAnswer, imageAfter}
+use Rattle.build_tables.specs.Table.{freeStanding}
+use Rattle.write.specs.Write.{hasEmpty, imageFor, writeAnswer, imageAfter}
 
 -- a memory that the rules accept means only tables that can be laid and read back: each free-standing one, with all nested in it
 abbrev pub FreeStandingWritable : Type 0
-FreeStandingWritable = (ws ar : List ℕ) → fullyValid ws ar ≡ true → (t : ℕ) → freeStanding ws t ≡ true → Writable (stateOf ws ar) depth t
+FreeStandingWritable = (ws ar : List ℕ) → fullyValid ws ar ≡ true → (t : ℕ) → freeStanding ws t ≡ true → Writable (stateOf ws ar) deepest t
 
 -- what a success says of the memory, the table, the room and the answer
 pub record Success (ws ar : List ℕ) (t room start end size : ℕ) : Type 0 where
@@ -30,7 +31,7 @@ pub record Success (ws ar : List ℕ) (t room start end size : ℕ) : Type 0 whe
   -- the memory is fully valid, the table is free-standing, and no item in it or in those nested in it has the empty key
   pub whole : fullyValid ws ar ≡ true
   pub root : freeStanding ws t ≡ true
-  pub named : hasEmpty (stateOf ws ar) depth t ≡ false
+  pub named : hasEmpty (stateOf ws ar) deepest t ≡ false
   -- the image fits the buffer, and is no longer than a file may be
   pub fits : size ≤ room
   pub short : size ≤ longestFile
@@ -47,9 +48,9 @@ SuccessLays =
 abbrev pub SuccessReadsBack : Type 0
 SuccessReadsBack =
     (ws ar buffer : List ℕ) (t start end size : ℕ) → writeAnswer ws ar t (length buffer) ≡ Written.Image start end size
-    → AllBack plain (take size (imageAfter ws ar t buffer)) (stateOf ws ar) depth t headerSize
+    → AllBack plain (take size (imageAfter ws ar t buffer)) (stateOf ws ar) deepest t headerSize
 
 abbrev pub SuccessPasses : Type 0
 SuccessPasses =
     (ws ar buffer : List ℕ) (t start end size : ℕ) → writeAnswer ws ar t (length buffer) ≡ Written.Image start end size
-    → AllPass plain (take size (imageAfter ws ar t buffer)) (stateOf ws ar) depth t headerSize
+    → AllPass plain (take size (imageAfter ws ar t buffer)) (stateOf ws ar) deepest t headerSize

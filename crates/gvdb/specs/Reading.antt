@@ -1,29 +1,42 @@
 -- The document's number and values of each answer to a reader, as they cross to C.
 use Prim.Native.Nat.{ℕ}
+use Rattle.layout.specs.declared.table.Table.{Table}
 use Rattle.layout.specs.declared.table.Opened.{Opened}
-use Rattle.layout.specs.Refusal.{number}
+use Rattle.layout.specs.Answer.{openedNumber}
 use Rattle.read.specs.declared.lookup.Looked.{Looked}
 use Rattle.read.specs.declared.listing.Listed.{Listed}
 use Rattle.read.specs.declared.listing.Valued.{Valued}
+use Rattle.read.specs.Answer.{lookedNumber, lookedPointer, listedNumber, listedKey, valuedNumber, valuedPointer, valuedItem}
 use Rattle.gvdb.specs.declared.reading.GvdbOpened.{GvdbOpened}
 use Rattle.gvdb.specs.declared.reading.GvdbPlace.{GvdbPlace}
 use Rattle.gvdb.specs.declared.reading.GvdbKey.{GvdbKey}
 use Rattle.gvdb.specs.declared.reading.GvdbValue.{GvdbValue}
 
+-- one count of a table that opened; 0 on a refusal
+unfoldable pub openedCount : (Table → ℕ) → Opened → ℕ
+openedCount count (Opened.Table t) = count t
+openedCount count (Opened.Refused why) = 0
+
 unfoldable pub openedAnswer : Opened → GvdbOpened
-openedAnswer (Opened.Table t) = record { number = 0; items = t .count; buckets = t .buckets; blooms = t .blooms }
-openedAnswer (Opened.Refused why) = record { number = number why; items = 0; buckets = 0; blooms = 0 }
+openedAnswer opened = record {
+  number = openedNumber opened;
+  items = openedCount (λ t. t .count) opened;
+  buckets = openedCount (λ t. t .buckets) opened;
+  blooms = openedCount (λ t. t .blooms) opened;
+}
 
 unfoldable pub lookedAnswer : Looked → GvdbPlace
-lookedAnswer (Looked.Pointer start end) = record { number = 0; start = start; end = end }
-lookedAnswer (Looked.Refused why) = record { number = number why; start = 0; end = 0 }
+lookedAnswer looked = record { number = lookedNumber looked; start = lookedPointer looked .0; end = lookedPointer looked .1 }
 
 unfoldable pub listedAnswer : Listed → GvdbKey
-listedAnswer (Listed.Key size next) = record { number = 0; length = size; next = next .at }
-listedAnswer (Listed.Refused why) = record { number = number why; length = 0; next = 0 }
+listedAnswer listed = record { number = listedNumber listed; length = listedKey listed .0; next = listedKey listed .1 }
 
 -- item and next position are told with 2 and 3 of the value's pointer too
 unfoldable pub valuedAnswer : Valued → GvdbValue
-valuedAnswer (Valued.Value index start end next) = record { number = 0; start = start; end = end; index = index; next = next .at }
-valuedAnswer (Valued.Unopened why index next) = record { number = number why; start = 0; end = 0; index = index; next = next .at }
-valuedAnswer (Valued.Refused why) = record { number = number why; start = 0; end = 0; index = 0; next = 0 }
+valuedAnswer valued = record {
+  number = valuedNumber valued;
+  start = valuedPointer valued .0;
+  end = valuedPointer valued .1;
+  index = valuedItem valued .0;
+  next = valuedItem valued .1;
+}

@@ -3,9 +3,11 @@ use mathlib.Core.Path.{_≡_, refl}
 use Rattle.layout.specs.declared.kind.Kind.{Kind}
 use Rattle.layout.specs.declared.refusal.Refusal.{Refusal}
 use Rattle.layout.specs.declared.table.Opened.{Opened}
+use Rattle.layout.specs.Answer.{openedNumber}
 use Rattle.read.specs.declared.lookup.Looked.{Looked}
 use Rattle.read.specs.declared.listing.Listed.{Listed}
 use Rattle.read.specs.declared.listing.Valued.{Valued}
+use Rattle.read.specs.Answer.{lookedNumber, lookedPointer, listedNumber, listedKey, valuedNumber, valuedPointer, valuedItem}
 use Rattle.check_table.specs.declared.check.Checked.{Checked}
 use Rattle.check_table.specs.Answer.{checkedNumber, checkedRule, checkedItem}
 use Rattle.model.specs.declared.Inserted.{Inserted}
@@ -16,26 +18,27 @@ use Rattle.build_memory.specs.Answer.{startedNumber}
 use Rattle.build_tables.specs.Answer.{addedNumber, addedTable, countedNumber, countedItems}
 use Rattle.build_values.specs.Answer.{insertedNumber, insertedKind}
 use Rattle.write.specs.declared.Written.{Written}
-use Rattle.gvdb.specs.Reading.{openedAnswer, lookedAnswer, listedAnswer, valuedAnswer}
+use Rattle.write.specs.Write.{writtenNumber}
+use Rattle.gvdb.specs.Reading.{openedCount, openedAnswer, lookedAnswer, listedAnswer, valuedAnswer}
 use Rattle.gvdb.specs.Checking.{checkedAnswer}
 use Rattle.gvdb.specs.Building.{addedAnswer, insertedAnswer, countedAnswer}
-use Rattle.gvdb.specs.Writing.{writtenAnswer}
+use Rattle.gvdb.specs.Writing.{writtenImage, writtenAnswer}
 
 -- a table at 24 with 4 items in 3 buckets and 2 bloom words; or 7
 pub opened :
     (openedAnswer (Opened.Table (record { start = 24; blooms = 2; buckets = 3; items = 52; count = 4 })) ≡ record { number = 0; items = 4; buckets = 3; blooms = 2 })
     × (openedAnswer (Opened.Refused Refusal.ItemsUneven) ≡ record { number = 7; items = 0; buckets = 0; blooms = 0 })
-unfolding openedAnswer
+unfolding openedAnswer openedNumber openedCount
 opened = (refl, refl)
 
--- a place from 64 up to 66; or 12
+-- a pointer from 64 up to 66; or 12
 pub looked : (lookedAnswer (Looked.Pointer 64 66) ≡ record { number = 0; start = 64; end = 66 }) × (lookedAnswer (Looked.Refused Refusal.KeyNotFound) ≡ record { number = 12; start = 0; end = 0 })
-unfolding lookedAnswer
+unfolding lookedAnswer lookedNumber lookedPointer
 looked = (refl, refl)
 
 -- a key of 5 bytes, the next at 8; or 14
 pub listed : (listedAnswer (Listed.Key 5 (record { at = 8 })) ≡ record { number = 0; length = 5; next = 8 }) × (listedAnswer (Listed.Refused Refusal.BufferTooShort) ≡ record { number = 14; length = 0; next = 0 })
-unfolding listedAnswer
+unfolding listedAnswer listedNumber listedKey
 listed = (refl, refl)
 
 -- the value of item 7, from 64 up to 66, the next at 8; 3 of its pointer, with item and next; or 15
@@ -43,7 +46,7 @@ pub valued :
     (valuedAnswer (Valued.Value 7 64 66 (record { at = 8 })) ≡ record { number = 0; start = 64; end = 66; index = 7; next = 8 })
     × (valuedAnswer (Valued.Unopened Refusal.Misaligned 7 (record { at = 8 })) ≡ record { number = 3; start = 0; end = 0; index = 7; next = 8 })
     × (valuedAnswer (Valued.Refused Refusal.PastTheLast) ≡ record { number = 15; start = 0; end = 0; index = 0; next = 0 })
-unfolding valuedAnswer
+unfolding valuedAnswer valuedNumber valuedPointer valuedItem
 valued = (refl, refl, refl)
 
 -- sound; item 7 breaks rule 5; or 4
@@ -83,5 +86,5 @@ counted = (refl, refl)
 pub written :
     (writtenAnswer (Written.Image 24 88 104) ≡ record { number = 0; start = 24; end = 88; length = 104 })
     × (writtenAnswer (Written.Refused Refusal.ImageTooLong) ≡ record { number = 31; start = 0; end = 0; length = 0 })
-unfolding writtenAnswer
+unfolding writtenAnswer writtenNumber writtenImage
 written = (refl, refl)

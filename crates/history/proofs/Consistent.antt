@@ -9,6 +9,7 @@ use mathlib.Core.List.{List}
 use borrow.Author.Tests.{eqb-true, eqb-false, eq-eqb, ne-eqb, le-ltb}
 use lib.Dec.{eqb, ltb}
 use lib.ListN.{length, take, getD}
+use Rattle.layout.specs.Limits.{deepest}
 use Rattle.words.specs.Choice.{pick}
 use Rattle.text.specs.Utf8.{isUtf8}
 use Rattle.layout.specs.Kind.{kindKnown}
@@ -99,7 +100,7 @@ pub record NewItem (T n : ℕ) (g : ℕ → Table) (f : ℕ → Item) (x : Item)
   pub missing : (i : ℕ) → i < n → f i .table ≡ x .table → f i .key ≡ x .key → ⊥
   pub parent : Parent f n x (g (x .table) .sep)
   pub closed : (e : ℕ) → 1 ≤ e → e < length (x .key) → getD (x .key) (e - 1) 0 ≡ g (x .table) .sep → There n f (x .table) (take e (x .key))
-  pub guest : x .kind ≡ 72 → (x .guest < T) × (g (x .guest) .placed ≡ 1) × (g (x .guest) .height ≤ 7)
+  pub guest : x .kind ≡ 72 → (x .guest < T) × (g (x .guest) .placed ≡ 1) × (g (x .guest) .height < deepest)
   pub free : x .kind ≡ 72 → (i : ℕ) → i < n → f i .kind ≡ 72 → f i .guest ≡ x .guest → ⊥
 
 module _ (T n : ℕ) (g : ℕ → Table) (f f′ : ℕ → Item) (x : Item) (consistent : Consistent T n g f) (same : (j : ℕ) → j < n → f′ j ≡ f j) (is : f′ n ≡ x)
@@ -154,7 +155,7 @@ module _ (T n : ℕ) (g : ℕ → Table) (f f′ : ℕ → Item) (x : Item) (con
         closed = extend (λ i y. (e : ℕ) → 1 ≤ e → e < length (y .key) → getD (y .key) (e - 1) 0 ≡ g (y .table) .sep → There (n + 1) f′ (y .table) (take e (y .key)))
             (λ i l e p u s. there-on n (n + 1) f f′ (omega arith) same-place (f i .table) (take e (f i .key)) (consistent .closed i l e p u s))
             (λ e p u s. there-on n (n + 1) f f′ (omega arith) same-place (x .table) (take e (x .key)) (new .closed e p u s));
-        guests = extend (λ i y. y .kind ≡ 72 → (y .guest < T) × (g (y .guest) .placed ≡ 1) × (g (y .guest) .height ≤ 7)) (consistent .guests) (new .guest);
+        guests = extend (λ i y. y .kind ≡ 72 → (y .guest < T) × (g (y .guest) .placed ≡ 1) × (g (y .guest) .height < deepest)) (consistent .guests) (new .guest);
         once = λ i j hi hj a b c. pair (λ y z. (y .kind ≡ 72) × (z .kind ≡ 72) × (y .guest ≡ z .guest)) (λ p q lp lq r. consistent .once p q lp lq (r .0) (r .1) (r .2))
             (λ p lp r. new .free (r .1) p lp (r .0) (r .2)) (λ p lp r. new .free (r .0) p lp (r .1) (sym (r .2))) i j hi hj (a, b, c);
         ranks = extend (λ i y. y .kind ≡ 72 → g (y .table) .placed ≡ 1 → g (y .guest) .height < g (y .table) .height) (consistent .ranks) (λ e p. absurd (new .loose p));
@@ -168,7 +169,7 @@ module _ (T n : ℕ) (g : ℕ → Table) (f f′ : ℕ → Item) (x : Item) (con
 pub record NewContent (T n : ℕ) (g : ℕ → Table) (f : ℕ → Item) (y : Item) : Type 0 where
   pub loose : g (y .table) .placed ≡ 1 → ⊥
   pub kind : kindKnown (y .kind) ≡ true
-  pub guest : y .kind ≡ 72 → (y .guest < T) × (g (y .guest) .placed ≡ 1) × (g (y .guest) .height ≤ 7)
+  pub guest : y .kind ≡ 72 → (y .guest < T) × (g (y .guest) .placed ≡ 1) × (g (y .guest) .height < deepest)
   pub free : y .kind ≡ 72 → (i : ℕ) → i < n → f i .kind ≡ 72 → f i .guest ≡ y .guest → ⊥
 
 module _ (T n : ℕ) (g : ℕ → Table) (f f′ : ℕ → Item) (o kind : ℕ) (v : List ℕ) (guest : ℕ) (consistent : Consistent T n g f) (there : o < n)
@@ -227,7 +228,7 @@ module _ (T n : ℕ) (g : ℕ → Table) (f f′ : ℕ → Item) (o kind : ℕ) 
         closed = change (λ i z. (e : ℕ) → 1 ≤ e → e < length (z .key) → getD (z .key) (e - 1) 0 ≡ g (z .table) .sep → There n f′ (z .table) (take e (z .key)))
             (λ i l e p u s. there-on n n f f′ (omega arith) same-spot (f i .table) (take e (f i .key)) (consistent .closed i l e p u s))
             (λ e p u s. there-on n n f f′ (omega arith) same-spot (f o .table) (take e (f o .key)) (consistent .closed o there e p u s));
-        guests = change (λ i z. z .kind ≡ 72 → (z .guest < T) × (g (z .guest) .placed ≡ 1) × (g (z .guest) .height ≤ 7)) (consistent .guests) (new .guest);
+        guests = change (λ i z. z .kind ≡ 72 → (z .guest < T) × (g (z .guest) .placed ≡ 1) × (g (z .guest) .height < deepest)) (consistent .guests) (new .guest);
         once = λ i j li lj a b c. once-by i j li lj a b c (eqb i o) refl (eqb j o) refl;
         ranks = change (λ i z. z .kind ≡ 72 → g (z .table) .placed ≡ 1 → g (z .guest) .height < g (z .table) .height) (consistent .ranks) (λ e p. absurd (new .loose p));
         exact = λ t l p.
@@ -294,7 +295,7 @@ module _ (T n : ℕ) (g g′ : ℕ → Table) (f : ℕ → Item) (p h : ℕ) (co
         distinct = consistent .distinct;
         parents = λ i l. subst (Parent f i (f i)) (sym (sep (f i .table) (consistent .known i l))) (consistent .parents i l);
         closed = λ i l e a u s. consistent .closed i l e a u (s ∙ sep (f i .table) (consistent .known i l));
-        guests = λ i l e. subst (λ (z : Table). (f i .guest < T) × (z .placed ≡ 1) × (z .height ≤ 7)) (sym (held-other i l e)) (consistent .guests i l e);
+        guests = λ i l e. subst (λ (z : Table). (f i .guest < T) × (z .placed ≡ 1) × (z .height < deepest)) (sym (held-other i l e)) (consistent .guests i l e);
         once = consistent .once;
         ranks = λ i l e a. rank-by i l e a (eqb (f i .table) p) refl;
         exact = λ t l a. exact-by t l a (eqb t p) refl;
@@ -319,7 +320,7 @@ module _ (T T′ n : ℕ) (g g′ : ℕ → Table) (f : ℕ → Item) (consisten
         parents = λ i l. subst (λ (z : Table). Parent f i (f i) (z .sep)) (sym (same (f i .table) (consistent .known i l))) (consistent .parents i l);
         closed = λ i l e a u s. consistent .closed i l e a u (s ∙ ap (λ (z : Table). z .sep) (same (f i .table) (consistent .known i l)));
         guests = λ i l e. let r = consistent .guests i l e in
-            subst (λ (z : Table). (f i .guest < T′) × (z .placed ≡ 1) × (z .height ≤ 7)) (sym (same (f i .guest) (r .0))) (let b = r .0 in omega arith, r .1, r .2);
+            subst (λ (z : Table). (f i .guest < T′) × (z .placed ≡ 1) × (z .height < deepest)) (sym (same (f i .guest) (r .0))) (let b = r .0 in omega arith, r .1, r .2);
         once = consistent .once;
         ranks = λ i l e a. let r = consistent .guests i l e in
             let s = same (f i .table) (consistent .known i l) in

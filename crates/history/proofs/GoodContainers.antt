@@ -9,12 +9,13 @@ use borrow.Author.Tests.{eqb-true, eqb-false}
 use lib.Dec.{eqb}
 use lib.ListN.{length, take, getD}
 use lib.Seq.{length-take-le, take-take, getD-take}
+use Rattle.layout.specs.Limits.{deepest}
 use Rattle.text.specs.Utf8.{isUtf8}
 use Rattle.text.specs.Prefix.{endsPast, nextEnd}
 use Rattle.text.proofs.PrefixLaws.{next-within, next-rises}
 use Rattle.text.proofs.Utf8Parts.{utf8-cut}
-use Rattle.layout.specs.Kind.{kindKnown}
-use Rattle.build_memory.specs.Memory.{word, tableTotal, itemTotal, roomUsed, containerKind, Memory, memory}
+use Rattle.layout.specs.Kind.{kindKnown, containerKind}
+use Rattle.build_memory.specs.Memory.{word, tableTotal, itemTotal, roomUsed, Memory, memory}
 use Rattle.build_memory.specs.Item.{Stored, stored, makeItem}
 use Rattle.build_memory.proofs.MadeLaws.{made-arena}
 use Rattle.build_values.specs.Walk.{sum}
@@ -75,7 +76,7 @@ module _ (g : ℕ → Table) (t : ℕ) (k : List ℕ) (sep G : ℕ) (sep-is : g 
 
   pub record Fit (T : ℕ) (c : Stored) : Type 0 where
     pub kind : kindKnown (c .kind) ≡ true
-    pub guest : c .kind ≡ 72 → (c .guest ≡ G) × (c .guest < T) × (g (c .guest) .placed ≡ 1) × (g (c .guest) .height ≤ 7)
+    pub guest : c .kind ≡ 72 → (c .guest ≡ G) × (c .guest < T) × (g (c .guest) .placed ≡ 1) × (g (c .guest) .height < deepest)
 
   pub new-item : (ws ar : List ℕ) (parent from : ℕ) → At ws ar parent from → (e : ℕ) → e ≡ nextEnd sep k from → ((j : ℕ) → parent ≡ suc j → from < e) → isUtf8 (take e k) ≡ true → (c : Stored) → Fit (tableTotal ws) c
       → NewItem (tableTotal ws) (itemTotal ws) g (itemOf ws ar) (item t (take e k) parent (c .kind) (c .value) (c .guest))

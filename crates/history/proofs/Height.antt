@@ -13,7 +13,8 @@ use Rattle.words.proofs.ChoiceLaws.{both, both-hold}
 use Rattle.model.specs.Table.{Content, Entry}
 use Rattle.model.specs.Builder.{most, heldBy}
 use Rattle.model.specs.Builder as told
-use Rattle.build_memory.specs.Memory.{tableTotal, itemTotal, valueKind, tableKind}
+use Rattle.layout.specs.Kind.{valueKind, tableKind}
+use Rattle.build_memory.specs.Memory.{tableTotal, itemTotal}
 use Rattle.build_memory.specs.Meaning.{meaning}
 use Rattle.build_nested.specs.Nest.{heldHeight}
 use Rattle.history.specs.Items.{Item, itemOf, tableOf}

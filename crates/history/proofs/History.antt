@@ -17,9 +17,10 @@ use Rattle.words.proofs.BelowLaws.{below-all, some-below}
 use Rattle.text.specs.Compare.{sameBytes}
 use Rattle.text.specs.Utf8.{isUtf8}
 use Rattle.text.proofs.CompareLaws.{equal-same}
-use Rattle.layout.specs.Kind.{kindKnown}
-use Rattle.model.specs.Builder.{longestKey, deepest}
-use Rattle.build_memory.specs.Memory.{word, links, linkAt, emptyMark, tableTotal, itemTotal, roomUsed, tablePlaced, tableHeight, itemTable, itemHash, keyStart, keySize, itemParent, itemKind, valueStart, valueSize, itemGuest, keyOf, valueKind, tableKind, valid}
+use Rattle.layout.specs.Kind.{kindKnown, valueKind, tableKind}
+use Rattle.layout.specs.Limits.{longestKey, deepest}
+use Rattle.layout.specs.Item.{noItem}
+use Rattle.build_memory.specs.Memory.{word, links, linkAt, tableTotal, itemTotal, roomUsed, tablePlaced, tableHeight, itemTable, itemHash, keyStart, keySize, itemParent, itemKind, valueStart, valueSize, itemGuest, keyOf, valid}
 use Rattle.build_memory.specs.Find.{findKey}
 use Rattle.build_memory.proofs.MemoryLaws.{valid-holds}
 use Rattle.build_rules.specs.Valid.{tableKnown, keyWithin, keyShort, kindValid, valueWithin, rangesValid, keyUtf8, hashValid, keyFound, keyValid, begunBy, parentValid, heightLimit, guestPlaced, guestValid, holdsTable, heldOnce, itemValid, linkEmpty, fullyValid}
@@ -194,7 +195,7 @@ module _ (ws ar : List ℕ) (honest : Honest ws ar) where
 
   link-holds : (j : ℕ) → j < links → linkEmpty ws j ≡ true
   unfolding linkEmpty
-  link-holds j h = eq-eqb (word ws (linkAt j)) emptyMark (honest .tidy .clear j h)
+  link-holds j h = eq-eqb (word ws (linkAt j)) noItem (honest .tidy .clear j h)
 
   pub honest-whole : fullyValid ws ar ≡ true
   unfolding fullyValid

@@ -15,8 +15,10 @@ use Rattle.words.proofs.StoreLaws.{length-put, get-put, get-before, get-after}
 use Rattle.text.specs.Utf8.{isUtf8}
 use Rattle.model.specs.declared.Inserted.{Inserted}
 use Rattle.model.specs.declared.Added.{Added}
-use Rattle.model.specs.Builder.{mostTables, longestKey, separatorOf}
-use Rattle.build_memory.specs.Memory.{word, leastWords, tableAt, tableTotal, itemTotal, tableSeparator, tablePlaced, tableHeight, valueKind, valid, freshWords, Memory, Outcome}
+use Rattle.layout.specs.Limits.{longestKey, mostTables}
+use Rattle.model.specs.Builder.{separatorOf}
+use Rattle.layout.specs.Kind.{valueKind}
+use Rattle.build_memory.specs.Memory.{word, leastWords, tableAt, tableTotal, itemTotal, tableSeparator, tablePlaced, tableHeight, valid, freshWords, Memory, Outcome}
 use Rattle.build_memory.specs.Item.{Stored, stored}
 use Rattle.build_tables.specs.Table.{freeStanding, addTable, newTable}
 use Rattle.build_tables.proofs.TableLaws.{free-standing-facts}

@@ -1,22 +1,23 @@
 -- The insert of a table keeps memory honest.
 use Prim.Native.Nat.{ℕ, zero, suc, _+_, _≤_, _<_}
-use native.Mathlib.Nat.{not-suc-le-zero, add-zero}
+use native.Mathlib.Nat.{not-suc-le-zero}
 use native.Mathlib.Omega.{arith}
 use native.Mathlib.Decide.{decLt}
 use mathlib.Core.Path.{_≡_, refl, sym, ap, _∙_, subst}
 use mathlib.Core.Bool.{Bool, true, false}
-use mathlib.Core.List.{List, [], _∷_}
+use mathlib.Core.List.{List, []}
 use borrow.Author.Tests.{eqb-true, eqb-false, eq-eqb, ne-eqb, ltb-true, ltb-false, lt-ltb}
 use lib.Dec.{eqb, ltb}
 use lib.ListN.{length}
 use Rattle.words.specs.Choice.{pick}
 use Rattle.words.proofs.ChoiceLaws.{pick-with}
-use Rattle.words.proofs.StoreLaws.{length-put, get-put, get-before, get-after}
 use Rattle.text.specs.Utf8.{isUtf8}
 use Rattle.layout.specs.declared.refusal.Refusal.{Refusal}
 use Rattle.model.specs.declared.Inserted.{Inserted}
-use Rattle.model.specs.Builder.{most, longestKey, deepest}
-use Rattle.build_memory.specs.Memory.{word, tableAt, tableTotal, itemTotal, tableSeparator, tablePlaced, tableHeight, itemTable, itemKind, itemGuest, tableKind, valid, Memory, memory, Outcome, outcome}
+use Rattle.layout.specs.Limits.{longestKey, deepest}
+use Rattle.model.specs.Builder.{most}
+use Rattle.layout.specs.Kind.{tableKind}
+use Rattle.build_memory.specs.Memory.{word, tableAt, tableTotal, itemTotal, tableSeparator, tablePlaced, tableHeight, itemTable, itemKind, itemGuest, valid, Memory, memory, Outcome, outcome}
 use Rattle.build_memory.specs.Item.{stored}
 use Rattle.build_tables.specs.Table.{freeStanding}
 use Rattle.build_tables.proofs.TableLaws.{free-standing-facts}
@@ -29,6 +30,7 @@ use Rattle.layout.specs.declared.refusal.Refusal.the-variants.{MemoryBroken, Ta
 use Rattle.build_nested.proofs.NestLaws.{held-other, held-kind, held-guest}
 use Rattle.history.specs.Honest.{Good, Honest}
 use Rattle.history.proofs.TidyTables as low
+use Rattle.history.proofs.PlacedTable as placed
 use Rattle.history.proofs.TidySearch.{false-true}
 use Rattle.history.proofs.Consistent.{ranges-of, consistent-grow, most-cong, item-else, item-kind, item-holds}
 use Rattle.history.proofs.GoodInsert.{accepted, After, walked-after}
@@ -194,33 +196,17 @@ module _ (ws ar : List ℕ) (honest : Honest ws ar) (t : ℕ) (k : List ℕ) (G 
       abbrev done : List ℕ
       done = placeTable w G h
 
-      abbrev row : List ℕ
-      row = 1 ∷ h ∷ []
-
       went : Good g′ w a
       went = after .good yes-it
 
-      bound : tableAt G + 1 + 2 ≤ length w
+      bound : tableAt G + 3 ≤ length w
       bound = let s = went .tidy .valid-memory in let few = honest .consistent .tables in omega arith
 
       small : G < 64
       small = let few = honest .consistent .tables in omega arith
 
       before : (p : ℕ) → p < tableAt G + 1 → word done p ≡ word w p
-      unfolding placeTable
-      before p l = get-before w (tableAt G + 1) row p l
-
-      behind : (p : ℕ) → tableAt G + 3 ≤ p → word done p ≡ word w p
-      unfolding placeTable
-      behind p l = get-after w (tableAt G + 1) row p (omega arith)
-
-      own : (f : ℕ) → f < 2 → word done (tableAt G + 1 + f) ≡ word row f
-      unfolding placeTable
-      own f l = get-put w (tableAt G + 1) row f bound l
-
-      size : length done ≡ length w
-      unfolding placeTable
-      size = length-put w (tableAt G + 1) row
+      before = placed.before w G h
 
       low-same : (p : ℕ) → p < 264 → (p ≡ 3 → ⊥) → (p ≡ 4 → ⊥) → word w p ≡ word ws p
       low-same = after .lows
@@ -233,15 +219,11 @@ module _ (ws ar : List ℕ) (honest : Honest ws ar) (t : ℕ) (k : List ℕ) (G 
       its-table =
           table-from G (tableSeparator ws G) 1 h
           (before (tableAt G + 0) (omega arith) ∙ low-same (tableAt G + 0) (omega (arith, small)) (λ (e : tableAt G + 0 ≡ 3). omega arith) (λ (e : tableAt G + 0 ≡ 4). omega arith))
-          (ap (word done) (sym (add-zero (tableAt G + 1))) ∙ own 0 (omega arith))
-          ((let e : tableAt G + 2 ≡ tableAt G + 1 + 1 = omega arith in ap (word done) e) ∙ own 1 (omega arith))
+          (placed.mark w G h bound)
+          (placed.height w G h bound)
 
       side : (x f : ℕ) → f < 3 → (x ≡ G → ⊥) → word done (tableAt x + f) ≡ word w (tableAt x + f)
-      side x f l ne = by-side (decLt x G)
-        where
-          by-side : Dec (x < G) → word done (tableAt x + f) ≡ word w (tableAt x + f)
-          by-side (yes u) = before (tableAt x + f) (omega arith)
-          by-side (no u) = behind (tableAt x + f) (omega arith)
+      side = placed.side w G h
 
       other-table : (x : ℕ) → x < 64 → (x ≡ G → ⊥) → tableOf done x ≡ tableOf ws x
       other-table x l ne =
@@ -263,12 +245,12 @@ module _ (ws ar : List ℕ) (honest : Honest ws ar) (t : ℕ) (k : List ℕ) (G 
           let w3 = before 3 (omega arith) in
           let w4 = before 4 (omega arith) in
           let few = went .consistent .tables in
-          let high : (p : ℕ) → 264 ≤ p → word done p ≡ word w p = λ p l. behind p (omega (arith, small)) in
+          let high : (p : ℕ) → 264 ≤ p → word done p ≡ word w p = λ p l. placed.behind w G h p (omega (arith, small)) in
           let t2 : tableTotal done ≤ 64 = omega arith in
           record {
-            tidy = low.low-tidy w done a (went .tidy) size w0 w1 t2 w3 w4 high;
+            tidy = low.low-tidy w done a (went .tidy) (placed.size w G h) w0 w1 t2 w3 w4 high;
             consistent =
-                subst (λ (f : ℕ → Item). Consistent (tableTotal done) (itemTotal done) (tableOf done) f) (sym (low.low-items w done a (went .tidy) size w0 w1 t2 w3 w4 high))
+                subst (λ (f : ℕ → Item). Consistent (tableTotal done) (itemTotal done) (tableOf done) f) (sym (low.low-items w done a (went .tidy) (placed.size w G h) w0 w1 t2 w3 w4 high))
                 (subst (λ (n : ℕ). Consistent (tableTotal done) n (tableOf done) (itemOf w a)) (sym w3)
                 (consistent-grow (tableTotal w) (tableTotal done) (itemTotal w) g′ (tableOf done) (itemOf w a) (went .consistent) (omega arith) t2 tables (λ x l u. absurd (omega arith)) (λ x l u e. omega arith)));
           }

@@ -36,6 +36,7 @@ pub mod WayDown
 pub mod GoodContainers
 pub mod GoodInsert
 pub mod HonestCalls
+pub mod PlacedTable
 pub mod HonestNesting
 pub mod History
 pub mod Meaning

@@ -9,16 +9,20 @@ use mathlib.Core.Bool.{Bool, true, false, not}
 use mathlib.Core.List.{List, [], _∷_, _++_}
 use borrow.Author.Tests.{eqb-true, eqb-false}
 use lib.Dec.{eqb}
-use lib.ListN.{length, getD, set, length-append, List·getD-append}
-use lib.Seq.{getD-at, set-at, set-append-left}
+use lib.ListN.{length, set}
+use lib.Seq.{set-at, set-append-left}
 use Rattle.words.specs.Choice.{pick}
-use Rattle.model.specs.Table.{Content, Entry, noItem, entryAt}
-use Rattle.model.specs.Builder.{Standing, Builder, mostItems}
+use Rattle.layout.specs.Item.{noItem}
+use Rattle.model.specs.Table.{Content, Entry, entryAt}
+use Rattle.layout.specs.Limits.{mostItems}
+use Rattle.model.specs.Builder.{Standing, Builder}
 use Rattle.model.specs.Walk.{entry}
-use Rattle.build_memory.specs.Memory.{tableTotal, itemTotal, roomUsed, itemTable, itemParent, keyOf, valueKind, tableKind, Memory, memory}
+use Rattle.layout.specs.Kind.{valueKind, tableKind}
+use Rattle.build_memory.specs.Memory.{tableTotal, itemTotal, roomUsed, itemTable, itemParent, keyOf, Memory, memory}
 use Rattle.build_memory.specs.Item.{Stored, makeItem, replaceItem}
 use Rattle.build_memory.specs.Meaning.{contentOf, entryOf, standingOf, listed, meaning}
 use Rattle.build_memory.proofs.MadeLaws.{made-arena}
+use Rattle.build_memory.proofs.MeaningLaws.{length-listed, listed-at}
 use Rattle.history.specs.Items.{Item, item, itemOf, Table, tableOf}
 use Rattle.history.specs.Tidy.{Tidy}
 use Rattle.history.proofs.TidyMade as made
@@ -29,24 +33,6 @@ use Rattle.history.proofs.HonestCalls.{lows-table}
 -- ---- lists by index
 
 module _ {A : Type 0} where
-  pub listed-length : (f : ℕ → A) (n : ℕ) → length (listed f n) ≡ n
-  unfolding listed
-  listed-length f zero = refl
-  listed-length f (suc n) = length-append (listed f n) (f n ∷ []) ∙ ap (λ (x : ℕ). x + 1) (listed-length f n) ∙ add-one n
-
-  pub listed-at : (f : ℕ → A) (d : A) (n i : ℕ) → i < n → getD (listed f n) i d ≡ f i
-  unfolding listed
-  listed-at f d zero i h = absurd (not-suc-le-zero h)
-  listed-at f d (suc n) i h = by-field (eqb i n) refl (listed-at f d n i)
-    where
-      by-field : (q : Bool) → eqb i n ≡ q → (i < n → getD (listed f n) i d ≡ f i) → getD (listed f n ++ (f n ∷ [])) i d ≡ f i
-      by-field true e ih =
-          let z = eqb-true i n e in
-          getD-at (listed f n) (f n) [] d i (listed-length f n ∙ sym z) ∙ ap f (sym z)
-      by-field false e ih =
-          let ne = eqb-false i n e in
-          List·getD-append (listed f n) (f n ∷ []) d i (omega (arith, listed-length f n)) ∙ ih (omega arith)
-
   pub listed-cong : (f g : ℕ → A) (n : ℕ) → ((i : ℕ) → i < n → f i ≡ g i) → listed f n ≡ listed g n
   unfolding listed
   listed-cong f g zero h = refl
@@ -70,12 +56,12 @@ module _ {A : Type 0} where
           let z = eqb-true o n q in
           ap (λ (l : List A). l ++ (g n ∷ [])) (listed-cong g f n (λ i u. h i (omega arith) (λ (y : i ≡ o). omega arith)))
           ∙ ap (λ (y : A). listed f n ++ (y ∷ [])) (ap g (sym z) ∙ e)
-          ∙ sym (set-at (listed f n) (f n) [] x o (listed-length f n ∙ sym z))
+          ∙ sym (set-at (listed f n) (f n) [] x o (length-listed f n ∙ sym z))
       by-field false q ih =
           let ne = eqb-false o n q in
           ap (λ (l : List A). l ++ (g n ∷ [])) (ih (omega arith))
           ∙ ap (λ (y : A). set (listed f n) o x ++ (y ∷ [])) (h n (omega arith) (λ (y : n ≡ o). ne (sym y)))
-          ∙ sym (set-append-left (listed f n) (f n ∷ []) o x (omega (arith, listed-length f n)))
+          ∙ sym (set-append-left (listed f n) (f n ∷ []) o x (omega (arith, length-listed f n)))
 
 -- ---- an entry from an item, a standing from a table
 
@@ -115,14 +101,14 @@ pub builder-same : {r r′ u u′ : ℕ} {T T′ : List Standing} {I I′ : List
 builder-same a b c d = cc
 
 pub items-count : (ws ar : List ℕ) → length (itemsOf ws ar) ≡ itemTotal ws
-items-count ws ar = listed-length (entryOf ws ar) (itemTotal ws)
+items-count ws ar = length-listed (entryOf ws ar) (itemTotal ws)
 
 pub item-at : (ws ar : List ℕ) (i : ℕ) → i < itemTotal ws → entryAt (itemsOf ws ar) i ≡ entryFrom (itemOf ws ar i)
 unfolding entryAt
 item-at ws ar i h = listed-at (entryOf ws ar) _ (itemTotal ws) i h ∙ entry-is ws ar i
 
 pub tables-count : (ws : List ℕ) → length (tablesOf ws) ≡ tableTotal ws
-tables-count ws = listed-length (standingOf ws) (tableTotal ws)
+tables-count ws = length-listed (standingOf ws) (tableTotal ws)
 
 -- tables that are told the same
 pub tables-same : (ws w : List ℕ) → Lows ws w → tableTotal ws ≤ 64 → tablesOf w ≡ tablesOf ws

@@ -9,8 +9,10 @@ use lib.Dec.{eqb, ltb, leb}
 use Rattle.text.specs.Utf8.{isUtf8}
 use Rattle.layout.specs.declared.refusal.Refusal.{Refusal}
 use Rattle.model.specs.declared.Inserted.{Inserted}
-use Rattle.model.specs.Builder.{mostTables, longestKey, separatorOf}
-use Rattle.build_memory.specs.Memory.{leastWords, freshWords, tableTotal, itemTotal, roomUsed, tableSeparator, tablePlaced, itemTable, valueKind, Outcome}
+use Rattle.layout.specs.Limits.{longestKey, mostTables}
+use Rattle.model.specs.Builder.{separatorOf}
+use Rattle.layout.specs.Kind.{valueKind}
+use Rattle.build_memory.specs.Memory.{leastWords, freshWords, tableTotal, itemTotal, roomUsed, tableSeparator, tablePlaced, itemTable, Outcome}
 use Rattle.build_memory.specs.Item.{stored}
 use Rattle.build_tables.specs.Table.{freeStanding, addTable, newTable, notAdded}
 use Rattle.build_tables.proofs.TableLaws.{free-standing-facts}
@@ -33,15 +35,11 @@ use Rattle.history.proofs.TidyTables as low
 use Rattle.history.proofs.HonestCalls.{sep-same, placed-word, tabled, two, three, kept-low, kept-high, size, loose, mark, same-table, sep-domain}
 use Rattle.history.proofs.History.{honest-valid}
 use Rattle.history.proofs.Meaning.{contentFrom, entryFrom, standingFrom, standing-is, entry-is, itemsOf, tablesOf, builder, builder-same, items-count, tables-count, item-at, listed-more, listed-cong}
-use Rattle.history.proofs.ModelInsert.{Alike, alike-pick, alike-refused, meant-standing, walked-alike}
+use Rattle.history.proofs.ModelInsert.{Alike, alike-pick, alike-refused, meant-sizes, meant-standing, walked-alike}
 
 meant-count : (ws ar : List ℕ) → length (meaning ws ar .tables) ≡ tableTotal ws
 unfolding meaning
 meant-count ws ar = tables-count ws
-
-meant-sizes : (ws ar : List ℕ) → (meaning ws ar .used ≡ roomUsed ws) × (meaning ws ar .room ≡ length ar)
-unfolding meaning
-meant-sizes ws ar = (refl, refl)
 
 standing-placed : (ws : List ℕ) (t : ℕ) → not (standingOf ws t .placed) ≡ eqb (tablePlaced ws t) 0
 unfolding standingOf

@@ -11,7 +11,7 @@ use Rattle.text.specs.Utf8.{isUtf8}
 use Rattle.text.specs.Prefix.{endsPast, nextEnd}
 use Rattle.layout.specs.declared.refusal.Refusal.{Refusal}
 use Rattle.model.specs.declared.Inserted.{Inserted}
-use Rattle.model.specs.Builder.{mostItems, longestKey}
+use Rattle.layout.specs.Limits.{longestKey, mostItems}
 use Rattle.build_memory.specs.Memory.{tableTotal, itemTotal, roomUsed, tableSeparator, itemTable, itemParent, itemKind, valueStart, valueSize, itemGuest, keyOf, memory, Outcome, outcome}
 use Rattle.build_memory.specs.Find.{findKey}
 use Rattle.build_memory.specs.Item.{Stored, kindOf, replaceItem}
@@ -26,7 +26,8 @@ use Rattle.words.proofs.ChoiceLaws.{pick-true, pick-false}
 use Rattle.text.specs.Prefix.{prefixes}
 use Rattle.text.proofs.PrefixLaws.{next-within, next-rises}
 use Rattle.layout.specs.declared.refusal.Refusal.the-variants.{TooManyItems, ArenaFull, NotContainer, NestedTooDeep}
-use Rattle.model.specs.Table.{Content, Entry, entryAt, noItem}
+use Rattle.layout.specs.Item.{noItem}
+use Rattle.model.specs.Table.{Content, Entry, entryAt}
 use Rattle.model.specs.Table as model
 use Rattle.model.specs.Walk as seen
 use Rattle.model.specs.Walk.{isThere, entry, putKey, Walked, walk, keyRoom}
@@ -39,7 +40,8 @@ use Rattle.history.proofs.TidySearch.{find-within}
 use Rattle.history.proofs.WayDown.{end-sep, Missing, OnWay, way-consistent, item-found, item-missing}
 use Rattle.history.proofs.GoodContainers.{At, Fit, grown}
 use Rattle.history.proofs.GoodInsert.{gone-all}
-use Rattle.history.proofs.Meaning.{contentFrom, aboveOf, entryFrom, itemsOf, tablesOf, builder-same, tables-same, items-count, listed-at, item-at, meaning-made, meaning-replaced}
+use Rattle.build_memory.proofs.MeaningLaws.{listed-at}
+use Rattle.history.proofs.Meaning.{contentFrom, aboveOf, entryFrom, itemsOf, tablesOf, builder-same, tables-same, items-count, item-at, meaning-made, meaning-replaced}
 use Rattle.history.proofs.ModelSearch.{find-same, there-same}
 use Rattle.history.proofs.ModelWalk as way
 use Rattle.history.proofs.ModelSteps.{kind-content, extended-entries, Down, way-down}
@@ -61,9 +63,9 @@ meant-items : (ws ar : List ℕ) → meaning ws ar .items ≡ itemsOf ws ar
 unfolding meaning
 meant-items ws ar = refl
 
-meant-used : (ws ar : List ℕ) → (meaning ws ar .used ≡ roomUsed ws) × (meaning ws ar .room ≡ length ar)
+pub meant-sizes : (ws ar : List ℕ) → (meaning ws ar .used ≡ roomUsed ws) × (meaning ws ar .room ≡ length ar)
 unfolding meaning
-meant-used ws ar = (refl, refl)
+meant-sizes ws ar = (refl, refl)
 
 pub meant-standing : (ws ar : List ℕ) (t : ℕ) → t < tableTotal ws → standingAt (meaning ws ar) t ≡ standingOf ws t
 unfolding meaning standingAt
@@ -178,7 +180,7 @@ module _ (g : ℕ → Table) (ws ar : List ℕ) (t : ℕ) (k : List ℕ) (G : �
         let few′ : itemTotal v < mostItems = omega arith in
         let room′ : roomUsed v + length k + size ≤ length a = omega arith in
         meaning-made v a t (l .parent) k c tidy few′ room′
-        ∙ builder-same (gr .arena ∙ sym (meant-used ws ar .1)) (let z : roomUsed v + length k + size ≡ roomUsed ws + sum ends + size = omega arith in z)
+        ∙ builder-same (gr .arena ∙ sym (meant-sizes ws ar .1)) (let z : roomUsed v + length k + size ≡ roomUsed ws + sum ends + size = omega arith in z)
         (meant-tables v a ∙ tables-same ws v (gr .lows) (good .consistent .tables) ∙ sym (meant-tables ws ar))
         (ap (λ (x : List Entry). x ++ (entryFrom (item t k (l .parent) (c .kind) (c .value) (c .guest)) ∷ [])) (meant-items v a)
         ∙ ap (λ (x : Entry). itemsOf v a ++ (x ∷ [])) (its-entry t k (l .parent) c)
@@ -191,7 +193,7 @@ module _ (g : ℕ → Table) (ws ar : List ℕ) (t : ℕ) (k : List ℕ) (G : �
         subst (Alike (insertNew ws ar t k c (w .from) parent)) (sym (counted-is m t k size (items ++ new) (itemTotal ws + length ends) (roomUsed ws + sum ends + size) many cost))
         (alike-pick (ltb mostItems (itemTotal ws + length ends)) _ _ _ _ (λ b. alike-refused TooManyItems ws ar)
         (λ b. subst (λ (r : ℕ). Alike (pick (ltb (length ar) (roomUsed ws + sum ends + size)) (refused ArenaFull ws ar) (outcome Inserted.New (added (containers t k ends (memory ws ar) parent) t k c)))
-        (pick (ltb r (roomUsed ws + sum ends + size)) (told.refused ArenaFull m) (result (news (m .items) t k) (withItems m (items ++ new) (roomUsed ws + sum ends + size))))) (sym (meant-used ws ar .1))
+        (pick (ltb r (roomUsed ws + sum ends + size)) (told.refused ArenaFull m) (result (news (m .items) t k) (withItems m (items ++ new) (roomUsed ws + sum ends + size))))) (sym (meant-sizes ws ar .1))
         (alike-pick (ltb (length ar) (roomUsed ws + sum ends + size)) _ _ _ _ (λ d. alike-refused ArenaFull ws ar)
         (λ d. record { answer = sym news-new; after = added-is (ltb-false mostItems (itemTotal ws + length ends) b) (ltb-false (length ar) (roomUsed ws + sum ends + size) d) }))))
 
@@ -267,7 +269,7 @@ module _ (g : ℕ → Table) (ws ar : List ℕ) (t : ℕ) (k : List ℕ) (G : �
         → meaning (replaceItem (memory ws ar) i c .words) (replaceItem (memory ws ar) i c .arena) ≡ withItems m (set items i changed) (roomUsed ws + size)
     written-is room =
         meaning-replaced ws ar i c (good .tidy) there room
-        ∙ builder-same (sym (meant-used ws ar .1)) refl refl (ap (λ (l : List Entry). set l i changed) (meant-items ws ar))
+        ∙ builder-same (sym (meant-sizes ws ar .1)) refl refl (ap (λ (l : List Entry). set l i changed) (meant-items ws ar))
 
     pub old-alike : Alike (overwrite ws ar i c) (counted m t k size (set items i changed))
     unfolding overwrite
@@ -275,7 +277,7 @@ module _ (g : ℕ → Table) (ws ar : List ℕ) (t : ℕ) (k : List ℕ) (G : �
         subst (Alike (overwrite ws ar i c))
         (sym (counted-is m t k size (set items i changed) (itemTotal ws) (roomUsed ws + size) many-old cost-old
         ∙ pick-false _ _ (le-ltb mostItems (itemTotal ws) (good .consistent .count))
-        ∙ ap (λ (r : ℕ). pick (ltb r (roomUsed ws + size)) (told.refused ArenaFull m) (result (news (m .items) t k) (withItems m (set items i changed) (roomUsed ws + size)))) (meant-used ws ar .1)))
+        ∙ ap (λ (r : ℕ). pick (ltb r (roomUsed ws + size)) (told.refused ArenaFull m) (result (news (m .items) t k) (withItems m (set items i changed) (roomUsed ws + size)))) (meant-sizes ws ar .1)))
         (alike-pick (ltb (length ar) (roomUsed ws + size)) _ _ _ _ (λ d. alike-refused ArenaFull ws ar)
         (λ d. record { answer = sym news-old; after = written-is (ltb-false (length ar) (roomUsed ws + size) d) }))
 

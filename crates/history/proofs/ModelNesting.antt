@@ -1,6 +1,5 @@
 -- The insert of a table is the model's: a table placed is one standing set, and what is settled is alike.
 use Prim.Native.Nat.{ℕ, suc, _+_, _≤_, _<_}
-use native.Mathlib.Nat.{add-zero}
 use native.Mathlib.Numerals.{add-one}
 use native.Mathlib.Omega.{arith}
 use native.Mathlib.Decide.{decLt}
@@ -8,11 +7,11 @@ use mathlib.Core.Path.{_≡_, refl, sym, ap, _∙_, subst}
 use mathlib.Core.Bool.{Bool, true, false, not}
 use borrow.Author.Tests.{eqb-false, lt-ltb}
 use lib.Dec.{eqb, ltb}
-use Rattle.words.proofs.StoreLaws.{length-put, get-put, get-before, get-after}
 use Rattle.text.specs.Utf8.{isUtf8}
 use Rattle.model.specs.declared.Inserted.{Inserted}
-use Rattle.model.specs.Builder.{longestKey, deepest}
-use Rattle.build_memory.specs.Memory.{word, tableAt, tableTotal, itemTotal, tableSeparator, tablePlaced, valueKind, tableKind, Outcome}
+use Rattle.layout.specs.Limits.{longestKey, deepest}
+use Rattle.layout.specs.Kind.{valueKind, tableKind}
+use Rattle.build_memory.specs.Memory.{word, tableAt, tableTotal, itemTotal, tableSeparator, tablePlaced, Outcome}
 use Rattle.build_memory.specs.Find.{findKey}
 use Rattle.build_memory.specs.Item.{Stored, stored}
 use Rattle.build_tables.specs.Table.{freeStanding}
@@ -25,7 +24,8 @@ use lib.ListN.{length, set}
 use Rattle.words.specs.Choice.{pick}
 use Rattle.words.proofs.ChoiceLaws.{pick-true}
 use Rattle.layout.specs.declared.refusal.Refusal.the-variants.{TableUnknown, TableInItself, NotContainer, NestedTooDeep}
-use Rattle.model.specs.Table.{Content, Entry, entryAt, noItem, isContainer}
+use Rattle.layout.specs.Item.{noItem}
+use Rattle.model.specs.Table.{Content, Entry, entryAt, isContainer}
 use Rattle.model.specs.Walk.{Walked, walk, isThere, entry}
 use Rattle.model.specs.Walk as seen
 use Rattle.model.specs.Builder as told
@@ -36,6 +36,7 @@ use Rattle.history.specs.Tidy.{Tidy}
 use Rattle.history.specs.Honest.{Honest}
 use Rattle.history.proofs.TidySearch.{false-true}
 use Rattle.history.proofs.TidyTables as low
+use Rattle.history.proofs.PlacedTable as placed
 use Rattle.history.proofs.GoodContainers.{lows-two}
 use Rattle.history.proofs.GoodInsert.{accepted}
 use Rattle.history.proofs.HonestCalls.{sep-same, placed-word}
@@ -52,27 +53,14 @@ module _ (w a : List ℕ) (tidy : Tidy w a) (G h : ℕ) (known : G < tableTotal 
   abbrev done : List ℕ
   done = placeTable w G h
 
-  abbrev row : List ℕ
-  row = 1 ∷ h ∷ []
-
   before : (p : ℕ) → p < tableAt G + 1 → word done p ≡ word w p
-  unfolding placeTable
-  before p l = get-before w (tableAt G + 1) row p l
-
-  behind : (p : ℕ) → tableAt G + 3 ≤ p → word done p ≡ word w p
-  unfolding placeTable
-  behind p l = get-after w (tableAt G + 1) row p (omega arith)
-
-  mark : tablePlaced done G ≡ 1
-  unfolding placeTable
-  mark = let s = tidy .valid-memory in ap (word done) (sym (add-zero (tableAt G + 1))) ∙ get-put w (tableAt G + 1) row 0 (omega arith) (omega arith)
+  before = placed.before w G h
 
   side : (x f : ℕ) → f < 3 → (x ≡ G → ⊥) → word done (tableAt x + f) ≡ word w (tableAt x + f)
-  side x f l ne = by-side (decLt x G)
-    where
-      by-side : Dec (x < G) → word done (tableAt x + f) ≡ word w (tableAt x + f)
-      by-side (yes u) = before (tableAt x + f) (omega arith)
-      by-side (no u) = behind (tableAt x + f) (omega arith)
+  side = placed.side w G h
+
+  mark : tablePlaced done G ≡ 1
+  mark = let s = tidy .valid-memory in placed.mark w G h (omega arith)
 
   abbrev standing : Standing
   standing = record { separator = tableSeparator w G; placed = true }
@@ -105,8 +93,8 @@ module _ (w a : List ℕ) (tidy : Tidy w a) (G h : ℕ) (known : G < tableTotal 
       ap (listed (entryOf done a)) (before 3 (omega arith))
       ∙ listed-cong (entryOf done a) (entryOf w a) (itemTotal w)
       (λ i l. entry-is done a i
-      ∙ ap entryFrom (low.low-item w done a tidy (length-put w (tableAt G + 1) row) (before 0 (omega arith)) (before 1 (omega arith)) t2 (before 3 (omega arith)) (before 4 (omega arith))
-      (λ p u. behind p (omega arith)) i)
+      ∙ ap entryFrom (low.low-item w done a tidy (placed.size w G h) (before 0 (omega arith)) (before 1 (omega arith)) t2 (before 3 (omega arith)) (before 4 (omega arith))
+      (λ p u. placed.behind w G h p (omega arith)) i)
       ∙ sym (entry-is w a i))
 
   standing-is-told : record { separator = standingAt (meaning w a) G .separator; placed = true } ≡ standing

@@ -9,10 +9,10 @@ use borrow.Author.Tests.{eqb-true, eqb-false, ne-eqb, lt-ltb}
 use lib.Dec.{eqb}
 use Rattle.text.specs.Utf8.{isUtf8}
 use Rattle.text.specs.Prefix.{endsPast, nextEnd}
-use Rattle.layout.specs.Kind.{kindKnown}
+use Rattle.layout.specs.Kind.{kindKnown, valueKind, tableKind, containerKind}
 use Rattle.layout.specs.declared.kind.Kind.{Kind}
-use Rattle.model.specs.Builder.{mostItems, longestKey}
-use Rattle.build_memory.specs.Memory.{itemTotal, roomUsed, itemKind, valueKind, tableKind, containerKind, memory}
+use Rattle.layout.specs.Limits.{longestKey, mostItems}
+use Rattle.build_memory.specs.Memory.{itemTotal, roomUsed, itemKind, memory}
 use Rattle.build_memory.specs.Find.{findKey}
 use Rattle.build_memory.specs.Item.{stored, kindOf, makeItem}
 use Rattle.build_memory.proofs.MadeLaws.{made-arena}
@@ -26,7 +26,8 @@ use lib.Seq.{length-take-le, take-length}
 use Rattle.words.specs.Choice.{pick}
 use Rattle.words.proofs.ChoiceLaws.{pick-false}
 use Rattle.build_values.proofs.WalkLaws.{further, walk-end, walk-miss, walk-block, walk-pass, make-end, make-more}
-use Rattle.model.specs.Table.{Content, Entry, entryAt, isContainer, noItem}
+use Rattle.layout.specs.Item.{noItem}
+use Rattle.model.specs.Table.{Content, Entry, entryAt, isContainer}
 use Rattle.model.specs.Table as model
 use Rattle.model.specs.Walk as seen
 use Rattle.model.specs.Walk.{isThere, entry, Walked, walk}

@@ -11,9 +11,11 @@ use native.Mathlib.Omega.{arith}
 use mathlib.Core.Bool.{and-false}
 use Rattle.build_memory.specs.Memory.{tableTotal, itemTotal, tableSeparator, tablePlaced, itemTable, itemKind, itemGuest, keyOf}
 use Rattle.build_memory.specs.Meaning.{meaning}
-use Rattle.model.specs.Builder.{deepest, height}
+use Rattle.layout.specs.Limits.{deepest}
+use Rattle.model.specs.Builder.{height}
 use Rattle.build_tables.specs.Table.{freeStanding}
-use Rattle.build_nested.specs.Nest.{heldHeight}
+use Rattle.build_nested.specs.Nest.{heldHeight, insertTable}
+use Rattle.build_nested.proofs.AnswerLaws.{table-24}
 use Rattle.build_values.specs.Insert.{insertValue}
 use Rattle.build_values.specs.Answer.{insertedNumber}
 use Rattle.build_values.proofs.AnswerLaws.{value-24}
@@ -49,12 +51,18 @@ module _ (ws ar : List ℕ) (reached : Reached ws ar) where
   unfolding itemOf
   held-once i j a b k l e = reached-honest ws ar reached .consistent .once i j a b k l e
 
-  -- a placed table takes no more inserts: 24
-  pub placed-frozen : (t : ℕ) (key value : List ℕ) → tablePlaced ws t ≡ 1 → insertedNumber (insertValue ws ar t key value .answer) ≡ 24
+  -- a placed table takes no more inserts, of values or of tables: 24
+  placed-not-free : (t : ℕ) → tablePlaced ws t ≡ 1 → freeStanding ws t ≡ false
   unfolding freeStanding
-  placed-frozen t key value placed =
-      let no-room : freeStanding ws t ≡ false = rw (ne-eqb (tablePlaced ws t) 0 (λ e. omega arith)) (and-false (ltb t (tableTotal ws))) in
-      value-24 ws ar t key value (reached-valid ws ar reached) no-room
+  placed-not-free t placed = rw (ne-eqb (tablePlaced ws t) 0 (λ e. omega arith)) (and-false (ltb t (tableTotal ws)))
+
+  pub placed-frozen : (t : ℕ) → tablePlaced ws t ≡ 1
+      → ((key value : List ℕ) → insertedNumber (insertValue ws ar t key value .answer) ≡ 24)
+      × ((key : List ℕ) (guest : ℕ) → insertedNumber (insertTable ws ar t key guest .answer) ≡ 24)
+  placed-frozen t placed =
+      let valid = reached-valid ws ar reached in
+      let no-room = placed-not-free t placed in
+      (λ key value. value-24 ws ar t key value valid no-room, λ key guest. table-24 ws ar t key guest valid no-room)
 
   -- 26 is judged by the height: 1 for a table that holds none, else 1 plus the greatest height held; the receiver would be one higher
   pub deep-by-height : (guest : ℕ) → guest < tableTotal ws → tablePlaced ws guest ≡ 0

@@ -7,15 +7,15 @@ use mathlib.Core.Bool.{Bool, true, false}
 use mathlib.Core.List.{List}
 use borrow.Author.Tests.{eqb-true, eqb-false, eq-eqb, ne-eqb}
 use lib.Dec.{eqb}
-use lib.ListN.{length, drop, length-drop}
-use lib.Seq.{length-take-le}
+use lib.ListN.{length}
 use Rattle.words.specs.Choice.{pick}
 use Rattle.words.specs.Hash.{hashOf}
 use Rattle.words.proofs.ChoiceLaws.{both, pick-with}
 use Rattle.text.specs.Compare.{sameBytes}
 use Rattle.text.proofs.CompareLaws.{same-equal, same-refl}
-use Rattle.build_memory.specs.Memory.{buckets, itemTotal, itemTable, itemHash, itemOlder, keyStart, keySize, keyOf}
+use Rattle.build_memory.specs.Memory.{buckets, itemTotal, itemTable, itemHash, itemOlder, keySize, keyOf}
 use Rattle.build_memory.specs.Find.{isItem, seek, findKey}
+use Rattle.build_memory.proofs.MeaningLaws.{key-length}
 use Rattle.history.specs.Tidy.{lastIn, bucketOf, Tidy}
 
 pub false-true : {A : Type 0} → false ≡ true → A
@@ -94,11 +94,7 @@ module _ (p : ℕ → Bool) (older bucket : ℕ → ℕ) (none b : ℕ) where
 -- ---- the search on tidy memory
 module _ (ws ar : List ℕ) (tidy : Tidy ws ar) where
   pub key-size : (i : ℕ) → i < itemTotal ws → length (keyOf ws ar i) ≡ keySize ws i
-  unfolding keyOf
-  key-size i h =
-      let s = tidy .valid-memory in
-      let r = tidy .keys i h in
-      length-take-le (keySize ws i) (drop (keyStart ws i) ar) (omega (arith, length-drop (keyStart ws i) ar))
+  key-size i h = key-length ws ar i (omega (arith, tidy .keys i h, tidy .valid-memory .used))
 
   module _ (t : ℕ) (k : List ℕ) where
     abbrev consistent : ℕ → Bool

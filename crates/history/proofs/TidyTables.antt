@@ -4,11 +4,11 @@ use native.Mathlib.Omega.{arith}
 use mathlib.Core.Path.{_≡_, sym, ap, _∙_, fun-ext}
 use mathlib.Core.List.{List, [], _∷_}
 use lib.ListN.{length}
-use Rattle.words.specs.Store.{putAt}
+use Rattle.words.specs.Store.{putAt, copies}
 use Rattle.words.specs.Hash.{hashOf}
-use Rattle.words.proofs.StoreLaws.{length-put, get-put, get-before}
-use Rattle.build_memory.specs.Memory.{word, copies, buckets, links, leastWords, linksFrom, headsFrom, itemAt, headAt, linkAt, tableTotal, itemTotal, roomUsed, keyOf, emptyMark, freshWords}
-use Rattle.build_memory.proofs.MemoryLaws.{length-copies, get-copies}
+use Rattle.words.proofs.StoreLaws.{length-put, get-put, get-before, length-copies, get-copies}
+use Rattle.layout.specs.Item.{noItem}
+use Rattle.build_memory.specs.Memory.{word, buckets, links, leastWords, linksFrom, headsFrom, itemAt, headAt, linkAt, tableTotal, itemTotal, roomUsed, keyOf, freshWords}
 use Rattle.history.specs.Items.{itemOf}
 use Rattle.history.specs.Tidy.{lastIn, bucketOf, Tidy}
 use Rattle.history.proofs.TidySearch.{last-cong}
@@ -67,13 +67,13 @@ module _ (ws ar : List ℕ) (long : leastWords ≤ length ws) where
   headed = putAt ws 0 row
 
   abbrev marks : List ℕ
-  marks = copies buckets emptyMark
+  marks = copies buckets noItem
 
   abbrev chained : List ℕ
   chained = putAt headed headsFrom marks
 
   many : length marks ≡ buckets
-  many = length-copies buckets emptyMark
+  many = length-copies buckets noItem
 
   headed-length : length headed ≡ length ws
   headed-length = length-put ws 0 row
@@ -93,15 +93,15 @@ module _ (ws ar : List ℕ) (long : leastWords ≤ length ws) where
   fresh-word j h =
       get-before chained linksFrom marks (0 + j) (omega arith) ∙ get-before headed headsFrom marks (0 + j) (omega arith) ∙ get-put ws 0 row j (omega arith) h
 
-  fresh-head : (b : ℕ) → b < buckets → word fresh (headAt b) ≡ emptyMark
+  fresh-head : (b : ℕ) → b < buckets → word fresh (headAt b) ≡ noItem
   unfolding freshWords
   fresh-head b h =
       get-before chained linksFrom marks (headAt b) (omega arith)
-      ∙ get-put headed headsFrom marks b (omega (arith, headed-length, many)) (omega (arith, many)) ∙ get-copies buckets emptyMark b h
+      ∙ get-put headed headsFrom marks b (omega (arith, headed-length, many)) (omega (arith, many)) ∙ get-copies buckets noItem b h
 
-  fresh-link : (j : ℕ) → j < links → word fresh (linkAt j) ≡ emptyMark
+  fresh-link : (j : ℕ) → j < links → word fresh (linkAt j) ≡ noItem
   unfolding freshWords
-  fresh-link j h = get-put chained linksFrom marks j (omega (arith, chained-length, many)) (omega (arith, many)) ∙ get-copies buckets emptyMark j h
+  fresh-link j h = get-put chained linksFrom marks j (omega (arith, chained-length, many)) (omega (arith, many)) ∙ get-copies buckets noItem j h
 
   pub fresh-three : itemTotal fresh ≡ 0
   fresh-three = fresh-word 3 (omega arith)

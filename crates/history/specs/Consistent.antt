@@ -8,8 +8,9 @@ use lib.ListN.{length, take, getD}
 use lib.Dec.{ltb, eqb}
 use Rattle.words.specs.Choice.{pick}
 use Rattle.text.specs.Utf8.{isUtf8}
-use Rattle.layout.specs.Kind.{kindKnown}
-use Rattle.model.specs.Builder.{most, mostItems, mostTables, longestKey}
+use Rattle.layout.specs.Kind.{tableKind, kindKnown}
+use Rattle.layout.specs.Limits.{longestKey, mostItems, mostTables, deepest}
+use Rattle.model.specs.Builder.{most}
 use Rattle.history.specs.Items.{Item, Table}
 
 -- every element is below 256
@@ -39,7 +40,7 @@ pub record Parent (f : ℕ → Item) (i : ℕ) (x : Item) (sep : ℕ) : Type 0 w
 
 -- what item x adds to the height of table t: h of the table it holds, where it is an item of t that holds one
 unfoldable pub heldItem : (ℕ → ℕ) → ℕ → Item → ℕ
-heldItem h t x = pick (eqb (x .table) t && eqb (x .kind) 72) (h (x .guest)) 0
+heldItem h t x = pick (eqb (x .table) t && eqb (x .kind) tableKind) (h (x .guest)) 0
 
 -- the greatest height that table t holds, or 0, where h says the height of each table
 unfoldable pub heldIn : ℕ → (ℕ → Item) → (ℕ → ℕ) → ℕ → ℕ
@@ -63,8 +64,8 @@ pub record Consistent (T n : ℕ) (g : ℕ → Table) (f : ℕ → Item) : Type 
   -- the containers of a key, named by its proper prefixes that end at a separator, are in the table
   pub closed : (i : ℕ) → i < n → (e : ℕ) → 1 ≤ e → e < length (f i .key) → getD (f i .key) (e - 1) 0 ≡ g (f i .table) .sep → There n f (f i .table) (take e (f i .key))
   -- a table that an item holds is placed, held once, and lower than its holder where that is placed too: so there is no cycle
-  pub guests : (i : ℕ) → i < n → f i .kind ≡ 72 → (f i .guest < T) × (g (f i .guest) .placed ≡ 1) × (g (f i .guest) .height ≤ 7)
-  pub once : (i j : ℕ) → i < n → j < n → f i .kind ≡ 72 → f j .kind ≡ 72 → f i .guest ≡ f j .guest → i ≡ j
-  pub ranks : (i : ℕ) → i < n → f i .kind ≡ 72 → g (f i .table) .placed ≡ 1 → g (f i .guest) .height < g (f i .table) .height
+  pub guests : (i : ℕ) → i < n → f i .kind ≡ tableKind → (f i .guest < T) × (g (f i .guest) .placed ≡ 1) × (g (f i .guest) .height < deepest)
+  pub once : (i j : ℕ) → i < n → j < n → f i .kind ≡ tableKind → f j .kind ≡ tableKind → f i .guest ≡ f j .guest → i ≡ j
+  pub ranks : (i : ℕ) → i < n → f i .kind ≡ tableKind → g (f i .table) .placed ≡ 1 → g (f i .guest) .height < g (f i .table) .height
   -- the height in a placed table's record is one more than the greatest height that it holds
   pub exact : (t : ℕ) → t < T → g t .placed ≡ 1 → g t .height ≡ heldIn n f (λ (x : ℕ). g x .height) t + 1

@@ -7,11 +7,12 @@ use lib.ListN.{length}
 use lib.Dec.{eqb}
 use Rattle.words.specs.Choice.{pick}
 use Rattle.words.specs.Hash.{hashOf}
-use Rattle.build_memory.specs.Memory.{word, buckets, links, headAt, linkAt, itemTotal, roomUsed, itemHash, itemOlder, keyStart, keySize, valueStart, valueSize, keyOf, emptyMark, Valid}
+use Rattle.layout.specs.Item.{noItem}
+use Rattle.build_memory.specs.Memory.{word, buckets, links, headAt, linkAt, itemTotal, roomUsed, itemHash, itemOlder, keyStart, keySize, valueStart, valueSize, keyOf, Valid}
 
 -- the last index below m that is in bucket b, or the empty mark
 unfoldable pub lastIn : (ℕ → ℕ) → ℕ → ℕ → ℕ
-lastIn bucket b zero = emptyMark
+lastIn bucket b zero = noItem
 lastIn bucket b (suc m) = pick (eqb (bucket m) b) m (lastIn bucket b m)
 
 abbrev pub bucketOf : List ℕ → ℕ → ℕ
@@ -24,4 +25,4 @@ pub record Tidy (ws ar : List ℕ) : Type 0 where
   pub hashes : (i : ℕ) → i < itemTotal ws → itemHash ws i ≡ hashOf (keyOf ws ar i)
   pub heads : (b : ℕ) → b < buckets → word ws (headAt b) ≡ lastIn (bucketOf ws) b (itemTotal ws)
   pub olders : (i : ℕ) → i < itemTotal ws → itemOlder ws i ≡ lastIn (bucketOf ws) (bucketOf ws i) i
-  pub clear : (j : ℕ) → j < links → word ws (linkAt j) ≡ emptyMark
+  pub clear : (j : ℕ) → j < links → word ws (linkAt j) ≡ noItem

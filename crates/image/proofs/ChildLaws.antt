@@ -13,7 +13,7 @@ use Rattle.image.specs.Index.{laidIndex}
 use Rattle.image.specs.Plan.{word}
 use Rattle.image.specs.Image.{childrenIn, childWords}
 
-pick-append : (t : Bool) (c : ℕ) (a b : List ℕ) → pick t (c ∷ a ++ b) (a ++ b) ≡ pick t (c ∷ a) a ++ b
+pub pick-append : (t : Bool) (c : ℕ) (a b : List ℕ) → pick t (c ∷ a ++ b) (a ++ b) ≡ pick t (c ∷ a) a ++ b
 unfolding pick
 pick-append true c a b = refl
 pick-append false c a b = refl

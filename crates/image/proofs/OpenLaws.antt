@@ -9,12 +9,14 @@ use Rattle.words.specs.Choice.{pick}
 use Rattle.words.specs.Field.{spelled, field}
 use Rattle.words.specs.Bits.{bloomCount}
 use Rattle.words.proofs.FieldLaws.{length-spelled}
-use Rattle.layout.specs.Table.{tableOf, tableIn, openTable, longestFile}
+use Rattle.layout.specs.Limits.{longestFile}
+use Rattle.layout.specs.Table.{tableOf, tableIn, openTable}
 use Rattle.layout.specs.Item.{itemAt}
 use Rattle.layout.specs.declared.table.Table.{Table}
 use Rattle.layout.specs.declared.table.Opened.{Opened}
 use Rattle.layout.proofs.AnswerLaws.{pointer-inside-is}
-use Rattle.image.specs.Plan.{Plan, word, chunkSize, recordBytes, planBytes}
+use Rattle.layout.specs.Sizes.{chunkSize}
+use Rattle.image.specs.Plan.{Plan, word, recordBytes, planBytes}
 use Rattle.image.specs.Laid.{Holds}
 use Rattle.image.specs.Fits.{PlanFits, openedAs, laidItem}
 use Rattle.image.proofs.LaidLaws.{holds-front, holds-next, holds-first}

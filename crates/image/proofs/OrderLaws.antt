@@ -6,18 +6,15 @@ use mathlib.Core.List.{List, [], _∷_}
 use Prim.Native.Nat.{ℕ, zero, suc, _-_, _<_}
 use native.Mathlib.Omega.{arith}
 use lib.ListN.{length, getD}
-use Rattle.words.proofs.ChoiceLaws.{pick-with}
+use Rattle.words.proofs.ChoiceLaws.{pick-with, clash, eq-or-ne}
 use Rattle.text.specs.Order.{precedes}
 use Rattle.text.proofs.OrderLaws.{transitive, total, asymmetric}
 use Rattle.model.specs.Table.{Rows, times, Has}
 use Rattle.image.specs.Index.{insertKey, sortKeys, keyOrder}
 use Rattle.image.specs.Indexing.{Ascending}
-use Rattle.image.proofs.TimesLaws.{eq-or-ne, times-here, times-there, times-cons, times-cons-same, times-some, has-cases}
+use Rattle.image.proofs.TimesLaws.{times-here, times-there, times-cons, times-cons-same, times-some, has-cases}
 
 -- ---- what does not come before, and again not, does not come before
-
-clash : {A : Type 0} → true ≡ false → A
-clash e = let z : _≡_ {A = ℕ} 0 1 = cc in absurd (omega arith)
 
 pub not-before : (a b c : List ℕ) → precedes b a ≡ false → precedes c b ≡ false → precedes c a ≡ false
 not-before a b c p q = by (precedes c a) refl (precedes a b) refl

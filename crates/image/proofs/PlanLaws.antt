@@ -12,7 +12,8 @@ use Rattle.words.specs.Field.{littleEndian, spelled, field}
 use Rattle.words.specs.Align.{aligned}
 use Rattle.words.proofs.StoreLaws.{length-zeros}
 use Rattle.words.proofs.FieldLaws.{length-spelled, little-endian-spelled}
-use Rattle.image.specs.Plan.{Plan, word, wordsOf, chunkSize, valueStart, itemBytes, payload, place, recordBytes, records, planBytes}
+use Rattle.layout.specs.Sizes.{chunkSize}
+use Rattle.image.specs.Plan.{Plan, word, wordsOf, valueStart, itemBytes, payload, place, recordBytes, records, planBytes}
 use Rattle.image.specs.Laid.{Holds}
 use Rattle.image.proofs.LaidLaws.{holds-front, holds-back, holds-fits, holds-part}
 

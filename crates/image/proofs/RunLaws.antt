@@ -10,13 +10,14 @@ use native.Mathlib.Numerals.{add-one}
 use native.Mathlib.Omega.{arith}
 use lib.Dec.{eqb}
 use borrow.Author.Tests.{eq-eqb, ne-eqb, eqb-true, eqb-false, lt-ltb, le-ltb}
-use lib.ListN.{length, take, drop, getD, length-append, List·getD-append}
-use lib.Seq.{take-at, drop-at, getD-append-add}
+use lib.ListN.{length, getD, length-append, List·getD-append}
+use lib.Seq.{getD-append-add}
 use Rattle.words.specs.Choice.{pick}
 use Rattle.model.specs.Table.{times}
 use Rattle.image.specs.Index.{bucketOf, run, runsBelow, byBucket, bucketStart}
 use Rattle.image.specs.Indexing.{Each, InRun, InBucket, ranksBefore}
-use Rattle.image.proofs.TimesLaws.{eq-or-ne, lt-or-ge, times-none, times-here, times-there, times-append, each-once}
+use Rattle.words.proofs.ChoiceLaws.{eq-or-ne, lt-or-ge}
+use Rattle.image.proofs.TimesLaws.{times-none, times-here, times-there, times-append, each-once}
 
 module _ (hashes : List ℕ) where
   -- ---- one run: ranks are put into their bucket in ascending order, each at the front
@@ -233,14 +234,6 @@ module _ (hashes : List ℕ) where
       (λ e. record { rest = []; is = subst (λ (k : ℕ). runsBelow hashes (suc d) ≡ runsBelow hashes k ++ (run hashes k (length hashes) ++ [])) (sym e) (rw append-nil) })
       (λ l. let s = split b d l in record { rest = s .rest ++ run hashes d (length hashes); is = rw (s .is, append-assoc, append-assoc) })
       (eq-or-lt-of-le (le-of-suc-le-suc h))
-
-  -- the ranks from a bucket's word on, as many as its run has, are its run
-  pub run-indices : (b : ℕ) → b < length hashes → take (length (run hashes b (length hashes))) (drop (bucketStart hashes b) (byBucket hashes)) ≡ run hashes b (length hashes)
-  unfolding byBucket bucketStart
-  run-indices b h =
-      let s = split b (length hashes) h in
-      rw (s .is, drop-at (runsBelow hashes b) (run hashes b (length hashes) ++ s .rest) (length (runsBelow hashes b)) refl)
-      (take-at (run hashes b (length hashes)) (s .rest) (length (run hashes b (length hashes))) refl)
 
   -- the rank at an index of a bucket, by its run
   pub index-at : (b m : ℕ) → b < length hashes → m < length (run hashes b (length hashes)) → getD (byBucket hashes) (bucketStart hashes b + m) 0 ≡ getD (run hashes b (length hashes)) m 0

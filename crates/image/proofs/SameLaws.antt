@@ -3,7 +3,8 @@ use mathlib.Core.Path.{_≡_, refl}
 use Prim.Native.Nat.{ℕ, zero, suc, _+_, _≤_, _<_}
 use native.Mathlib.Omega.{arith}
 use lib.ListN.{length}
-use Rattle.image.specs.Plan.{Plan, chunkSize, valueStart, itemBytes, payload, place, recordBytes, records, planBytes}
+use Rattle.layout.specs.Sizes.{chunkSize}
+use Rattle.image.specs.Plan.{Plan, valueStart, itemBytes, payload, place, recordBytes, records, planBytes}
 use Rattle.image.specs.Fits.{SamePlan}
 use Rattle.image.proofs.PlanLaws.{words-same}
 

@@ -4,7 +4,8 @@ use mathlib.Core.Path.{_≡_}
 use lib.ListN.{length}
 use Rattle.layout.specs.declared.table.Table.{Table}
 use Rattle.layout.specs.declared.item.Item.{Item}
-use Rattle.image.specs.Plan.{Plan, chunkSize, place, valueStart}
+use Rattle.layout.specs.Sizes.{chunkSize}
+use Rattle.image.specs.Plan.{Plan, place, valueStart}
 
 -- every word fits its field, and a value pointer covers no more than was laid
 pub record PlanFits (p : Plan) : Type 0 where

@@ -7,10 +7,13 @@ use Rattle.words.specs.Choice.{pick}
 use Rattle.words.specs.Store.{zeros}
 use Rattle.words.specs.Hash.{hashBy}
 use Rattle.layout.specs.declared.kind.Kind.{Kind}
+use Rattle.layout.specs.Limits.{deepest}
 use Rattle.layout.specs.Kind.{kindByte}
-use Rattle.model.specs.Table.{Content, Rows, State, kindOf, isChild, fragmentAt, noItem}
+use Rattle.layout.specs.Item.{noItem}
+use Rattle.model.specs.Table.{Content, Rows, State, kindOf, isChild, fragmentAt}
 use Rattle.image.specs.Index.{hashesOf, bucketStart, itemOf, laidIndex}
-use Rattle.image.specs.Plan.{Plan, word, chunkSize, planBytes}
+use Rattle.layout.specs.Sizes.{headerSize, chunkSize}
+use Rattle.image.specs.Plan.{Plan, word, planBytes}
 
 -- a value starts at a multiple of 8, a table and a container's children at one of 4
 abbrev pub alignOf : Content → ℕ
@@ -26,13 +29,6 @@ childrenIn table i (c ∷ rest) = pick (eqb (table .above c) i) (c ∷ childrenI
 -- all its children, in order of arrival
 unfoldable pub childrenOf : Rows → ℕ → List ℕ
 childrenOf table i = childrenIn table i (table .members)
-
--- the header's bytes, which stay zero, and how deep tables may nest
-abbrev pub headerSize : ℕ
-headerSize = 24
-
-abbrev pub depth : ℕ
-depth = 8
 
 module _ (rule : ℕ → ℕ) where
   -- the index of an item's parent; a root has none
@@ -77,4 +73,4 @@ module _ (rule : ℕ → ℕ) where
 
   -- the whole image: zeros for the header, then the root table
   unfoldable pub imageOf : State → ℕ → List ℕ
-  imageOf state root = zeros headerSize ++ tableBytes state depth root headerSize
+  imageOf state root = zeros headerSize ++ tableBytes state deepest root headerSize

@@ -1,16 +1,17 @@
 -- The bytes of a table that is given index by index, as document 01 has them under 'Laying an image'.
-use Prim.Native.Nat.{ℕ, zero, suc, _+_, _*_, _-_}
+use Prim.Native.Nat.{ℕ, zero, suc, _+_, _-_}
 use mathlib.Core.List.{List, [], _∷_, _++_}
 use lib.ListN.{length}
 use Rattle.words.specs.Store.{zeros}
 use Rattle.words.specs.Field.{spelled}
 use Rattle.words.specs.Align.{aligned}
+use Rattle.layout.specs.Sizes.{chunkSize}
 
 pub record Plan : Type 0 where
   pub count : ℕ
   -- a bucket's word
   pub first : ℕ → ℕ
-  -- of the item at an index: hash, parent's index or 4294967295, key fragment, kind, alignment of its value
+  -- of the item at an index: hash, parent's index or `noItem`, key fragment, kind, alignment of its value
   pub hash : ℕ → ℕ
   pub parent : ℕ → ℕ
   pub fragment : ℕ → List ℕ
@@ -28,10 +29,6 @@ word = spelled 4
 unfoldable pub wordsOf : (ℕ → ℕ) → ℕ → List ℕ
 wordsOf f zero = []
 wordsOf f (suc n) = wordsOf f n ++ word (f n)
-
--- the table chunk of n items: head, buckets, records
-unfoldable pub chunkSize : ℕ → ℕ
-chunkSize n = 8 + 28 * n
 
 module _ (p : Plan) where
   -- where the value of item k starts, if its key starts at `at`: alignment is counted from the file's start
@@ -51,7 +48,7 @@ module _ (p : Plan) where
   unfoldable pub place : ℕ → ℕ → ℕ
   place at k = at + length (payload at k)
 
-  -- a record's 24 bytes, the key at `at`, the value at `start`: hash, parent, key start, key size, kind, one unused, value start and end
+  -- a record's bytes, the key at `at`, the value at `start`: hash, parent, key start, key size, kind, one unused, value start and end
   unfoldable pub recordBytes : ℕ → ℕ → ℕ → List ℕ
   recordBytes k at start =
       word (p .hash k) ++ (word (p .parent k) ++ (word at ++ ((spelled 2 (length (p .fragment k)) ++ (p .kind k ∷ 0 ∷ [])) ++ (word start ++ word (start + p .covers k)))))

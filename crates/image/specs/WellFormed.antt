@@ -6,7 +6,7 @@ use mathlib.Core.List.{List}
 use lib.ListN.{length, take}
 use Rattle.text.specs.Utf8.{isUtf8}
 use Rattle.model.specs.Table.{Content, Rows, State, Has, times, isChild}
-use Rattle.model.specs.Builder.{longestKey, mostItems}
+use Rattle.layout.specs.Limits.{longestKey, mostItems}
 use Rattle.image.specs.Index.{indexIn}
 
 -- the item above a child is of the table, was made earlier, and the child's key starts with its key

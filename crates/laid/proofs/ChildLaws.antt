@@ -14,7 +14,8 @@ use Rattle.image.specs.Index.{laidIndex}
 use Rattle.image.specs.Plan.{word}
 use Rattle.image.specs.Image.{childrenIn, childrenOf, childWords}
 use Rattle.image.specs.Laid.{Holds}
-use Rattle.image.proofs.TimesLaws.{eq-or-ne, times-here, times-there, times-some, offset-once, Stands, index-stands}
+use Rattle.words.proofs.ChoiceLaws.{eq-or-ne}
+use Rattle.image.proofs.TimesLaws.{times-here, times-there, times-some, offset-once, Stands, index-stands}
 use Rattle.image.proofs.LaidLaws.{holds-front, holds-next}
 use Rattle.image.proofs.PlanLaws.{field-held}
 

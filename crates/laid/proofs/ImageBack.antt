@@ -7,33 +7,34 @@ use lib.ListN.{length}
 use lib.Seq.{take-length}
 use Rattle.words.specs.Store.{putAt, zeros}
 use Rattle.words.proofs.StoreLaws.{length-zeros, length-put}
-use Rattle.layout.specs.Table.{longestFile}
+use Rattle.layout.specs.Limits.{longestFile, deepest}
 use Rattle.model.specs.Table.{State}
-use Rattle.image.specs.Image.{headerSize, depth, tableBytes, imageOf}
+use Rattle.layout.specs.Sizes.{headerSize}
+use Rattle.image.specs.Image.{tableBytes, imageOf}
 use Rattle.image.specs.WellFormed.{Writable}
 use Rattle.image.specs.Laid.{Holds}
 use Rattle.image.proofs.LaidLaws.{holds-put, holds-next}
 use Rattle.laid.specs.Told.{AllBack}
 use Rattle.laid.proofs.ReadBack.{all-back}
 
-module _ (rule : ℕ → ℕ) (state : State) (root : ℕ) (good : Writable state depth root) where
+module _ (rule : ℕ → ℕ) (state : State) (root : ℕ) (good : Writable state deepest root) where
   -- any file that holds the root table behind the header's 24 bytes, whatever stands in the header and behind the image
-  pub root-back : (file : List ℕ) → length file ≤ longestFile → Holds file headerSize (tableBytes rule state depth root headerSize) → AllBack rule file state depth root headerSize
-  root-back file short held = all-back rule file state depth root headerSize held short refl good
+  pub root-back : (file : List ℕ) → length file ≤ longestFile → Holds file headerSize (tableBytes rule state deepest root headerSize) → AllBack rule file state deepest root headerSize
+  root-back file short held = all-back rule file state deepest root headerSize held short refl good
 
   -- any file that starts with the image
-  pub front-back : (file : List ℕ) → length file ≤ longestFile → Holds file 0 (imageOf rule state root) → AllBack rule file state depth root headerSize
+  pub front-back : (file : List ℕ) → length file ≤ longestFile → Holds file 0 (imageOf rule state root) → AllBack rule file state deepest root headerSize
   unfolding imageOf
   front-back file short held =
-      root-back file short (holds-next file 0 (zeros headerSize) (tableBytes rule state depth root headerSize) headerSize (omega (arith, length-zeros headerSize)) held)
+      root-back file short (holds-next file 0 (zeros headerSize) (tableBytes rule state deepest root headerSize) headerSize (omega (arith, length-zeros headerSize)) held)
 
   -- a buffer that the image was put to the front of
   pub image-back : (buffer : List ℕ) → length buffer ≤ longestFile → length (imageOf rule state root) ≤ length buffer
-      → AllBack rule (putAt buffer 0 (imageOf rule state root)) state depth root headerSize
+      → AllBack rule (putAt buffer 0 (imageOf rule state root)) state deepest root headerSize
   image-back buffer short fits =
       front-back (putAt buffer 0 (imageOf rule state root)) (rw (length-put buffer 0 (imageOf rule state root)) short) (holds-put buffer 0 (imageOf rule state root) (omega arith))
 
   -- the image by itself
-  pub alone-back : length (imageOf rule state root) ≤ longestFile → AllBack rule (imageOf rule state root) state depth root headerSize
+  pub alone-back : length (imageOf rule state root) ≤ longestFile → AllBack rule (imageOf rule state root) state deepest root headerSize
   unfolding Holds
   alone-back short = front-back (imageOf rule state root) short (take-length (imageOf rule state root))

@@ -7,7 +7,8 @@ use lib.ListN.{length}
 use Rattle.words.specs.Align.{aligned}
 use Rattle.words.specs.Hash.{hashBy}
 use Rattle.layout.specs.declared.table.Opened.{Opened}
-use Rattle.layout.specs.Table.{openTable, longestFile}
+use Rattle.layout.specs.Limits.{longestFile}
+use Rattle.layout.specs.Table.{openTable}
 use Rattle.layout.specs.Item.{itemAt}
 use Rattle.layout.specs.Kind.{kindByte}
 use Rattle.read.specs.declared.lookup.Found.{Found}
@@ -15,7 +16,8 @@ use Rattle.read.specs.Chain.{Joined, keyOf}
 use Rattle.read.specs.Find.{findItem}
 use Rattle.model.specs.Table.{Content, State, Has, kindOf}
 use Rattle.image.specs.Index.{indexIn, laidIndex, itemOf}
-use Rattle.image.specs.Plan.{Plan, chunkSize, place, valueStart, planBytes}
+use Rattle.layout.specs.Sizes.{chunkSize}
+use Rattle.image.specs.Plan.{Plan, place, valueStart, planBytes}
 use Rattle.image.specs.Image.{alignOf, childrenOf, childWords, parentIndex, valueOf, planOf, tableBytes}
 use Rattle.image.specs.WellFormed.{WellFormed, Writable}
 use Rattle.image.specs.Laid.{Holds}

@@ -8,14 +8,14 @@ use native.Mathlib.Omega.{arith}
 use lib.ListN.{length}
 use Rattle.text.specs.Utf8.{isUtf8}
 use Rattle.layout.specs.declared.table.Table.{Table}
-use Rattle.layout.specs.Table.{longestFile}
-use Rattle.layout.specs.Item.{itemAt, rootMark}
+use Rattle.layout.specs.Limits.{longestFile}
+use Rattle.layout.specs.Item.{itemAt, noItem}
 use Rattle.read.specs.Chain.{fragmentOf, Joined, append, keyOf}
 use Rattle.read.proofs.AnswerLaws.{key-root, key-up}
 use Rattle.image.specs.Plan.{Plan, planBytes}
 use Rattle.image.specs.Laid.{Holds}
 use Rattle.image.specs.Fits.{PlanFits, openedAs, laidItem}
-use Rattle.image.proofs.TimesLaws.{eq-or-ne}
+use Rattle.words.proofs.ChoiceLaws.{eq-or-ne}
 use Rattle.image.proofs.LaidLaws.{holds-part}
 use Rattle.image.proofs.PlanLaws.{keyStart, read-fragment, fragment-ends}
 use Rattle.image.proofs.OpenLaws.{laid-item}
@@ -42,15 +42,15 @@ module _ (img : List ℕ) (p : Plan) (at : ℕ) (held : Holds img at (planBytes 
     laid-text : (k : ℕ) → k < p .count → isUtf8 (fragmentOf img (itemAt img table k)) ≡ true
     laid-text k l = rw (laid-fragment k l) (keys .utf8 k l)
 
-    root-joined : (steps k : ℕ) → k < p .count → p .parent k ≡ rootMark → keyOf img table (suc steps) k ≡ Joined.joined (key k)
+    root-joined : (steps k : ℕ) → k < p .count → p .parent k ≡ noItem → keyOf img table (suc steps) k ≡ Joined.joined (key k)
     root-joined steps k l e =
         key-root img table steps k (laid-inside k l) (laid-text k l) (laid-parent k l ∙ e) ∙ ap Joined.joined (laid-fragment k l ∙ keys .root k l e)
 
-    laid-above : (k : ℕ) → k < p .count → (p .parent k ≡ rootMark → ⊥) → itemAt img table k .parent < table .count
+    laid-above : (k : ℕ) → k < p .count → (p .parent k ≡ noItem → ⊥) → itemAt img table k .parent < table .count
     unfolding openedAs
     laid-above k l n = rw (laid-parent k l) (keys .child k l n .within)
 
-    child-joined : (steps k : ℕ) → k < p .count → (p .parent k ≡ rootMark → ⊥) → keyOf img table steps (p .parent k) ≡ Joined.joined (key (p .parent k))
+    child-joined : (steps k : ℕ) → k < p .count → (p .parent k ≡ noItem → ⊥) → keyOf img table steps (p .parent k) ≡ Joined.joined (key (p .parent k))
         → keyOf img table (suc steps) k ≡ Joined.joined (key k)
     unfolding append
     child-joined steps k l n above =
@@ -66,7 +66,7 @@ module _ (img : List ℕ) (p : Plan) (at : ℕ) (held : Holds img at (planBytes 
         ⊎-elim
         (λ e. root-joined steps k l e)
         (λ n. let c = keys .child k l n in child-joined steps k l n (key-joined steps (p .parent k) (c .within) (omega (arith, c .falls))))
-        (eq-or-ne (p .parent k) rootMark)
+        (eq-or-ne (p .parent k) noItem)
 
     -- a chain of no more items than the table has is enough
     pub key-whole : (k : ℕ) → k < p .count → keyOf img table (p .count) k ≡ Joined.joined (key k)

@@ -8,8 +8,8 @@ use native.Mathlib.Omega.{arith}
 use lib.ListN.{length, getD}
 use Rattle.words.specs.Choice.{pick}
 use Rattle.layout.specs.declared.item.Item.{Item}
-use Rattle.layout.specs.Table.{longestFile}
-use Rattle.layout.specs.Item.{itemAt, rootMark}
+use Rattle.layout.specs.Limits.{longestFile}
+use Rattle.layout.specs.Item.{itemAt, noItem}
 use Rattle.layout.specs.Kind.{kindByte}
 use Rattle.layout.proofs.AnswerLaws.{pointer-inside-is}
 use Rattle.read.specs.declared.lookup.Found.{Found}
@@ -97,7 +97,7 @@ module _ (rule : ℕ → ℕ) (file : List ℕ) (state : State) (d t at : ℕ) (
           (omega arith)
 
   -- ---- rule 6: its parent, if any, is 'L'
-  parent-good : (k : ℕ) → k < count → (item k .parent ≡ rootMark) ⊎ ((item k .parent < count) × (item (item k .parent) .kind ≡ 76))
+  parent-good : (k : ℕ) → k < count → (item k .parent ≡ noItem) ⊎ ((item k .parent < count) × (item (item k .parent) .kind ≡ 76))
   unfolding isChild
   parent-good k l =
       let up : item k .parent ≡ parentIndex rule (state t) (of k) = back k l .parent in

@@ -7,11 +7,12 @@ use lib.ListN.{length}
 use lib.Seq.{take-length}
 use Rattle.words.specs.Store.{putAt, zeros}
 use Rattle.words.proofs.StoreLaws.{length-zeros, length-put}
-use Rattle.layout.specs.Table.{longestFile}
+use Rattle.layout.specs.Limits.{longestFile, deepest}
 use Rattle.check_table.specs.Sound.{SoundTable}
 use Rattle.check_table.proofs.SoundLaws.{passes-exactly-the-sound}
 use Rattle.model.specs.Table.{State}
-use Rattle.image.specs.Image.{headerSize, depth, tableBytes, imageOf}
+use Rattle.layout.specs.Sizes.{headerSize}
+use Rattle.image.specs.Image.{tableBytes, imageOf}
 use Rattle.image.specs.WellFormed.{Writable}
 use Rattle.image.specs.Laid.{Holds}
 use Rattle.image.proofs.LaidLaws.{holds-put, holds-next}
@@ -45,16 +46,16 @@ all-pass rule file state (suc d) t at held short even good = (
   ),
 )
 
-module _ (rule : ℕ → ℕ) (state : State) (root : ℕ) (good : Writable state depth root) where
+module _ (rule : ℕ → ℕ) (state : State) (root : ℕ) (good : Writable state deepest root) where
   -- any file that starts with the image, whatever stands behind it
-  pub front-passes : (file : List ℕ) → length file ≤ longestFile → Holds file 0 (imageOf rule state root) → AllPass rule file state depth root headerSize
+  pub front-passes : (file : List ℕ) → length file ≤ longestFile → Holds file 0 (imageOf rule state root) → AllPass rule file state deepest root headerSize
   unfolding imageOf
   front-passes file short held =
-      all-pass rule file state depth root headerSize
-      (holds-next file 0 (zeros headerSize) (tableBytes rule state depth root headerSize) headerSize (omega (arith, length-zeros headerSize)) held) short refl good
+      all-pass rule file state deepest root headerSize
+      (holds-next file 0 (zeros headerSize) (tableBytes rule state deepest root headerSize) headerSize (omega (arith, length-zeros headerSize)) held) short refl good
 
   -- the image by itself
-  pub alone-passes : length (imageOf rule state root) ≤ longestFile → AllPass rule (imageOf rule state root) state depth root headerSize
+  pub alone-passes : length (imageOf rule state root) ≤ longestFile → AllPass rule (imageOf rule state root) state deepest root headerSize
   unfolding Holds
   alone-passes short = front-passes (imageOf rule state root) short (take-length (imageOf rule state root))
 

@@ -9,7 +9,8 @@ use lib.ListN.{length}
 use Rattle.text.specs.Utf8.{isUtf8}
 use Rattle.layout.specs.declared.table.Opened.{Opened}
 use Rattle.layout.specs.declared.item.Item.{Item}
-use Rattle.layout.specs.Table.{openTable, longestFile}
+use Rattle.layout.specs.Limits.{longestFile}
+use Rattle.layout.specs.Table.{openTable}
 use Rattle.layout.specs.Item.{itemAt}
 use Rattle.layout.specs.Kind.{kindByte}
 use Rattle.read.specs.declared.lookup.Looked.{Looked}

@@ -14,10 +14,10 @@ use Rattle.words.proofs.ChoiceLaws.{pick-with}
 use Rattle.words.proofs.HashLaws.{hash-below}
 use Rattle.text.specs.Utf8.{isUtf8}
 use Rattle.text.proofs.Utf8Parts.{utf8-rest}
-use Rattle.layout.specs.Item.{rootMark}
+use Rattle.layout.specs.Item.{noItem}
 use Rattle.model.specs.Table.{Content, Rows, State, Has, isChild, fragmentAt}
 use Rattle.image.specs.Index.{hashesOf, bucketStart, itemOf, indexIn, laidIndex}
-use Rattle.image.specs.Plan.{chunkSize}
+use Rattle.layout.specs.Sizes.{chunkSize}
 use Rattle.image.specs.Image.{childrenOf, parentIndex, valueOf, coversOf, planOf}
 use Rattle.image.specs.WellFormed.{WellFormed}
 use Rattle.image.specs.Fits.{PlanFits}
@@ -62,7 +62,7 @@ module _ (table : Rows) (well : WellFormed table) where
     unfolding parentIndex pick
     parent-child i c = rw c
 
-    pub parent-root : (i : ℕ) → isChild table i ≡ false → parentIndex rule table i ≡ rootMark
+    pub parent-root : (i : ℕ) → isChild table i ≡ false → parentIndex rule table i ≡ noItem
     unfolding parentIndex pick
     parent-root i c = rw c
 
@@ -74,10 +74,10 @@ module _ (table : Rows) (well : WellFormed table) where
     parent-item i l c = rw (parent-child i c) (item-index rule table (well .once) (table .above i) (well .child i l c .member))
 
     -- an item is a child exactly when its parent word is not that of a root
-    pub child-known : (i : ℕ) → (parentIndex rule table i ≡ rootMark → ⊥) → isChild table i ≡ true
+    pub child-known : (i : ℕ) → (parentIndex rule table i ≡ noItem → ⊥) → isChild table i ≡ true
     child-known i n = ⊎-elim (λ c. c) (λ c. absurd (n (parent-root i c))) (bool-cases (isChild table i))
 
-    pub root-known : (i : ℕ) → Has (table .members) i → parentIndex rule table i ≡ rootMark → isChild table i ≡ false
+    pub root-known : (i : ℕ) → Has (table .members) i → parentIndex rule table i ≡ noItem → isChild table i ≡ false
     root-known i l e = ⊎-elim (λ c. absurd (omega (arith, parent-small i l c, well .few))) (λ c. c) (bool-cases (isChild table i))
 
 -- an index below the next bucket's word, or any index for the last bucket

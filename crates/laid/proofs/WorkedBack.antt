@@ -7,7 +7,7 @@ use Prim.Native.Nat.{ℕ, suc, _+_, _≤_}
 use native.Mathlib.Omega.{arith}
 use lib.ListN.{length}
 use Rattle.words.specs.Choice.{pick}
-use Rattle.words.specs.Store.{zeros}
+use Rattle.words.specs.Store.{copies}
 use Rattle.words.specs.Field.{spelled}
 use Rattle.words.specs.Hash.{hashFrom, hashBy, plain}
 use Rattle.words.specs.Align.{aligned}
@@ -18,10 +18,12 @@ use Rattle.read.specs.Lookup.{lookupValue, lookupTable}
 use Rattle.read.specs.Answer.{lookedBytes}
 use Rattle.model.specs.Table.{Content, times, Has, entryAt, isChild, fragmentAt, membersBelow, rowsOf}
 use Rattle.image.specs.Index.{insertKey, sortKeys, keyOrder, hashesOf, bucketOf, run, runsBelow, byBucket, bucketStart, byIndex, itemOf, indexIn, laidIndex}
-use Rattle.image.specs.Plan.{wordsOf, chunkSize, valueStart, itemBytes, payload, place, recordBytes, records, planBytes}
+use Rattle.layout.specs.Sizes.{chunkSize}
+use Rattle.image.specs.Plan.{wordsOf, valueStart, itemBytes, payload, place, recordBytes, records, planBytes}
 use Rattle.image.specs.Image.{childrenIn, childrenOf, parentIndex, childWords, valueOf, coversOf, planOf, tableBytes, imageOf}
 use Rattle.image.specs.WellFormed.{ChildFits, WellFormed, Writable}
-use Rattle.image.proofs.TimesLaws.{eq-or-ne, times-here, times-there, times-none, has-cases}
+use Rattle.words.proofs.ChoiceLaws.{eq-or-ne}
+use Rattle.image.proofs.TimesLaws.{times-here, times-there, times-none, has-cases}
 use Rattle.laid.specs.Told.{Both, AllBack}
 use Rattle.laid.specs.Sample.{sample}
 use Rattle.laid.proofs.ReadBack.{views-bytes}
@@ -94,7 +96,7 @@ root-writable = (
 )
 
 pub size : length (imageOf plain sample 0) ≡ 176
-unfolding sample pick zeros spelled hashBy hashFrom aligned precedes entryAt isChild fragmentAt membersBelow rowsOf insertKey sortKeys keyOrder hashesOf bucketOf run runsBelow byBucket bucketStart byIndex itemOf indexIn laidIndex wordsOf chunkSize valueStart itemBytes payload place recordBytes records planBytes childrenIn childrenOf parentIndex childWords valueOf coversOf planOf tableBytes imageOf
+unfolding sample pick copies spelled hashBy hashFrom aligned precedes entryAt isChild fragmentAt membersBelow rowsOf insertKey sortKeys keyOrder hashesOf bucketOf run runsBelow byBucket bucketStart byIndex itemOf indexIn laidIndex wordsOf chunkSize valueStart itemBytes payload place recordBytes records planBytes childrenIn childrenOf parentIndex childWords valueOf coversOf planOf tableBytes imageOf
 size = refl
 
 abbrev image : List ℕ

@@ -10,7 +10,7 @@ use Rattle.read.specs.Lookup.{lookupTable}
 use Rattle.check_table.specs.declared.check.Checked.{Checked}
 use Rattle.check_table.specs.Rules.{checkTable}
 use Rattle.model.specs.Table.{times, entryAt, membersBelow, rowsOf}
-use Rattle.image.specs.Plan.{chunkSize}
+use Rattle.layout.specs.Sizes.{chunkSize}
 use Rattle.image.specs.Image.{imageOf}
 use Rattle.laid.specs.Sample.{sample}
 use Rattle.laid.proofs.WorkedBack.{root-writable, size}

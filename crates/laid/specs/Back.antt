@@ -9,7 +9,8 @@ use Rattle.layout.specs.declared.item.Item.{Item}
 use Rattle.layout.specs.Kind.{kindByte}
 use Rattle.model.specs.Table.{State, kindOf}
 use Rattle.image.specs.Index.{laidIndex}
-use Rattle.image.specs.Plan.{Plan, chunkSize, place, valueStart}
+use Rattle.layout.specs.Sizes.{chunkSize}
+use Rattle.image.specs.Plan.{Plan, place, valueStart}
 use Rattle.image.specs.Image.{parentIndex, coversOf, planOf, tableBytes}
 use Rattle.image.specs.WellFormed.{Writable}
 use Rattle.image.specs.Laid.{Holds}

@@ -7,7 +7,7 @@ use lib.Dec.{ltb}
 use Rattle.words.specs.Choice.{pick}
 use Rattle.words.specs.Hash.{hashBy}
 use Rattle.text.specs.Utf8.{isUtf8}
-use Rattle.layout.specs.Item.{rootMark}
+use Rattle.layout.specs.Item.{noItem}
 use Rattle.image.specs.Plan.{Plan}
 
 -- the parent of item k is an item too, `rank` is lower for it, and its key with k's fragment behind it is k's key
@@ -18,9 +18,9 @@ pub record ChildOf (p : Plan) (key : ℕ → List ℕ) (rank : ℕ → ℕ) (k :
 
 -- the fragments from root to item, joined, are the keys; since `rank` falls towards the parent, every chain reaches a root
 pub record PlanKeys (p : Plan) (key : ℕ → List ℕ) (rank : ℕ → ℕ) : Type 0 where
-  pub few : p .count < rootMark
-  pub root : (k : ℕ) → k < p .count → p .parent k ≡ rootMark → p .fragment k ≡ key k
-  pub child : (k : ℕ) → k < p .count → (p .parent k ≡ rootMark → ⊥) → ChildOf p key rank k
+  pub few : p .count < noItem
+  pub root : (k : ℕ) → k < p .count → p .parent k ≡ noItem → p .fragment k ≡ key k
+  pub child : (k : ℕ) → k < p .count → (p .parent k ≡ noItem → ⊥) → ChildOf p key rank k
   pub utf8 : (k : ℕ) → k < p .count → isUtf8 (p .fragment k) ≡ true
   pub ranked : (k : ℕ) → k < p .count → rank k < p .count
 

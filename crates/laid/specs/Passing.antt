@@ -5,13 +5,14 @@ use mathlib.Core.Path.{_≡_}
 use mathlib.Core.List.{List}
 use lib.ListN.{length}
 use Rattle.words.specs.Store.{putAt}
-use Rattle.layout.specs.Table.{longestFile}
+use Rattle.layout.specs.Limits.{longestFile, deepest}
 use Rattle.read.specs.declared.lookup.Looked.{Looked}
 use Rattle.read.specs.Lookup.{lookupTable}
 use Rattle.check_table.specs.declared.check.Checked.{Checked}
 use Rattle.check_table.specs.Rules.{checkTable}
 use Rattle.model.specs.Table.{Content, State, Has}
-use Rattle.image.specs.Image.{headerSize, depth, tableBytes, imageOf}
+use Rattle.layout.specs.Sizes.{headerSize}
+use Rattle.image.specs.Image.{tableBytes, imageOf}
 use Rattle.image.specs.WellFormed.{Writable}
 use Rattle.image.specs.Laid.{Holds}
 use Rattle.laid.specs.Back.{endOf}
@@ -46,5 +47,5 @@ LaidTablesAllPass =
 -- every table nested in it
 abbrev pub ImagePasses : Type 0
 ImagePasses =
-    (rule : ℕ → ℕ) (state : State) (root : ℕ) → Writable state depth root → (buffer : List ℕ) → length buffer ≤ longestFile
-    → length (imageOf rule state root) ≤ length buffer → AllPass rule (putAt buffer 0 (imageOf rule state root)) state depth root headerSize
+    (rule : ℕ → ℕ) (state : State) (root : ℕ) → Writable state deepest root → (buffer : List ℕ) → length buffer ≤ longestFile
+    → length (imageOf rule state root) ≤ length buffer → AllPass rule (putAt buffer 0 (imageOf rule state root)) state deepest root headerSize

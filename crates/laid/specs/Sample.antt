@@ -1,6 +1,7 @@
 -- A table with an item of each kind: "a/" with its child "a/b", which holds 07, and "t", a table that holds "x" with 09.
 use mathlib.Core.List.{List, [], _∷_}
-use Rattle.model.specs.Table.{Content, Entry, State, noItem, rowsOf}
+use Rattle.layout.specs.Item.{noItem}
+use Rattle.model.specs.Table.{Content, Entry, State, rowsOf}
 use Rattle.model.specs.Walk.{entry}
 
 abbrev pub items : List Entry

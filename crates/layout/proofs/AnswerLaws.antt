@@ -10,7 +10,8 @@ use Rattle.words.specs.Field.{wordAt}
 use Rattle.words.specs.Bits.{bloomCount}
 use Rattle.layout.specs.declared.pointer.Pointed.{Pointed}
 use Rattle.layout.specs.Pointer.{openPointer}
-use Rattle.layout.specs.Table.{tableOf, tableIn, whereInside, openTable, longestFile}
+use Rattle.layout.specs.Limits.{longestFile}
+use Rattle.layout.specs.Table.{tableOf, tableIn, whereInside, openTable}
 use Rattle.layout.specs.Answer.{pointedNumber, openedNumber}
 
 -- a pointer: 2 for start above end, then 3, then 2 for end past the file

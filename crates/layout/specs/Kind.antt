@@ -4,11 +4,20 @@ use mathlib.Core.Bool.{Bool, _||_}
 use lib.Dec.{eqb}
 use Rattle.layout.specs.declared.kind.Kind.{Kind}
 
+abbrev pub valueKind : ℕ
+valueKind = 118
+
+abbrev pub tableKind : ℕ
+tableKind = 72
+
+abbrev pub containerKind : ℕ
+containerKind = 76
+
 abbrev pub kindByte : Kind → ℕ
-kindByte Kind.Value = 118
-kindByte Kind.Table = 72
-kindByte Kind.Container = 76
+kindByte Kind.Value = valueKind
+kindByte Kind.Table = tableKind
+kindByte Kind.Container = containerKind
 
 -- whether a byte is that of a kind
 abbrev pub kindKnown : ℕ → Bool
-kindKnown byte = eqb byte 118 || (eqb byte 72 || eqb byte 76)
+kindKnown byte = eqb byte valueKind || (eqb byte tableKind || eqb byte containerKind)

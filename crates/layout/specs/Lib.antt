@@ -1,3 +1,5 @@
+pub mod Limits
+pub mod Sizes
 pub mod Refusal
 pub mod Kind
 pub mod Pointer

@@ -11,30 +11,28 @@ use Rattle.layout.specs.declared.pointer.Pointed.{Pointed}
 use Rattle.layout.specs.declared.table.Table.{Table}
 use Rattle.layout.specs.declared.table.Opened.{Opened}
 use Rattle.layout.specs.Pointer.{openPointer}
-
--- the most bytes that a file may have
-abbrev pub longestFile : ℕ
-longestFile = 16777216
+use Rattle.layout.specs.Limits.{longestFile}
+use Rattle.layout.specs.Sizes.{headSize, bucketSize, recordSize}
 
 -- a table of `size` bytes with so many bloom words and buckets: 5, 6, 7, or its parts
 unfoldable pub tableOf : ℕ → ℕ → ℕ → ℕ → Opened
 tableOf start size blooms buckets =
-    pick (ltb size (8 + 4 * blooms)) (Opened.Refused BloomTooLong)
-    (pick (ltb size (8 + 4 * blooms + 4 * buckets)) (Opened.Refused BucketsTooLong)
-    (pick (eqb ((size - (8 + 4 * blooms + 4 * buckets)) % 24) 0)
+    pick (ltb size (headSize + 4 * blooms)) (Opened.Refused BloomTooLong)
+    (pick (ltb size (headSize + 4 * blooms + bucketSize * buckets)) (Opened.Refused BucketsTooLong)
+    (pick (eqb ((size - (headSize + 4 * blooms + bucketSize * buckets)) % recordSize) 0)
     (Opened.Table (record {
       start = start;
       blooms = blooms;
       buckets = buckets;
-      items = start + (8 + 4 * blooms + 4 * buckets);
-      count = (size - (8 + 4 * blooms + 4 * buckets)) / 24;
+      items = start + (headSize + 4 * blooms + bucketSize * buckets);
+      count = (size - (headSize + 4 * blooms + bucketSize * buckets)) / recordSize;
     }))
     (Opened.Refused ItemsUneven)))
 
 -- word 0: its low 27 bits are the number of bloom words; word 1: the number of buckets; 4 where they are missing
 unfoldable pub tableIn : List ℕ → ℕ → ℕ → Opened
 tableIn file start end =
-    pick (ltb (end - start) 8) (Opened.Refused TableTooShort)
+    pick (ltb (end - start) headSize) (Opened.Refused TableTooShort)
     (tableOf start (end - start) (bloomCount (wordAt file start)) (wordAt file (start + 4)))
 
 -- a pointer's refusal is the table's
@@ -51,5 +49,5 @@ openTable file start end =
 -- the table lies in the file, which is short: what every reader of a table needs
 pub record InFile (file : List ℕ) (t : Table) : Type 0 where
   pub short : length file ≤ longestFile
-  pub head : t .start + 8 + 4 * t .blooms + 4 * t .buckets ≤ t .items
-  pub items : t .items + 24 * t .count ≤ length file
+  pub head : t .start + headSize + 4 * t .blooms + bucketSize * t .buckets ≤ t .items
+  pub items : t .items + recordSize * t .count ≤ length file

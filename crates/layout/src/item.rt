@@ -1,6 +1,7 @@
-// An item of a table: 24 bytes, read byte by byte into the format's widths.
+// An item of a table, read byte by byte into the format's widths.
 use crate::pointer::Pointed;
 use crate::pointer::open_pointer;
+use crate::sizes::RECORD_SIZE;
 use crate::table::Table;
 use words::align::Alignment;
 use words::field::half_at;
@@ -13,6 +14,9 @@ ghost use Rattle.words.specs.Align.{alignmentOf};
 ghost use Rattle.layout.specs.Pointer.{openPointer};
 ghost use Rattle.layout.specs.Table.{InFile};
 ghost use Rattle.layout.specs.Item.{itemAt};
+
+// The index that is no item: the parent of a root.
+pub const NO_ITEM: u32 = 0xFFFF_FFFF;
 
 // gvdb-rs: HashItem.
 // The fields of one item. In the file, from its first byte on, numbers little endian:
@@ -48,7 +52,7 @@ pub fn item_at(file: &[u8], table: Table, index: usize) -> Item
     requires { ⌜ InFile (now file) table × (index < table .count) ⌝ }
     ensures { λ r. ⌜ r ≡ itemAt (now (file .entry)) table index ⌝ }
 {
-    let at = table.items + 24 * index;
+    let at = table.items + RECORD_SIZE * index;
     Item {
         hash: word_at(file, at),
         parent: word_at(file, at + 4),

@@ -2,6 +2,19 @@
 ghost use mathlib.Core.Path.{_≡_};
 ghost use Rattle.layout.specs.Kind.{kindByte, kindKnown};
 
+// The bytes, and the same as words.
+pub const VALUE_BYTE: u8 = b'v';
+
+pub const TABLE_BYTE: u8 = b'H';
+
+pub const CONTAINER_BYTE: u8 = b'L';
+
+pub const VALUE_KIND: usize = VALUE_BYTE as usize;
+
+pub const TABLE_KIND: usize = TABLE_BYTE as usize;
+
+pub const CONTAINER_KIND: usize = CONTAINER_BYTE as usize;
+
 pub enum Kind {
     Value,
     Table,
@@ -14,9 +27,9 @@ pub fn byte_of(kind: Kind) -> u8
     ensures { λ r. ⌜ r ≡ kindByte kind ⌝ }
 {
     match kind {
-        Kind::Value => b'v',
-        Kind::Table => b'H',
-        Kind::Container => b'L',
+        Kind::Value => VALUE_BYTE,
+        Kind::Table => TABLE_BYTE,
+        Kind::Container => CONTAINER_BYTE,
     }
 }
 
@@ -25,5 +38,5 @@ pub fn byte_of(kind: Kind) -> u8
 pub fn kind_known(byte: u8) -> bool
     ensures { λ r. ⌜ r ≡ kindKnown byte ⌝ }
 {
-    (byte == b'v') | ((byte == b'H') | (byte == b'L'))
+    (byte == VALUE_BYTE) | ((byte == TABLE_BYTE) | (byte == CONTAINER_BYTE))
 }

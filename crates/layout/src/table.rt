@@ -1,7 +1,11 @@
 // A table and its opening.
+use crate::limits::LONGEST_FILE;
 use crate::pointer::Pointed;
 use crate::pointer::open_pointer;
 use crate::refusal::Refusal;
+use crate::sizes::BUCKET_SIZE;
+use crate::sizes::HEAD_SIZE;
+use crate::sizes::RECORD_SIZE;
 use words::align::Alignment;
 use words::bits::bloom_count;
 use words::field::word_at;
@@ -10,9 +14,6 @@ ghost use mathlib.Core.Path.{_≡_};
 ghost use Prim.Native.Nat.{_≤_};
 ghost use lib.ListN.{length};
 ghost use Rattle.layout.specs.Table.{tableIn, openTable};
-
-// The most bytes that a file may have.
-pub const LONGEST_FILE: usize = 16_777_216;
 
 // gvdb-rs: HashTable, HashHeader.
 // An open table: where it starts, its counts, and where its items start. In the file, in bytes, numbers little endian:
@@ -51,21 +52,21 @@ fn table_in(file: &[u8], start: usize, end: usize) -> Opened
     ensures { λ r. ⌜ r ≡ tableIn (now (file .entry)) start end ⌝ }
 {
     let size = end - start;
-    if size < 8 {
+    if size < HEAD_SIZE {
         return Opened::Refused(Refusal::TableTooShort);
     }
     let blooms = word_size(bloom_count(word_at(file, start)));
     let buckets = word_size(word_at(file, start + 4));
-    let buckets_from = 8 + 4 * blooms;
+    let buckets_from = HEAD_SIZE + 4 * blooms;
     if size < buckets_from {
         return Opened::Refused(Refusal::BloomTooLong);
     }
-    let items_from = buckets_from + 4 * buckets;
+    let items_from = buckets_from + BUCKET_SIZE * buckets;
     if size < items_from {
         return Opened::Refused(Refusal::BucketsTooLong);
     }
     let item_bytes = size - items_from;
-    if item_bytes % 24 != 0 {
+    if item_bytes % RECORD_SIZE != 0 {
         return Opened::Refused(Refusal::ItemsUneven);
     }
     Opened::Table(Table {
@@ -73,7 +74,7 @@ fn table_in(file: &[u8], start: usize, end: usize) -> Opened
         blooms,
         buckets,
         items: start + items_from,
-        count: item_bytes / 24,
+        count: item_bytes / RECORD_SIZE,
     })
 }
 

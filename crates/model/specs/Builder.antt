@@ -8,27 +8,15 @@ use lib.ListN.{length, getD, set, drop}
 use Rattle.words.specs.Choice.{pick}
 use Rattle.text.specs.Utf8.{isUtf8}
 use Rattle.text.specs.Prefix.{prefixes}
+use Rattle.layout.specs.Limits.{longestKey, mostItems, mostTables, deepest}
 use Rattle.layout.specs.declared.refusal.Refusal.{Refusal}
 use Rattle.layout.specs.declared.refusal.Refusal.the-variants.{KeyNotUtf8, KeyTooLong, NotContainer, TooManyItems, ArenaFull, TableUnknown, TableInItself, NestedTooDeep, TooManyTables, SeparatorOutside}
 use Rattle.model.specs.declared.Inserted.{Inserted}
 use Rattle.model.specs.declared.Added.{Added}
 use Rattle.model.specs.declared.Counted.{Counted}
-use Rattle.model.specs.Table.{Content, Entry, entryAt, noItem, kindOf, membersBelow}
+use Rattle.layout.specs.Item.{noItem}
+use Rattle.model.specs.Table.{Content, Entry, entryAt, kindOf, membersBelow}
 use Rattle.model.specs.Walk.{findKey, isThere, Walked, walk, keyRoom}
-
--- ---- the limits
-
-abbrev pub longestKey : ℕ
-longestKey = 1024
-
-abbrev pub mostItems : ℕ
-mostItems = 1024
-
-abbrev pub mostTables : ℕ
-mostTables = 64
-
-abbrev pub deepest : ℕ
-deepest = 8
 
 -- ---- what a builder holds
 

@@ -5,6 +5,7 @@ use mathlib.Core.List.{List, [], _∷_, _++_}
 use lib.Dec.{eqb}
 use lib.ListN.{length, getD, drop}
 use Rattle.words.specs.Choice.{pick}
+use Rattle.layout.specs.Item.{noItem}
 use Rattle.layout.specs.declared.kind.Kind.{Kind}
 
 -- what an item holds: the bytes of a value, a table by its number, or children
@@ -29,10 +30,6 @@ pub record Entry : Type 0 where
   pub key : List ℕ
   pub content : Content
   pub above : ℕ
-
--- the index that no item has
-abbrev pub noItem : ℕ
-noItem = 4294967295
 
 abbrev pub noEntry : Entry
 noEntry = record { table = 0; key = []; content = Content.bytes []; above = noItem }

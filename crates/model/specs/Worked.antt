@@ -10,8 +10,9 @@ use Rattle.text.specs.Prefix.{endsFrom, prefixes}
 use Rattle.layout.specs.declared.kind.Kind.{Kind}
 use Rattle.layout.specs.declared.refusal.Refusal.{Refusal}
 use Rattle.model.specs.declared.Inserted.{Inserted}
+use Rattle.layout.specs.Item.{noItem}
 use Rattle.model.specs.declared.Added.{Added}
-use Rattle.model.specs.Table.{Content, entryAt, noItem}
+use Rattle.model.specs.Table.{Content, entryAt}
 use Rattle.model.specs.Walk.{entry, findKey, putKey, walk, keyRoom}
 use Rattle.model.specs.Builder.{Builder, Result, result, fresh, standingAt, freeStanding, separatorOf, newTable, news, usedAfter, counted, atWalked, put, keyed, insertValue}
 

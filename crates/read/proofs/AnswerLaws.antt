@@ -17,7 +17,7 @@ use Rattle.layout.specs.declared.item.Item.{Item}
 use Rattle.layout.specs.Refusal.{number}
 use Rattle.layout.specs.Pointer.{openPointer}
 use Rattle.layout.specs.Table.{openTable}
-use Rattle.layout.specs.Item.{itemAt, rootMark}
+use Rattle.layout.specs.Item.{itemAt, noItem}
 use Rattle.layout.specs.Answer.{pointedNumber, openedNumber}
 use Rattle.layout.proofs.AnswerLaws.{pointer-inside-is}
 use Rattle.read.specs.declared.lookup.Found.{Found}
@@ -140,11 +140,11 @@ module _ (file : List ℕ) (t : Table) (steps i : ℕ) where
       pub key-step : climbFrom file (t .count) (itemAt file t i) ≡ parentOf (t .count) (itemAt file t i .parent)
       key-step = climb-on file (t .count) (itemAt file t i) (fragment-inside file (itemAt file t i .key) (itemAt file t i .size) inside) text
 
-      pub key-root : itemAt file t i .parent ≡ rootMark → keyOf file t (suc steps) i ≡ Joined.joined (fragmentOf file (itemAt file t i))
+      pub key-root : itemAt file t i .parent ≡ noItem → keyOf file t (suc steps) i ≡ Joined.joined (fragmentOf file (itemAt file t i))
       unfolding keyOf joinStep parentOf pick
       key-root e = rw (key-step, eq-eqb _ _ e)
 
-      module _ (child : itemAt file t i .parent ≡ rootMark → ⊥) where
+      module _ (child : itemAt file t i .parent ≡ noItem → ⊥) where
         pub key-10 : t .count ≤ itemAt file t i .parent → keyOf file t (suc steps) i ≡ Joined.broken ParentOutside
         unfolding keyOf joinStep parentOf pick
         key-10 past = rw (key-step, ne-eqb _ _ child, le-ltb _ _ past)

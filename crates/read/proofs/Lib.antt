@@ -9,5 +9,4 @@ pub mod SoughtLaws
 pub mod Plain
 pub mod SelfParent
 pub mod TwoFilterWords
-pub mod Unique
 pub mod AnswerLaws

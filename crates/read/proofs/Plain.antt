@@ -18,7 +18,7 @@ use Rattle.layout.specs.declared.table.Table.{Table}
 use Rattle.layout.specs.declared.item.Item.{Item}
 use Rattle.layout.specs.Pointer.{openPointer}
 use Rattle.layout.specs.Table.{openTable, InFile}
-use Rattle.layout.specs.Item.{itemAt, rootMark}
+use Rattle.layout.specs.Item.{itemAt, noItem}
 use Rattle.read.specs.declared.chain.Step.{Step}
 use Rattle.read.specs.declared.lookup.Run.{Run}
 use Rattle.read.specs.declared.lookup.Found.{Found}
@@ -174,8 +174,8 @@ module _ (file : List ℕ) (t : Table) (i : ℕ) (lies : InFile file t) (below :
   own-step : climbFrom file (t .count) (itemAt file t i) ≡ Step.Up i
   unfolding parentOf pick
   own-step =
-      let no-root : (i ≡ rootMark → ⊥) = λ e. omega (arith, lies .short, lies .items) in
-      climb-on file (t .count) (itemAt file t i) opens text ∙ rw (own, ne-eqb i rootMark no-root, lt-ltb i (t .count) below)
+      let no-root : (i ≡ noItem → ⊥) = λ e. omega (arith, lies .short, lies .items) in
+      climb-on file (t .count) (itemAt file t i) opens text ∙ rw (own, ne-eqb i noItem no-root, lt-ltb i (t .count) below)
 
   -- its chain never reaches a root, however many steps it is given
   pub self-parent-ends : (steps : ℕ) → keyOf file t steps i ≡ Joined.broken ParentsEndless

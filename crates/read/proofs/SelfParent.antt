@@ -4,7 +4,7 @@ use Prim.Native.Nat.{ℕ}
 use mathlib.Core.Path.{_≡_, refl}
 use mathlib.Core.List.{List, [], _∷_, _++_}
 use Rattle.words.specs.Choice.{pick}
-use Rattle.words.specs.Store.{zeros}
+use Rattle.words.specs.Store.{zeros, copies}
 use Rattle.words.specs.Field.{field}
 use Rattle.words.specs.Field as fields
 use Rattle.words.specs.Bits.{bloomCount}
@@ -28,13 +28,13 @@ selfParent =
     ++ (5 ∷ 21 ∷ 0 ∷ 0 ∷ 0 ∷ 0 ∷ 0 ∷ 0 ∷ 60 ∷ 0 ∷ 0 ∷ 0 ∷ 0 ∷ 0 ∷ 118 ∷ 0 ∷ 0 ∷ 0 ∷ 0 ∷ 0 ∷ 0 ∷ 0 ∷ 0 ∷ 0 ∷ [])
 
 pub self-parent-opens : openedNumber (openTable selfParent 24 60) ≡ 0
-unfolding selfParent zeros openTable openPointer tableIn tableOf bloomCount field fields.littleEndian openedNumber pick
+unfolding selfParent copies openTable openPointer tableIn tableOf bloomCount field fields.littleEndian openedNumber pick
 self-parent-opens = refl
 
 pub self-parent-11 : listedNumber (listed (keyAt selfParent 24 60 0) 16 0) ≡ 11
-unfolding selfParent zeros openTable openPointer tableIn tableOf bloomCount field fields.littleEndian pick keyAt keyOpened keyIn keyOf joinStep append climbFrom afterPointer parentOf fragmentOf isUtf8 firstBad goodFrom itemAt listed listedNumber
+unfolding selfParent copies openTable openPointer tableIn tableOf bloomCount field fields.littleEndian pick keyAt keyOpened keyIn keyOf joinStep append climbFrom afterPointer parentOf fragmentOf isUtf8 firstBad goodFrom itemAt listed listedNumber
 self-parent-11 = refl
 
 pub self-parent-12 : lookedNumber (lookupValue plain selfParent 24 60 []) ≡ 12
-unfolding selfParent zeros openTable openPointer tableIn tableOf bloomCount field fields.littleEndian pick keyOf joinStep append climbFrom afterPointer parentOf fragmentOf isUtf8 firstBad goodFrom itemAt names hashBy hashFrom bloomPasses bucketWord runOf itemMatches firstFrom firstOf findItem atFound lookupIn atOpened lookupItem atItem lookupValue lookedNumber
+unfolding selfParent copies openTable openPointer tableIn tableOf bloomCount field fields.littleEndian pick keyOf joinStep append climbFrom afterPointer parentOf fragmentOf isUtf8 firstBad goodFrom itemAt names hashBy hashFrom bloomPasses bucketWord runOf itemMatches firstFrom firstOf findItem atFound lookupIn atOpened lookupItem atItem lookupValue lookedNumber
 self-parent-12 = refl

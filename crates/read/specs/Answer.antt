@@ -46,8 +46,3 @@ unfoldable pub valuedPointer : Valued → ℕ × ℕ
 valuedPointer (Valued.Value index start end next) = (start, end)
 valuedPointer (Valued.Unopened why index next) = (0, 0)
 valuedPointer (Valued.Refused why) = (0, 0)
-
-unfoldable pub valuedBytes : List ℕ → Valued → List ℕ
-valuedBytes file (Valued.Value index start end next) = part file start (end - start)
-valuedBytes file (Valued.Unopened why index next) = []
-valuedBytes file (Valued.Refused why) = []

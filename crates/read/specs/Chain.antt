@@ -14,7 +14,7 @@ use Rattle.layout.specs.declared.pointer.Pointed.{Pointed}
 use Rattle.layout.specs.declared.table.Table.{Table}
 use Rattle.layout.specs.declared.item.Item.{Item}
 use Rattle.layout.specs.Pointer.{openPointer}
-use Rattle.layout.specs.Item.{itemAt, rootMark}
+use Rattle.layout.specs.Item.{itemAt, noItem}
 use Rattle.read.specs.declared.chain.Step.{Step}
 use Rattle.read.specs.declared.chain.Matched.{Matched}
 
@@ -25,7 +25,7 @@ fragmentOf file item = part file (item .key) (item .size)
 -- a root, or the parent; 10 where its index is not below the item count
 unfoldable pub parentOf : ℕ → ℕ → Step
 parentOf count parent =
-    pick (eqb parent rootMark) Step.Root
+    pick (eqb parent noItem) Step.Root
     (pick (ltb parent count) (Step.Up parent) (Step.Refused ParentOutside))
 
 unfoldable pub afterPointer : Pointed → Step → Step

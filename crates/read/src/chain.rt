@@ -1,5 +1,6 @@
 // An item's key, through its parents: the step from an item to its parent, and whether an item's chain names a key.
 use layout::item::Item;
+use layout::item::NO_ITEM;
 use layout::item::item_at;
 use layout::pointer::Pointed;
 use layout::pointer::open_pointer;
@@ -37,7 +38,7 @@ pub enum Matched {
 pub fn parent_of(count: usize, parent: u32) -> Step
     ensures { λ r. ⌜ r ≡ parentOf count parent ⌝ }
 {
-    if parent == 0xFFFF_FFFF {
+    if parent == NO_ITEM {
         return Step::Root;
     }
     let at = word_size(parent);

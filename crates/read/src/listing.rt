@@ -4,6 +4,7 @@ use crate::chain::climb;
 use crate::chain::parent_of;
 use layout::item::item_at;
 use layout::item::open_value;
+use layout::kind::VALUE_BYTE;
 use layout::pointer::Pointed;
 use layout::refusal::Refusal;
 use layout::table::Opened;
@@ -150,7 +151,7 @@ fn next_value_index(file: &[u8], table: Table, from: usize) -> usize
             break count;
         }
         let item = item_at(file, table, at);
-        if item.kind == b'v' {
+        if item.kind == VALUE_BYTE {
             break at;
         }
         at += 1;

@@ -3,12 +3,13 @@ use crate::chain::chain_names;
 use layout::item::Item;
 use layout::item::item_at;
 use layout::item::open_value;
+use layout::kind::TABLE_BYTE;
+use layout::kind::VALUE_BYTE;
 use layout::pointer::Pointed;
 use layout::refusal::Refusal;
 use layout::table::Opened;
 use layout::table::Table;
 use layout::table::open_table;
-use text::ascii::is_ascii;
 use text::utf8::is_utf8;
 use words::align::Alignment;
 use words::bits::bit_set;
@@ -18,7 +19,6 @@ use words::wide::word_size;
 ghost use mathlib.Core.Path.{_≡_};
 ghost use Prim.Native.Nat.{_<_};
 ghost use Rattle.words.specs.Hash.{plain, hashOf};
-ghost use Rattle.text.specs.Utf8.{isUtf8};
 ghost use Rattle.layout.specs.Table.{InFile};
 ghost use Rattle.read.specs.Find.{bloomPasses, runOf, itemMatches, firstOf, findItem};
 ghost use Rattle.read.specs.Lookup.{lookupIn, lookupItem, valueOf, nestedOf, lookupValue, lookupTable};
@@ -137,22 +137,12 @@ pub fn find_item(file: &[u8], table: Table, key: &[u8]) -> Found
     }
 }
 
-// Whether a key is UTF-8: an ASCII key is, and most are ASCII.
-fn is_key(key: &[u8]) -> bool
-    ensures { λ r. ⌜ r ≡ isUtf8 (now (key .entry)) ⌝ }
-{
-    if is_ascii(key) {
-        return true;
-    }
-    is_utf8(key)
-}
-
 // The item of a key in an open table: 8, 12, or the item.
 fn lookup_in(file: &[u8], table: Table, key: &[u8]) -> Sought
     requires { ⌜ InFile (now file) table ⌝ }
     ensures { λ r. ⌜ r ≡ lookupIn plain (now (file .entry)) (now (key .entry)) table ⌝ }
 {
-    if is_key(key) {
+    if is_utf8(key) {
         match find_item(file, table, key) {
             Found::Nothing => Sought::Refused(Refusal::KeyNotFound),
             Found::At(index) => Sought::Item(item_at(file, table, index)),
@@ -177,7 +167,7 @@ fn lookup_item(file: &[u8], start: u32, end: u32, key: &[u8]) -> Sought
 fn value_of(file: &[u8], item: Item) -> Looked
     ensures { λ r. ⌜ r ≡ valueOf (now (file .entry)) item ⌝ }
 {
-    if item.kind != b'v' {
+    if item.kind != VALUE_BYTE {
         return Looked::Refused(Refusal::OtherKind);
     }
     match open_value(file, item, Alignment::Value) {
@@ -193,7 +183,7 @@ fn value_of(file: &[u8], item: Item) -> Looked
 fn nested_of(file: &[u8], item: Item) -> Looked
     ensures { λ r. ⌜ r ≡ nestedOf (now (file .entry)) item ⌝ }
 {
-    if item.kind != b'H' {
+    if item.kind != TABLE_BYTE {
         return Looked::Refused(Refusal::OtherKind);
     }
     match open_table(file, item.from, item.to) {

@@ -1,17 +1,17 @@
 -- What tables ask of UTF-8: texts joined are a text, behind a whole text the rest is a text, and a text cut behind an ASCII byte is a text.
 use mathlib.Core.Path.{_≡_, refl, sym, ap, _∙_}
-use mathlib.Core.Logic.{⊎-elim, _⊎_, inl, inr}
-use mathlib.Core.Bool.{Bool, true, false, _&&_, _||_}
+use mathlib.Core.Logic.{⊎-elim, _⊎_}
+use mathlib.Core.Bool.{Bool, true, false, _&&_}
 use mathlib.Core.List.{List, [], _∷_, _++_}
 use Prim.Native.Nat.{ℕ, zero, suc, _+_, _-_, _≤_, _<_}
 use native.Mathlib.Omega.{arith}
 use lib.ListN.{length, getD, take, length-append}
 use lib.Seq.{length-take-le}
-use borrow.Author.Tests.{leb-true, leb-false, eqb-true, eq-eqb}
+use borrow.Author.Tests.{leb-true, eqb-true, eq-eqb}
 use lib.Dec.{leb, eqb}
 use Rattle.text.specs.Utf8.{between, tail, isTwo, startsThree, startsFour, firstOf, sequenceLen, stepLen, oneMore, goodFrom, firstBad, isUtf8}
 use Rattle.text.proofs.Utf8Laws.{first-bad-append, valid-append, step-take, len-1, sequence-below}
-use Rattle.words.proofs.ChoiceLaws.{both}
+use Rattle.words.proofs.ChoiceLaws.{both, either, lt-or-ge}
 
 valid-rest : (a b : List ℕ) → firstBad a ≡ length a → firstBad (a ++ b) ≡ length (a ++ b) → firstBad b ≡ length b
 valid-rest a b e f = omega (arith, first-bad-append a b e, length-append a b)
@@ -25,10 +25,6 @@ pub whole-utf8 : (s : List ℕ) → firstBad s ≡ length s → isUtf8 s ≡ tru
 unfolding isUtf8
 whole-utf8 s e = eq-eqb (firstBad s) (length s) e
 
-pub utf8-none : isUtf8 [] ≡ true
-unfolding isUtf8 firstBad goodFrom
-utf8-none = refl
-
 -- two texts joined are a text
 pub utf8-append : (a b : List ℕ) → isUtf8 a ≡ true → isUtf8 b ≡ true → isUtf8 (a ++ b) ≡ true
 utf8-append a b ea eb = whole-utf8 (a ++ b) (valid-append a b (utf8-whole a ea) (utf8-whole b eb))
@@ -38,10 +34,6 @@ pub utf8-rest : (a b : List ℕ) → isUtf8 a ≡ true → isUtf8 (a ++ b) ≡ t
 utf8-rest a b ea e = whole-utf8 b (valid-rest a b (utf8-whole a ea) (utf8-whole (a ++ b) e))
 
 -- ---- the later bytes of a character are no ASCII bytes
-
-or-cases : (p q : Bool) → (p || q) ≡ true → (p ≡ true) ⊎ (q ≡ true)
-or-cases true q e = inl refl
-or-cases false q e = inr e
 
 between-low : (low high b : ℕ) → between low high b ≡ true → low ≤ b
 unfolding between
@@ -62,7 +54,7 @@ three-high a b e =
     (λ q. ⊎-elim (λ p. tail-high b (both (between 0xE1 0xEC a) (tail b) p .1))
     (λ r. ⊎-elim (λ p. between-low 0x80 0x9F b (both (eqb a 0xED) (between 0x80 0x9F b) p .1))
     (λ p. tail-high b (both (between 0xEE 0xEF a) (tail b) p .1))
-    (or-cases _ _ r)) (or-cases _ _ q)) (or-cases _ _ e)
+    (either _ _ r)) (either _ _ q)) (either _ _ e)
 
 four-high : (a b : ℕ) → startsFour a b ≡ true → 128 ≤ b
 unfolding startsFour
@@ -70,7 +62,7 @@ four-high a b e =
     ⊎-elim (λ p. omega (arith, between-low 0x90 0xBF b (both (eqb a 0xF0) (between 0x90 0xBF b) p .1)))
     (λ q. ⊎-elim (λ p. tail-high b (both (between 0xF1 0xF3 a) (tail b) p .1))
     (λ p. between-low 0x80 0x8F b (both (eqb a 0xF4) (between 0x80 0x8F b) p .1))
-    (or-cases _ _ q)) (or-cases _ _ e)
+    (either _ _ q)) (either _ _ e)
 
 -- which bytes behind the first are high, by the length
 Later : ℕ → ℕ → ℕ → ℕ → Type 0
@@ -106,13 +98,6 @@ step-later a s (suc (suc (suc j))) h = absurd (omega (arith, sequence-below a (g
 Cut : List ℕ → ℕ → Type 0
 Cut s k = (e : ℕ) → k ≤ e → e < length s → getD s e 0 < 128 → goodFrom k s ≡ length s → goodFrom k (take (suc e) s) ≡ suc e
 
-less-or-not : (a b : ℕ) → (a < b) ⊎ (b ≤ a)
-less-or-not a b = by (leb b a) refl
-  where
-    by : (t : Bool) → leb b a ≡ t → (a < b) ⊎ (b ≤ a)
-    by true e = inr (leb-true b a e)
-    by false e = inl (leb-false b a e)
-
 pub step-ascii : (b : ℕ) (s : List ℕ) → b < 128 → stepLen (b ∷ s) ≡ 1
 unfolding stepLen
 step-ascii b s h = sym (len-1 b (getD s 0 0) (getD s 1 0) (getD s 2 0) (omega arith))
@@ -125,7 +110,7 @@ cut-one-more b s rest (suc k) step zero l low good =
     let one : k ≡ 0 = omega (arith, step-ascii b s low) in
     rw (step-take (b ∷ s) 1 k step (omega arith))
 cut-one-more b s rest (suc k) step (suc e) l low good =
-    let behind : k ≤ e = ⊎-elim (λ h. absurd (omega (arith, step-later b s e (omega arith)))) (λ h. h) (less-or-not e k) in
+    let behind : k ≤ e = ⊎-elim (λ h. absurd (omega (arith, step-later b s e (omega arith)))) (λ h. h) (lt-or-ge e k) in
     rw (step-take (b ∷ s) (suc (suc e)) k step (omega arith)) (ap suc (rest k e behind (omega arith) low (omega arith)))
 
 cut : (k : ℕ) (s : List ℕ) → Cut s k

@@ -81,7 +81,7 @@ pub none-allowed : All false illFormed
 unfolding between tail isTwo startsThree startsFour firstOf sequenceLen stepLen oneMore goodFrom firstBad isUtf8
 none-allowed = refl
 
--- the place of the first bad sequence is where it begins: "é", "a", and the half of an "é"
+-- the offset of the first bad sequence is where it starts: "é", "a", and the half of an "é"
 pub where-bad : firstBad (0xC3 ∷ 0xA9 ∷ 0x61 ∷ 0xC3 ∷ []) ≡ 3
 unfolding between tail isTwo startsThree startsFour firstOf sequenceLen stepLen oneMore goodFrom firstBad isUtf8
 where-bad = refl

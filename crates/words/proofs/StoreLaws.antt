@@ -8,7 +8,7 @@ use native.Mathlib.Numerals.{add-one}
 use native.Mathlib.Omega.{arith}
 use lib.ListN.{length, getD, take, drop, set, length-set, length-drop, length-replicate, getD-replicate, take-append-drop}
 use lib.Seq.{sets, sets-eq, set-comm, take-set-lt, take-set-le, drop-set-lt, drop-set-add, take-suc, take-at, drop-at, take-all, take-take, drop-drop, length-take-le, getD-take, getD-drop}
-use Rattle.words.specs.Store.{part, putAt, zeros}
+use Rattle.words.specs.Store.{part, putAt, copies, zeros}
 
 -- ---- one store
 
@@ -134,20 +134,26 @@ copy-turn l at src j h =
 pub copy-end : (l : List ℕ) (at : ℕ) (src : List ℕ) (j : ℕ) → length src ≤ j → putAt l at (take j src) ≡ putAt l at src
 copy-end l at src j h = rw (take-all j src h)
 
--- ---- zeros
+-- ---- copies of one element
+
+pub length-copies : (n v : ℕ) → length (copies n v) ≡ n
+unfolding copies
+length-copies n v = length-replicate n v
+
+pub get-copies : (n v i : ℕ) → i < n → getD (copies n v) i 0 ≡ v
+unfolding copies
+get-copies n v i h = getD-replicate n i v 0 h
+
+-- one more
+pub fill-turn : (l : List ℕ) (at n v i : ℕ) → i < n → set (putAt l at (take i (copies n v))) (at + i) v ≡ putAt l at (take (i + 1) (copies n v))
+fill-turn l at n v i h =
+    ap (set (putAt l at (take i (copies n v))) (at + i)) (sym (get-copies n v i h)) ∙ copy-turn l at (copies n v) i (omega (arith, length-copies n v))
+
+pub fill-end : (l : List ℕ) (at n v i : ℕ) → n ≤ i → putAt l at (take i (copies n v)) ≡ putAt l at (copies n v)
+fill-end l at n v i h = copy-end l at (copies n v) i (omega (arith, length-copies n v))
 
 pub length-zeros : (n : ℕ) → length (zeros n) ≡ n
-unfolding zeros
-length-zeros n = length-replicate {A = ℕ} n 0
-
-pub get-zeros : (n i : ℕ) → i < n → getD (zeros n) i 0 ≡ 0
-unfolding zeros
-get-zeros n i h = getD-replicate n i 0 0 h
-
--- a zero more
-pub zero-turn : (l : List ℕ) (at n i : ℕ) → i < n → set (putAt l at (take i (zeros n))) (at + i) 0 ≡ putAt l at (take (i + 1) (zeros n))
-zero-turn l at n i h =
-    ap (set (putAt l at (take i (zeros n))) (at + i)) (sym (get-zeros n i h)) ∙ copy-turn l at (zeros n) i (omega (arith, length-zeros n))
+length-zeros n = length-copies n 0
 
 -- ---- a part of a part
 

@@ -12,6 +12,9 @@ unfoldable pub putAt : List ℕ → ℕ → List ℕ → List ℕ
 putAt l at [] = l
 putAt l at (v ∷ vs) = putAt (set l at v) (suc at) vs
 
--- n zeros
-unfoldable pub zeros : ℕ → List ℕ
-zeros n = replicate n 0
+-- n times v
+unfoldable pub copies : ℕ → ℕ → List ℕ
+copies n v = replicate n v
+
+abbrev pub zeros : ℕ → List ℕ
+zeros n = copies n 0

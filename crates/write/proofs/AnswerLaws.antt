@@ -4,41 +4,25 @@ use mathlib.Core.Bool.{Bool, true, false, _||_}
 use mathlib.Core.List.{List, _++_}
 use Prim.Native.Nat.{ℕ, _+_, _*_, _≤_, _<_}
 use native.Mathlib.Omega.{arith}
-use borrow.Author.Tests.{lt-ltb, le-ltb, ltb-true}
-use lib.Dec.{eqb, ltb}
+use borrow.Author.Tests.{lt-ltb, le-ltb}
+use lib.Dec.{ltb}
 use lib.ListN.{length, take, drop}
 use Rattle.words.specs.Choice.{pick}
 use Rattle.words.specs.Store.{putAt}
-use Rattle.words.proofs.ChoiceLaws.{pick-true, pick-false, both}
+use Rattle.words.proofs.ChoiceLaws.{pick-true, pick-false, or-one}
 use Rattle.words.proofs.StoreLaws.{put-front}
-use Rattle.layout.specs.Table.{longestFile}
+use Rattle.layout.specs.Limits.{longestFile, deepest}
 use Rattle.layout.specs.declared.refusal.Refusal.the-variants.{MemoryBroken, TableUnknown, EmptyKey, ImageTooLong}
-use Rattle.build_memory.specs.Memory.{tableTotal, tablePlaced}
 use Rattle.build_rules.specs.Valid.{fullyValid}
-use Rattle.image.specs.Plan.{chunkSize}
-use Rattle.image.specs.Image.{headerSize, depth}
+use Rattle.layout.specs.Sizes.{headerSize, chunkSize}
 use Rattle.write_bytes.specs.Numbered.{slotCount, numberedImage}
 use Rattle.write_numbers.specs.Roster.{stateOf}
 use Rattle.write.specs.declared.Written.{Written}
-use Rattle.write.specs.Write.{hasEmpty, freeStanding, tooLong, imageFor, writeAnswer, laidBy, imageAfter}
+use Rattle.build_tables.specs.Table.{freeStanding}
+use Rattle.write.specs.Write.{hasEmpty, tooLong, imageFor, writeAnswer, laidBy, imageAfter}
 use Rattle.write.specs.Answer.{sizeAnswer, fitAnswer, tableAnswer}
 use Rattle.write.specs.NumberedAs.{NumberedAs}
 use Rattle.write.proofs.NumberedLaws.{numbered-image, numbered-count}
-
--- ---- the table
-
-module _ (ws : List ℕ) (t : ℕ) where
-  pub free-unknown : tableTotal ws ≤ t → false ≡ freeStanding ws t
-  unfolding freeStanding
-  free-unknown h = simp (le-ltb _ _ h)
-
-  pub free-known : t < tableTotal ws → (placed : ℕ) → placed ≡ tablePlaced ws t → eqb placed 0 ≡ freeStanding ws t
-  unfolding freeStanding
-  free-known h placed e = simp (lt-ltb _ _ h, e)
-
-  pub free-below : freeStanding ws t ≡ true → t < tableTotal ws
-  unfolding freeStanding
-  free-below e = ltb-true _ _ (both (ltb t (tableTotal ws)) _ e .0)
 
 -- ---- an answer, and what it lays
 
@@ -72,17 +56,13 @@ all-laid start end size image before = refl
 -- ---- by size
 
 module _ (room count size : ℕ) where
-  or-true : (p q : Bool) → q ≡ true → (p || q) ≡ true
-  or-true true q e = refl
-  or-true false q e = e
-
   size-long : longestFile < size → Written.Refused ImageTooLong ≡ sizeAnswer room count size
   unfolding sizeAnswer tooLong
   size-long h = sym (pick-true (Written.Refused ImageTooLong) (Written.Image headerSize (headerSize + chunkSize count) size) (ap (λ (b : Bool). b || ltb room size) (lt-ltb _ _ h)))
 
   size-wide : room < size → Written.Refused ImageTooLong ≡ sizeAnswer room count size
   unfolding sizeAnswer tooLong
-  size-wide h = sym (pick-true (Written.Refused ImageTooLong) (Written.Image headerSize (headerSize + chunkSize count) size) (or-true (ltb longestFile size) (ltb room size) (lt-ltb _ _ h)))
+  size-wide h = sym (pick-true (Written.Refused ImageTooLong) (Written.Image headerSize (headerSize + chunkSize count) size) (or-one (ltb longestFile size) (ltb room size) (lt-ltb _ _ h)))
 
   size-fits : size ≤ longestFile → size ≤ room → Written.Image 24 (headerSize + chunkSize count) size ≡ sizeAnswer room count size
   unfolding sizeAnswer tooLong
@@ -128,19 +108,19 @@ module _ (ws ar before : List ℕ) (t : ℕ) where
   abbrev pub FromTable : Written → List ℕ → Type 0
   FromTable r after = Given (tableAnswer ws ar t (length before)) r (imageFor ws ar t) before after
 
-  pub table-empty : hasEmpty (stateOf ws ar) depth t ≡ true → FromTable (Written.Refused EmptyKey) before
+  pub table-empty : hasEmpty (stateOf ws ar) deepest t ≡ true → FromTable (Written.Refused EmptyKey) before
   unfolding tableAnswer
   table-empty e = refused _ (imageFor ws ar t) before (Written.Refused EmptyKey) (sym (pick-true (Written.Refused EmptyKey) (sizeAnswer (length before) (length (stateOf ws ar t .members)) (length (imageFor ws ar t))) e)) (nothing-empty (imageFor ws ar t) before)
 
-  pub table-indexed : hasEmpty (stateOf ws ar) depth t ≡ false → (numbered after : List ℕ) (r : Written) → NumberedAs ws ar numbered → t < 64
+  pub table-indexed : hasEmpty (stateOf ws ar) deepest t ≡ false → (numbered after : List ℕ) (r : Written) → NumberedAs ws ar numbered → t < 64
       → r ≡ fitAnswer numbered ar t (length before) → after ≡ laidBy (fitAnswer numbered ar t (length before)) (numberedImage numbered ar t) before → FromTable r after
   unfolding tableAnswer fitAnswer
   table-indexed none numbered after r s l e f =
       let image : numberedImage numbered ar t ≡ imageFor ws ar t = numbered-image ws ar numbered s t l in
-      let same : sizeAnswer (length before) (slotCount numbered t) (length (numberedImage numbered ar t)) ≡ pick (hasEmpty (stateOf ws ar) depth t) (Written.Refused EmptyKey) (sizeAnswer (length before) (length (stateOf ws ar t .members)) (length (imageFor ws ar t))) =
+      let same : sizeAnswer (length before) (slotCount numbered t) (length (numberedImage numbered ar t)) ≡ pick (hasEmpty (stateOf ws ar) deepest t) (Written.Refused EmptyKey) (sizeAnswer (length before) (length (stateOf ws ar t .members)) (length (imageFor ws ar t))) =
       ap (λ (n : ℕ). sizeAnswer (length before) n (length (numberedImage numbered ar t))) (numbered-count ws ar numbered s t l) ∙ ap (λ (x : List ℕ). sizeAnswer (length before) (length (stateOf ws ar t .members)) (length x)) image
       ∙ sym (pick-false (Written.Refused EmptyKey) (sizeAnswer (length before) (length (stateOf ws ar t .members)) (length (imageFor ws ar t))) none) in
-      record { answers = e ∙ same; lays = f ∙ ap (λ (a : Written). laidBy a (numberedImage numbered ar t) before) same ∙ ap (λ (x : List ℕ). laidBy (pick (hasEmpty (stateOf ws ar) depth t) (Written.Refused EmptyKey) (sizeAnswer (length before) (length (stateOf ws ar t .members)) (length (imageFor ws ar t)))) x before) image }
+      record { answers = e ∙ same; lays = f ∙ ap (λ (a : Written). laidBy a (numberedImage numbered ar t) before) same ∙ ap (λ (x : List ℕ). laidBy (pick (hasEmpty (stateOf ws ar) deepest t) (Written.Refused EmptyKey) (sizeAnswer (length before) (length (stateOf ws ar t .members)) (length (imageFor ws ar t)))) x before) image }
 
   -- ---- the whole answer
 

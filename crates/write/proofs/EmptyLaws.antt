@@ -13,12 +13,16 @@ use Rattle.words.specs.Hash.{plain}
 use Rattle.words.specs.Store.{part}
 use Rattle.words.proofs.BelowLaws.{below-some, some-turn}
 use Rattle.model.specs.Table.{Content}
-use Rattle.build_memory.specs.Memory.{itemTotal, keySize, itemKind, itemGuest, valueStart, valueSize, tableKind}
+use Rattle.layout.specs.Kind.{tableKind}
+use Rattle.build_memory.specs.Memory.{itemTotal, keySize, itemKind, itemGuest, valueStart, valueSize}
 use Rattle.image.specs.Index.{itemOf}
-use Rattle.write_numbers.specs.Roster.{stateOf, firstSlot, slotCount, slotItem, Rostered}
+use Rattle.write_bytes.specs.Numbered.{firstSlot, slotCount}
+use Rattle.write_numbers.specs.Roster.{stateOf, slotItem, Rostered}
+use Rattle.write_numbers.proofs.StateLaws.{state-key}
+use Rattle.build_memory.proofs.MeaningLaws.{key-length}
 use Rattle.write.specs.Write.{emptyHeld, hasEmpty}
 use Rattle.write.specs.Empty.{itemEmpty}
-use Rattle.write.proofs.StateLaws.{Right, key-is, content-is, key-length}
+use Rattle.write.proofs.StateLaws.{Right, content-is}
 use Rattle.write.proofs.RosterLaws.{item-in}
 use Rattle.write.proofs.ItemLaws.{content-value, content-table, content-container}
 
@@ -85,7 +89,7 @@ module _ (ws ar roster : List ℕ) (r : Right ws ar) (ro : Rostered ws ar roster
       → (eqb (length (stateOf ws ar t .key i)) 0 || emptyHeld (λ u. hasEmpty (stateOf ws ar) d u) (stateOf ws ar t .content i)) ≡ itemEmpty ws ar d i
   unfolding itemEmpty
   test-same d t i l =
-      let e : length (stateOf ws ar t .key i) ≡ keySize ws i = ap length (key-is ws ar t i l) ∙ key-length ws ar i (r .key i l) in
+      let e : length (stateOf ws ar t .key i) ≡ keySize ws i = ap length (state-key ws ar t i l) ∙ key-length ws ar i (r .key i l) in
       rw (e, content-same d t i l)
 
   module _ (t : ℕ) (known : t < 64) where

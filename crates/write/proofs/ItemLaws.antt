@@ -12,21 +12,23 @@ use lib.Seq.{take-nil, getD-at, take-suc, take-all, drop-drop}
 use Rattle.words.specs.Choice.{pick}
 use Rattle.words.specs.Store.{part}
 use Rattle.words.specs.Hash.{plain, hashBy}
-use Rattle.words.proofs.ChoiceLaws.{pick-true, pick-false}
-use Rattle.layout.specs.Kind.{kindByte}
-use Rattle.model.specs.Table.{Content, Rows, kindOf, isContainer, isChild, fragmentAt, noItem}
-use Rattle.build_memory.specs.Memory.{itemTotal, itemTable, itemHash, keyStart, keySize, itemParent, itemKind, valueStart, valueSize, itemGuest, keyOf, valueKind, tableKind, containerKind, emptyMark}
+use Rattle.words.proofs.ChoiceLaws.{pick-true, pick-false, eq-or-ne, lt-or-ge}
+use Rattle.layout.specs.Kind.{kindByte, valueKind, tableKind, containerKind}
+use Rattle.layout.specs.Item.{noItem}
+use Rattle.model.specs.Table.{Content, Rows, kindOf, isContainer, isChild, fragmentAt}
+use Rattle.build_memory.specs.Memory.{itemTotal, itemTable, itemHash, keyStart, keySize, itemParent, itemKind, valueStart, valueSize, itemGuest, keyOf}
 use Rattle.build_memory.specs.Meaning.{contentOf}
 use Rattle.image.specs.Index.{laidIndex}
 use Rattle.image.specs.Plan.{word, wordsOf}
 use Rattle.image.specs.Image.{parentIndex, childWords}
 use Rattle.image.proofs.ChildLaws.{words-append}
-use Rattle.image.proofs.TimesLaws.{eq-or-ne, lt-or-ge}
 use Rattle.write_bytes.specs.Numbered.{byKind}
 use Rattle.write_bytes.proofs.KindLaws.{kind-value, kind-table, kind-container}
 use Rattle.write_numbers.specs.Roster.{stateOf, itemIndex, Rostered}
+use Rattle.write_numbers.proofs.StateLaws.{state-key}
+use Rattle.build_memory.proofs.MeaningLaws.{key-length}
 use Rattle.write.specs.NumberedAs.{childItems, childTest, skipped, parentWord}
-use Rattle.write.proofs.StateLaws.{Right, key-is, content-is, above-is, content-past, key-length}
+use Rattle.write.proofs.StateLaws.{Right, content-is, above-is, content-past}
 use Rattle.write.proofs.SlotLaws.{child-none, child-own, child-some, skip-none, skip-own}
 use Rattle.write.proofs.SiblingLaws.{child-items-more, child-items-miss}
 use Rattle.write.proofs.RosterLaws.{by-child}
@@ -143,7 +145,7 @@ module _ (ws ar roster : List ℕ) (r : Right ws ar) (ro : Rostered ws ar roster
     -- ---- the fields of its slot
 
     pub hash-is : itemHash ws i ≡ hashBy plain (stateOf ws ar t .key i)
-    hash-is = r .hash i l ∙ ap (hashBy plain) (sym (key-is ws ar t i l))
+    hash-is = r .hash i l ∙ ap (hashBy plain) (sym (state-key ws ar t i l))
 
     pub parent-is : parentWord ws roster i ≡ parentIndex plain (stateOf ws ar t) i
     unfolding parentWord parentIndex
@@ -156,13 +158,13 @@ module _ (ws ar roster : List ℕ) (r : Right ws ar) (ro : Rostered ws ar roster
             ∙ ap (laidIndex plain (stateOf ws ar t)) (sym (above-some n))
 
         by : (childTest ws i ≡ true) ⊎ (childTest ws i ≡ false)
-            → pick (childTest ws i) (itemIndex roster (itemParent ws i - 1)) emptyMark ≡ pick (childTest ws i) (laidIndex plain (stateOf ws ar t) (stateOf ws ar t .above i)) noItem
-        by (inl e) = pick-true (itemIndex roster (itemParent ws i - 1)) emptyMark e ∙ number e ∙ sym (pick-true (laidIndex plain (stateOf ws ar t) (stateOf ws ar t .above i)) noItem e)
-        by (inr e) = pick-false (itemIndex roster (itemParent ws i - 1)) emptyMark e ∙ sym (pick-false (laidIndex plain (stateOf ws ar t) (stateOf ws ar t .above i)) noItem e)
+            → pick (childTest ws i) (itemIndex roster (itemParent ws i - 1)) noItem ≡ pick (childTest ws i) (laidIndex plain (stateOf ws ar t) (stateOf ws ar t .above i)) noItem
+        by (inl e) = pick-true (itemIndex roster (itemParent ws i - 1)) noItem e ∙ number e ∙ sym (pick-true (laidIndex plain (stateOf ws ar t) (stateOf ws ar t .above i)) noItem e)
+        by (inr e) = pick-false (itemIndex roster (itemParent ws i - 1)) noItem e ∙ sym (pick-false (laidIndex plain (stateOf ws ar t) (stateOf ws ar t .above i)) noItem e)
 
     whole-key : part ar (keyStart ws i) (keySize ws i) ≡ stateOf ws ar t .key i
     unfolding keyOf
-    whole-key = sym (key-is ws ar t i l)
+    whole-key = sym (state-key ws ar t i l)
 
     pub fragment-is : part ar (keyStart ws i + skipped ws i) (keySize ws i - skipped ws i) ≡ fragmentAt (stateOf ws ar t) i
     unfolding fragmentAt
@@ -171,7 +173,7 @@ module _ (ws ar roster : List ℕ) (r : Right ws ar) (ro : Rostered ws ar roster
         cut : childTest ws i ≡ true → length (stateOf ws ar t .key (stateOf ws ar t .above i)) ≡ skipped ws i
         cut e =
             let n = child-some ws i e in
-            ap (λ (j : ℕ). length (stateOf ws ar t .key j)) (above-some n) ∙ ap length (key-is ws ar t (itemParent ws i - 1) (above-in n))
+            ap (λ (j : ℕ). length (stateOf ws ar t .key j)) (above-some n) ∙ ap length (state-key ws ar t (itemParent ws i - 1) (above-in n))
             ∙ key-length ws ar (itemParent ws i - 1) (r .key (itemParent ws i - 1) (above-in n))
             ∙ skip-own ws i e (itemParent ws i) (keySize ws (itemParent ws i - 1)) refl refl
 

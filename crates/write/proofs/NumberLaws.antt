@@ -6,14 +6,14 @@ use mathlib.Core.List.{List}
 use borrow.Author.Tests.{lt-ltb, le-ltb, eq-eqb, ne-eqb}
 use lib.ListN.{length}
 use Rattle.words.specs.Choice.{pick}
-use Rattle.layout.specs.Table.{longestFile}
+use Rattle.layout.specs.Limits.{longestFile, deepest}
 use Rattle.build_memory.specs.Memory.{tableTotal, tablePlaced}
 use Rattle.build_rules.specs.Valid.{fullyValid}
-use Rattle.image.specs.Plan.{chunkSize}
-use Rattle.image.specs.Image.{depth}
+use Rattle.layout.specs.Sizes.{chunkSize}
 use Rattle.write_numbers.specs.Roster.{stateOf}
 use Rattle.write.specs.declared.Written.{Written}
-use Rattle.write.specs.Write.{hasEmpty, freeStanding, tooLong, imageFor, writeAnswer, writtenNumber}
+use Rattle.build_tables.specs.Table.{freeStanding}
+use Rattle.write.specs.Write.{hasEmpty, tooLong, imageFor, writeAnswer, writtenNumber}
 
 -- ---- 29, 24, 30, 31
 
@@ -33,11 +33,11 @@ module _ (ws ar : List ℕ) (t room : ℕ) where
       write-24-placed h = simp (ok, lt-ltb _ _ known, ne-eqb _ _ h)
 
       module _ (loose : tablePlaced ws t ≡ 0) where
-        pub write-30 : hasEmpty (stateOf ws ar) depth t ≡ true → writtenNumber (writeAnswer ws ar t room) ≡ 30
+        pub write-30 : hasEmpty (stateOf ws ar) deepest t ≡ true → writtenNumber (writeAnswer ws ar t room) ≡ 30
         unfolding writeAnswer freeStanding writtenNumber pick
         write-30 h = simp (ok, lt-ltb _ _ known, eq-eqb _ _ loose, h)
 
-        module _ (named : hasEmpty (stateOf ws ar) depth t ≡ false) where
+        module _ (named : hasEmpty (stateOf ws ar) deepest t ≡ false) where
           pub write-31-file : longestFile < length (imageFor ws ar t) → writtenNumber (writeAnswer ws ar t room) ≡ 31
           unfolding writeAnswer freeStanding tooLong writtenNumber pick
           write-31-file h = simp (ok, lt-ltb _ _ known, eq-eqb _ _ loose, named, lt-ltb _ _ h)

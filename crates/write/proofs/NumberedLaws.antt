@@ -9,10 +9,13 @@ use Rattle.words.specs.Hash.{plain}
 use Rattle.words.specs.Store.{part, zeros}
 use Rattle.image.specs.Plan.{wordsOf}
 use Rattle.image.specs.Fits.{SamePlan}
-use Rattle.image.specs.Image.{headerSize, depth, planOf, tableBytes, imageOf}
+use Rattle.layout.specs.Sizes.{headerSize}
+use Rattle.layout.specs.Limits.{deepest, mostTables, mostItems}
+use Rattle.image.specs.Image.{planOf, tableBytes, imageOf}
 use Rattle.image.proofs.SameLaws.{plan-same}
-use Rattle.image.proofs.TimesLaws.{eq-or-ne}
-use Rattle.write_bytes.specs.Numbered.{numberedTables, numberedSlots, kindValue, kindTable, firstSlot, slotCount, slotWord, childWord, byKind, slotValue, slotCovers, numberedPlan, numberedBytes, numberedImage, NumberedFits}
+use Rattle.words.proofs.ChoiceLaws.{eq-or-ne}
+use Rattle.layout.specs.Kind.{valueKind, tableKind}
+use Rattle.write_bytes.specs.Numbered.{firstSlot, slotCount, slotWord, childWord, byKind, slotValue, numberedPlan, numberedBytes, numberedImage, NumberedFits, slotCover}
 use Rattle.write_bytes.proofs.KindLaws.{kind-value, kind-container}
 use Rattle.write_numbers.specs.Roster.{stateOf}
 use Rattle.write.specs.Write.{imageFor}
@@ -21,23 +24,23 @@ use Rattle.write.specs.NumberedAs.{NumberedAs}
 -- ---- nested tables laid alike
 
 -- a choice by kind depends on the table's part only where the kind is that of a table
-kind-same : {A : Type 0} (kind : ℕ) (v x y w : A) → (kind ≡ kindTable → x ≡ y) → byKind kind v x w ≡ byKind kind v y w
-kind-same kind v x y w same = ⊎-elim (λ e. rw (same e)) (λ n. by n (eq-or-ne kind kindValue)) (eq-or-ne kind kindTable)
+kind-same : {A : Type 0} (kind : ℕ) (v x y w : A) → (kind ≡ tableKind → x ≡ y) → byKind kind v x w ≡ byKind kind v y w
+kind-same kind v x y w same = ⊎-elim (λ e. rw (same e)) (λ n. by n (eq-or-ne kind valueKind)) (eq-or-ne kind tableKind)
   where
-    by : (kind ≡ kindTable → ⊥) → (kind ≡ kindValue) ⊎ (kind ≡ kindValue → ⊥) → byKind kind v x w ≡ byKind kind v y w
+    by : (kind ≡ tableKind → ⊥) → (kind ≡ valueKind) ⊎ (kind ≡ valueKind → ⊥) → byKind kind v x w ≡ byKind kind v y w
     by n (inl e) = kind-value kind v x w e ∙ sym (kind-value kind v y w e)
     by n (inr m) = kind-container kind v x w m n ∙ sym (kind-container kind v y w m n)
 
 module _ (numbered arena : List ℕ) (fits : NumberedFits numbered arena) (f g : ℕ → ℕ → List ℕ)
-    (same : (u at : ℕ) → u < numberedTables → f u at ≡ g u at) where
-  value-same : (s at : ℕ) → s < numberedSlots → slotValue f numbered arena s at ≡ slotValue g numbered arena s at
+    (same : (u at : ℕ) → u < mostTables → f u at ≡ g u at) where
+  value-same : (s at : ℕ) → s < mostItems → slotValue f numbered arena s at ≡ slotValue g numbered arena s at
   unfolding slotValue
   value-same s at l =
       kind-same (slotWord numbered s 4) (part arena (slotWord numbered s 5) (slotWord numbered s 6)) (f (slotWord numbered s 5) at) (g (slotWord numbered s 5) at)
       (wordsOf (λ j. childWord numbered (slotWord numbered s 5 + j)) (slotWord numbered s 6)) (λ e. same (slotWord numbered s 5) at (fits .slots s l .guest e))
 
-  inner-same : (t : ℕ) → t < numberedTables → SamePlan (numberedPlan f numbered arena t) (numberedPlan g numbered arena t)
-  unfolding numberedPlan slotCovers
+  inner-same : (t : ℕ) → t < mostTables → SamePlan (numberedPlan f numbered arena t) (numberedPlan g numbered arena t)
+  unfolding numberedPlan slotCover
   inner-same t l = record {
     count = refl;
     first = λ b h. refl;
@@ -53,7 +56,7 @@ module _ (numbered arena : List ℕ) (fits : NumberedFits numbered arena) (f g :
 -- ---- the theorem
 
 module _ (ws ar numbered : List ℕ) (s : NumberedAs ws ar numbered) where
-  pub numbered-bytes : (d t at : ℕ) → t < numberedTables → numberedBytes numbered ar d t at ≡ tableBytes plain (stateOf ws ar) d t at
+  pub numbered-bytes : (d t at : ℕ) → t < mostTables → numberedBytes numbered ar d t at ≡ tableBytes plain (stateOf ws ar) d t at
   unfolding numberedBytes tableBytes
   numbered-bytes zero t at l = refl
   numbered-bytes (suc d) t at l =
@@ -62,10 +65,10 @@ module _ (ws ar numbered : List ℕ) (s : NumberedAs ws ar numbered) where
       plan-same (numberedPlan f numbered ar t) (numberedPlan g numbered ar t) (inner-same numbered ar (s .fits) f g (λ u start h. numbered-bytes d u start h) t l) at
       ∙ plan-same (numberedPlan g numbered ar t) (planOf plain g (stateOf ws ar) (stateOf ws ar t)) (s .plans g t l) at
 
-  pub numbered-image : (t : ℕ) → t < numberedTables → numberedImage numbered ar t ≡ imageFor ws ar t
+  pub numbered-image : (t : ℕ) → t < mostTables → numberedImage numbered ar t ≡ imageFor ws ar t
   unfolding numberedImage imageFor imageOf
-  numbered-image t l = ap (λ (bytes : List ℕ). zeros headerSize ++ bytes) (numbered-bytes depth t headerSize l)
+  numbered-image t l = ap (λ (bytes : List ℕ). zeros headerSize ++ bytes) (numbered-bytes deepest t headerSize l)
 
-  pub numbered-count : (t : ℕ) → t < numberedTables → slotCount numbered t ≡ length (stateOf ws ar t .members)
+  pub numbered-count : (t : ℕ) → t < mostTables → slotCount numbered t ≡ length (stateOf ws ar t .members)
   unfolding numberedPlan planOf
   numbered-count t l = s .plans (λ u at. zeros 0) t l .count

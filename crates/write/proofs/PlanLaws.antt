@@ -9,15 +9,16 @@ use Rattle.words.specs.Store.{part}
 use Rattle.words.specs.Hash.{plain}
 use Rattle.words.proofs.StoreLaws.{length-part}
 use Rattle.model.specs.Table.{Content}
-use Rattle.build_memory.specs.Memory.{itemTotal, itemTable, itemHash, keyStart, keySize, itemKind, valueStart, valueSize, itemGuest, containerKind}
+use Rattle.layout.specs.Kind.{containerKind}
+use Rattle.build_memory.specs.Memory.{itemTotal, itemTable, itemHash, keyStart, keySize, itemKind, valueStart, valueSize, itemGuest}
 use Rattle.image.specs.Index.{itemOf, laidIndex}
-use Rattle.image.specs.Plan.{wordsOf, chunkSize}
+use Rattle.layout.specs.Sizes.{chunkSize}
+use Rattle.image.specs.Plan.{wordsOf}
 use Rattle.image.specs.Fits.{SamePlan}
 use Rattle.image.specs.Image.{alignOf, childrenOf, childWords, valueOf, coversOf, planOf}
 use Rattle.image.proofs.PlanLaws.{words-same}
-use Rattle.image.proofs.TimesLaws.{lt-or-ge}
-use Rattle.write_bytes.specs.Numbered.{firstSlot, slotCount, slotWord, childWord, slotValue, slotCovers, numberedPlan, NumberedFits}
-use Rattle.write_numbers.specs.Roster as lists
+use Rattle.words.proofs.ChoiceLaws.{lt-or-ge}
+use Rattle.write_bytes.specs.Numbered.{firstSlot, slotCount, slotWord, childWord, slotValue, numberedPlan, NumberedFits, slotCover}
 use Rattle.write_numbers.specs.Roster.{stateOf, itemIndex, bucketWord, Rostered}
 use Rattle.write.specs.NumberedAs.{childItems, fromLast, skipped, parentWord, slotOf, startOf, sizeOf, frontWords, backWords, slotWords, Siblings, NumberedStart, NumberedChildren, NumberedSlots, Firsts, NumberedAs}
 use Rattle.write.proofs.StateLaws.{Right}
@@ -35,12 +36,12 @@ module _ (ws ar roster order firsts a b numbered : List ℕ) (r : Right ws ar) (
   head-is : (k : ℕ) → k < 128 → getD numbered k 0 ≡ getD roster k 0
   head-is k h = sl .head k h ∙ ch .kept k (omega arith) ∙ st .is k (omega arith) ∙ sym (start-in roster k h)
 
-  first-is : (t : ℕ) → t < 64 → firstSlot numbered t ≡ lists.firstSlot roster t
-  unfolding firstSlot lists.firstSlot
+  first-is : (t : ℕ) → t < 64 → firstSlot numbered t ≡ firstSlot roster t
+  unfolding firstSlot
   first-is t h = head-is (2 * t) (omega arith)
 
-  count-is : (t : ℕ) → t < 64 → slotCount numbered t ≡ lists.slotCount roster t
-  unfolding slotCount lists.slotCount
+  count-is : (t : ℕ) → t < 64 → slotCount numbered t ≡ slotCount roster t
+  unfolding slotCount
   count-is t h = head-is (2 * t + 1) (omega arith)
 
   members-is : (t : ℕ) → t < 64 → slotCount numbered t ≡ length (stateOf ws ar t .members)
@@ -143,8 +144,8 @@ module _ (ws ar roster order firsts a b numbered : List ℕ) (r : Right ws ar) (
           (λ e. rw (← (start-guest ws firsts i (itemKind ws i) refl e (itemGuest ws i) refl)))
           (λ e. rw (siblings-start e, siblings-size e) child-items-words))
 
-      covers-is : (inner : ℕ → ℕ → List ℕ) → slotCovers inner numbered ar s ≡ coversOf plain inner (stateOf ws ar) (stateOf ws ar t) i (stateOf ws ar t .content i)
-      unfolding slotCovers coversOf
+      covers-is : (inner : ℕ → ℕ → List ℕ) → slotCover numbered s ≡ coversOf plain inner (stateOf ws ar) (stateOf ws ar t) i (stateOf ws ar t .content i)
+      unfolding slotCover coversOf
       covers-is inner =
           rw (w4, w5, w6)
           (by-content ws ar roster r ro t i l own (λ (x : Content). coversOf plain inner (stateOf ws ar) (stateOf ws ar t) i x)
@@ -172,7 +173,7 @@ module _ (ws ar roster order firsts a b numbered : List ℕ) (r : Right ws ar) (
       it : ℕ → ℕ
       it k = itemOf plain (stateOf ws ar t) k
 
-      low : (k : ℕ) → k < slotCount numbered t → k < lists.slotCount roster t
+      low : (k : ℕ) → k < slotCount numbered t → k < slotCount roster t
       low k l = omega (arith, count-is t h)
 
       item : (k : ℕ) → k < slotCount numbered t → it k < itemTotal ws

@@ -7,15 +7,17 @@ use Prim.Native.Nat.{ℕ, _+_, _-_, _≤_, _<_, _^_}
 use native.Mathlib.Omega.{arith}
 use lib.ListN.{length}
 use Rattle.words.specs.Hash.{plain}
-use Rattle.words.proofs.ChoiceLaws.{pick-true, pick-false}
+use Rattle.words.proofs.ChoiceLaws.{pick-true, pick-false, eq-or-ne}
 use Rattle.model.specs.Table.{Has}
-use Rattle.build_memory.specs.Memory.{itemTotal, itemTable, itemParent, keySize, emptyMark}
+use Rattle.layout.specs.Item.{noItem}
+use Rattle.build_memory.specs.Memory.{itemTotal, itemTable, itemParent, keySize}
 use Rattle.image.specs.Index.{itemOf, laidIndex}
-use Rattle.image.proofs.TimesLaws.{eq-or-ne}
 use Rattle.image.proofs.IndexLaws.{index-within, item-index, index-item, item-within, first-most}
-use Rattle.write_numbers.specs.Roster.{stateOf, firstSlot, slotCount, slotItem, itemIndex, bucketWord, Rostered}
+use Rattle.write_bytes.specs.Numbered.{firstSlot, slotCount}
+use Rattle.write_numbers.specs.Roster.{stateOf, slotItem, itemIndex, bucketWord, Rostered}
 use Rattle.write.specs.NumberedAs.{childTest, skipped, parentWord, slotOf, Slotted}
-use Rattle.write.proofs.StateLaws.{Right, member-once, has-item, item-below, item-table}
+use Rattle.write_numbers.proofs.StateLaws.{state-below, state-once, state-table, state-has}
+use Rattle.write.proofs.StateLaws.{Right}
 use Rattle.write.proofs.SlotLaws.{skip-none, skip-own, child-some}
 
 pub by-child : (ws : List ℕ) (i : ℕ) → (childTest ws i ≡ true) ⊎ (childTest ws i ≡ false)
@@ -28,12 +30,12 @@ by-child ws i = by (childTest ws i) refl
 module _ (ws ar roster : List ℕ) (r : Right ws ar) (ro : Rostered ws ar roster) where
   module _ (i : ℕ) (l : i < itemTotal ws) where
     mine : Has (stateOf ws ar (itemTable ws i) .members) i
-    mine = has-item ws ar (itemTable ws i) i l refl
+    mine = state-has ws ar (itemTable ws i) i l refl
 
     pub index-low : itemIndex roster i < slotCount roster (itemTable ws i)
     index-low =
         let t = itemTable ws i in
-        let h : laidIndex plain (stateOf ws ar t) i < length (stateOf ws ar t .members) = index-within plain (stateOf ws ar t) (member-once ws ar t) i mine in
+        let h : laidIndex plain (stateOf ws ar t) i < length (stateOf ws ar t .members) = index-within plain (stateOf ws ar t) (state-once ws ar t) i mine in
         omega (arith, ro .indices i l, ro .counts t (r .table i l))
 
     pub slot-low : slotOf ws roster i < 1024
@@ -48,7 +50,7 @@ module _ (ws ar roster : List ℕ) (r : Right ws ar) (ro : Rostered ws ar roster
     slot-item =
         let t = itemTable ws i in
         ro .items t (itemIndex roster i) (r .table i l) index-low ∙ ap (itemOf plain (stateOf ws ar t)) (ro .indices i l)
-        ∙ item-index plain (stateOf ws ar t) (member-once ws ar t) i mine
+        ∙ item-index plain (stateOf ws ar t) (state-once ws ar t) i mine
 
     -- the word of the bucket at its index
     pub bucket-few : bucketWord roster (slotOf ws roster i) ≤ 1024
@@ -86,8 +88,8 @@ module _ (ws ar roster : List ℕ) (r : Right ws ar) (ro : Rostered ws ar roster
       ⊎-elim
       (λ e. let b = r .parent i l (child-some ws i e) in
       let less : itemParent ws i - 1 < itemTotal ws = omega (arith, b .earlier) in
-      omega (arith, pick-true (itemIndex roster (itemParent ws i - 1)) emptyMark e, index-few (itemParent ws i - 1) less))
-      (λ e. omega (arith, pick-false (itemIndex roster (itemParent ws i - 1)) emptyMark e))
+      omega (arith, pick-true (itemIndex roster (itemParent ws i - 1)) noItem e, index-few (itemParent ws i - 1) less))
+      (λ e. omega (arith, pick-false (itemIndex roster (itemParent ws i - 1)) noItem e))
       (by-child ws i)
 
   -- no two items have one slot
@@ -98,18 +100,18 @@ module _ (ws ar roster : List ℕ) (r : Right ws ar) (ro : Rostered ws ar roster
 
   module _ (t k : ℕ) (known : t < 64) (low : k < slotCount roster t) where
     item-has : Has (stateOf ws ar t .members) (itemOf plain (stateOf ws ar t) k)
-    item-has = item-within plain (stateOf ws ar t) (member-once ws ar t) k (omega (arith, ro .counts t known))
+    item-has = item-within plain (stateOf ws ar t) (state-once ws ar t) k (omega (arith, ro .counts t known))
 
     pub item-in : itemOf plain (stateOf ws ar t) k < itemTotal ws
-    item-in = item-below ws ar t (itemOf plain (stateOf ws ar t) k) item-has
+    item-in = state-below ws ar t (itemOf plain (stateOf ws ar t) k) item-has
 
     pub item-of : itemTable ws (itemOf plain (stateOf ws ar t) k) ≡ t
-    item-of = item-table ws ar t (itemOf plain (stateOf ws ar t) k) item-has
+    item-of = state-table ws ar t (itemOf plain (stateOf ws ar t) k) item-has
 
     pub slot-of : slotOf ws roster (itemOf plain (stateOf ws ar t) k) ≡ firstSlot roster t + k
     unfolding slotOf
     slot-of =
         let i = itemOf plain (stateOf ws ar t) k in
         let e : itemIndex roster i ≡ k = ro .indices i item-in ∙ ap (λ (u : ℕ). laidIndex plain (stateOf ws ar u) i) item-of
-        ∙ index-item plain (stateOf ws ar t) (member-once ws ar t) k (omega (arith, ro .counts t known)) in
+        ∙ index-item plain (stateOf ws ar t) (state-once ws ar t) k (omega (arith, ro .counts t known)) in
         rw (item-of, e)

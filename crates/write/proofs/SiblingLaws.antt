@@ -12,19 +12,22 @@ use lib.ListN.{length, getD, length-map}
 use Rattle.words.specs.Choice.{pick}
 use Rattle.words.specs.Store.{putAt}
 use Rattle.words.proofs.StoreLaws.{length-put, get-put, get-after}
-use Rattle.model.specs.Table.{noItem}
+use Rattle.layout.specs.Item.{noItem}
 use Rattle.build_memory.specs.Memory.{itemTotal, itemTable, itemParent}
 use Rattle.image.specs.Index.{bucketOf, run, byBucket, bucketStart}
 use Rattle.image.specs.Image.{childrenIn, childrenOf}
-use Rattle.image.proofs.ChildLaws.{children-append}
-use Rattle.image.proofs.TimesLaws.{eq-or-ne, lt-or-ge}
+use Rattle.image.proofs.ChildLaws.{children-append, pick-append}
+use Rattle.words.proofs.ChoiceLaws.{eq-or-ne, lt-or-ge}
 use Rattle.image.proofs.IndexLaws.{getD-made}
 use Rattle.image.proofs.RunLaws.{indexed-each, index-at, start-suc, start-most, start-all, length-indexed}
 use Rattle.write_order.specs.Chain.{starts}
 use Rattle.write_order.proofs.ChainLaws.{length-starts, starts-at}
 use Rattle.write_numbers.specs.Roster.{stateOf}
+use Rattle.write_numbers.specs.Fill.{ofTable, allOfTable}
+use Rattle.write_numbers.proofs.OfTableLaws.{of-table-more, of-table-pass}
+use Rattle.write_numbers.proofs.StateLaws.{state-members}
 use Rattle.write.specs.NumberedAs.{childItems, fromLast, Parents, Siblings}
-use Rattle.write.proofs.StateLaws.{Right, among, among-hit, among-miss, among-none, members-are, above-is}
+use Rattle.write.proofs.StateLaws.{Right, above-is}
 
 -- what was put at the front
 get-first : (l vs : List ℕ) (j : ℕ) → length vs ≤ length l → j < length vs → getD (putAt l 0 vs) j 0 ≡ getD vs j 0
@@ -82,22 +85,22 @@ module _ (ws ar : List ℕ) (r : Right ws ar) where
     unfolding childrenIn
     no-child = refl
 
-    child-items-among : (n : ℕ) → n ≤ itemTotal ws → childrenIn (stateOf ws ar t) i (among ws ar t n) ≡ childItems ws (i + 1) n
-    unfolding childItems
-    child-items-among zero h = rw (among-none ws ar t) no-child
-    child-items-among (suc n) h =
+    child-items-of-table : (n : ℕ) → n ≤ itemTotal ws → childrenIn (stateOf ws ar t) i (ofTable ws t n) ≡ childItems ws (i + 1) n
+    unfolding childItems ofTable
+    child-items-of-table zero h = no-child
+    child-items-of-table (suc n) h =
         ⊎-elim
-        (λ e. rw (among-hit ws ar t n h e, children-append, child-items-among n (omega arith), one-child n, above-own n h))
-        (λ ne. rw (among-miss ws ar t n h ne)
-        (child-items-among n (omega arith)
+        (λ e. rw (of-table-more ws t n e, children-append, child-items-of-table n (omega arith), one-child n, above-own n h))
+        (λ ne. rw (of-table-pass ws t n ne)
+        (child-items-of-table n (omega arith)
         ∙ sym (child-items-miss ws (i + 1) n (λ e. let b = r .parent n h (λ z. omega arith) in
         let q : itemParent ws n - 1 ≡ i = omega arith in
         ne (sym (b .same) ∙ ap (itemTable ws) q ∙ own)))))
         (eq-or-ne (itemTable ws n) t)
 
     pub children-child-items : childrenOf (stateOf ws ar t) i ≡ childItems ws (i + 1) (itemTotal ws)
-    unfolding childrenOf
-    children-child-items = ap (childrenIn (stateOf ws ar t) i) (members-are ws ar t) ∙ child-items-among (itemTotal ws) (omega arith)
+    unfolding childrenOf allOfTable
+    children-child-items = ap (childrenIn (stateOf ws ar t) i) (state-members ws ar t) ∙ child-items-of-table (itemTotal ws) (omega arith)
 
   -- ---- as buckets have them
 
@@ -105,11 +108,6 @@ module _ (ws ar : List ℕ) (r : Right ws ar) where
   up : ℕ → ℕ → ℕ → List ℕ
   up b from zero = []
   up b from (suc n) = pick (eqb (itemParent ws from) b) (from ∷ up b (suc from) n) (up b (suc from) n)
-
-  pick-append : (q : Bool) (c : ℕ) (a d : List ℕ) → pick q (c ∷ a ++ d) (a ++ d) ≡ pick q (c ∷ a) a ++ d
-  unfolding pick
-  pick-append true c a d = refl
-  pick-append false c a d = refl
 
   up-snoc : (b from n : ℕ) → up b from (suc n) ≡ up b from n ++ pick (eqb (itemParent ws (from + n)) b) ((from + n) ∷ []) []
   unfolding up

@@ -2,19 +2,20 @@
 use mathlib.Core.Path.{_≡_, refl, sym, ap, _∙_}
 use mathlib.Core.Bool.{Bool, true, false, not}
 use mathlib.Core.Logic.{_⊎_, ⊎-elim}
-use mathlib.Core.List.{List, [], _∷_}
-use Prim.Native.Nat.{ℕ, suc, _+_, _-_, _*_, _≤_, _<_}
+use mathlib.Core.List.{List}
+use Prim.Native.Nat.{ℕ, _+_, _-_, _*_, _≤_, _<_}
 use native.Mathlib.Omega.{arith}
 use borrow.Author.Tests.{eq-eqb, ne-eqb}
 use lib.Dec.{eqb}
 use lib.ListN.{length, getD, set}
 use lib.Seq.{getD-set-same, getD-set-other}
-use Rattle.words.specs.Store.{putAt}
-use Rattle.words.proofs.ChoiceLaws.{pick-true, pick-false, both}
-use Rattle.build_memory.specs.Memory.{emptyMark, itemTable, keySize, itemParent, itemKind, valueStart, valueSize, itemGuest, containerKind}
-use Rattle.image.proofs.TimesLaws.{eq-or-ne}
+use Rattle.words.proofs.ChoiceLaws.{pick-true, pick-false, both, eq-or-ne}
+use Rattle.layout.specs.Item.{noItem}
+use Rattle.layout.specs.Kind.{containerKind}
+use Rattle.build_memory.specs.Memory.{itemTable, keySize, itemParent, itemKind, valueStart, valueSize, itemGuest}
 use Rattle.write_bytes.proofs.KindLaws.{kind-value, kind-table, kind-container}
-use Rattle.write_numbers.specs.Roster.{firstSlot, itemIndex}
+use Rattle.write_bytes.specs.Numbered.{firstSlot}
+use Rattle.write_numbers.specs.Roster.{indicesFrom, itemIndex}
 use Rattle.write.specs.NumberedAs.{childTest, skipped, parentWord, slotOf, startOf, sizeOf}
 
 -- ---- one word more
@@ -40,17 +41,9 @@ set-past l m at p v inv k h = getD-set-other l (at + p) k v 0 (λ (e : k ≡ at 
 pub set-apart : (l m : List ℕ) (at p v : ℕ) → ((k : ℕ) → k < at → getD l k 0 ≡ getD m k 0) → (k : ℕ) → k < at → getD (set l (at + p) v) k 0 ≡ getD m k 0
 set-apart l m at p v inv k h = getD-set-other l (at + p) k v 0 (λ (e : k ≡ at + p). omega arith) ∙ inv k h
 
-pub four-put : (l : List ℕ) (at a b c d : ℕ) → set (set (set (set l at a) (at + 1) b) (at + 2) c) (at + 3) d ≡ putAt l at (a ∷ b ∷ c ∷ d ∷ [])
-unfolding putAt
-four-put l at a b c d =
-    let i1 : at + 1 ≡ suc at = omega arith in
-    let i2 : at + 2 ≡ suc (suc at) = omega arith in
-    let i3 : at + 3 ≡ suc (suc (suc at)) = omega arith in
-    cc
-
 -- ---- children
 
-pub index-read : (roster : List ℕ) (c : ℕ) → getD roster (1152 + c) 0 ≡ itemIndex roster c
+pub index-read : (roster : List ℕ) (c : ℕ) → getD roster (indicesFrom + c) 0 ≡ itemIndex roster c
 unfolding itemIndex
 index-read roster c = refl
 
@@ -82,13 +75,13 @@ module _ (ws : List ℕ) (i : ℕ) where
   unfolding skipped
   skip-own e parent size is es = es ∙ ap (λ (p : ℕ). keySize ws (p - 1)) is ∙ sym (pick-true (keySize ws (itemParent ws i - 1)) 0 e)
 
-  pub word-none : (roster : List ℕ) → childTest ws i ≡ false → emptyMark ≡ parentWord ws roster i
+  pub word-none : (roster : List ℕ) → childTest ws i ≡ false → noItem ≡ parentWord ws roster i
   unfolding parentWord
-  word-none roster e = sym (pick-false (itemIndex roster (itemParent ws i - 1)) emptyMark e)
+  word-none roster e = sym (pick-false (itemIndex roster (itemParent ws i - 1)) noItem e)
 
   pub word-own : (roster : List ℕ) → childTest ws i ≡ true → (parent : ℕ) → parent ≡ itemParent ws i → getD roster (1152 + (parent - 1)) 0 ≡ parentWord ws roster i
   unfolding parentWord itemIndex
-  word-own roster e parent is = ap (λ (p : ℕ). getD roster (1152 + (p - 1)) 0) is ∙ sym (pick-true (getD roster (1152 + (itemParent ws i - 1)) 0) emptyMark e)
+  word-own roster e parent is = ap (λ (p : ℕ). getD roster (1152 + (p - 1)) 0) is ∙ sym (pick-true (getD roster (1152 + (itemParent ws i - 1)) 0) noItem e)
 
 -- ---- a test that was turned round
 

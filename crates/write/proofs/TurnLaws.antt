@@ -5,18 +5,17 @@ use mathlib.Core.List.{List, [], _∷_}
 use Prim.Native.Nat.{ℕ, _+_, _-_, _*_, _≤_, _<_}
 use native.Mathlib.Omega.{arith}
 use borrow.Author.Tests.{lt-ltb, le-ltb}
-use lib.ListN.{length, getD, set}
-use lib.Seq.{getD-set-other}
+use lib.ListN.{length, getD, take}
+use lib.Seq.{length-take-le, getD-take}
 use Rattle.words.specs.Store.{putAt}
 use Rattle.words.specs.Hash.{plain}
-use Rattle.words.proofs.ChoiceLaws.{pick-true, pick-false}
+use Rattle.words.proofs.ChoiceLaws.{pick-true, pick-false, eq-or-ne, lt-or-ge}
 use Rattle.words.proofs.HashLaws.{hash-below}
 use Rattle.words.proofs.StoreLaws.{length-put, get-put, get-before, get-after, put-append}
 use Rattle.build_memory.specs.Memory.{itemTotal, itemHash, keyStart, keySize, itemKind, valueStart, valueSize, itemGuest, keyOf}
-use Rattle.image.proofs.TimesLaws.{eq-or-ne, lt-or-ge}
-use Rattle.write_bytes.specs.Numbered.{slotWord, SlotFits}
-use Rattle.write_numbers.specs.Roster.{bucketWord, Rostered}
-use Rattle.write.specs.NumberedAs.{skipped, parentWord, slotOf, startOf, sizeOf, frontWords, backWords, slotWords, startWord, NumberedStart, NumberedChildren, NumberedSlots, Firsts}
+use Rattle.write_bytes.specs.Numbered.{slotsFrom, numberedSize, slotWord, SlotFits}
+use Rattle.write_numbers.specs.Roster.{rosterSize, bucketWord, Rostered}
+use Rattle.write.specs.NumberedAs.{skipped, parentWord, slotOf, startOf, sizeOf, frontWords, backWords, slotWords, Clear, startWord, NumberedStart, NumberedChildren, NumberedSlots, Firsts}
 use Rattle.write.proofs.StateLaws.{Right}
 use Rattle.write.proofs.SlotLaws.{start-value, start-guest, start-child, size-value, size-child}
 use Rattle.write.proofs.RosterLaws.{slot-low, slot-once, bucket-few, skip-most, parent-few}
@@ -148,15 +147,19 @@ pub start-out : (roster : List ℕ) (k : ℕ) → 128 ≤ k → 0 ≡ startWord 
 unfolding startWord
 start-out roster k l = sym (pick-false (getD roster k 0) 0 (le-ltb _ _ l))
 
-pub set-clear : (l : List ℕ) (k v : ℕ) → ((q : ℕ) → k ≤ q → q < 9344 → getD l q 0 ≡ 0) → (q : ℕ) → k + 1 ≤ q → q < 9344 → getD (set l k v) q 0 ≡ 0
-set-clear l k v clear q g h = getD-set-other l k q v 0 (λ (e : q ≡ k). omega arith) ∙ clear q (omega arith) h
-
-pub start-made : (roster numbered : List ℕ) → length numbered ≡ 9344 → ((k : ℕ) → k < 128 → getD numbered k 0 ≡ getD roster k 0) → ((k : ℕ) → 128 ≤ k → k < 9344 → getD numbered k 0 ≡ 0)
-    → NumberedStart roster numbered
-start-made roster numbered long head clear = record {
-  long = long;
-  is = λ k h. ⊎-elim (λ l. head k l ∙ start-in roster k l) (λ g. clear k g h ∙ start-out roster k g) (lt-or-ge k 128);
-}
+pub start-made : (roster before after : List ℕ) → length roster ≡ rosterSize → length before ≡ numberedSize → Clear before → after ≡ putAt before 0 (take slotsFrom roster)
+    → NumberedStart roster after
+start-made roster before after long wide clear e =
+    let head = take slotsFrom roster in
+    let size : length head ≡ slotsFrom = length-take-le slotsFrom roster (omega arith) in record {
+      long = ap length e ∙ length-put before 0 head ∙ wide;
+      is = λ k h.
+          ap (λ (l : List ℕ). getD l k 0) e
+          ∙ ⊎-elim
+          (λ (l : k < slotsFrom). ap (λ (j : ℕ). getD (putAt before 0 head) j 0) (let at : k ≡ 0 + k = omega arith in at) ∙ get-put before 0 head k (omega arith) (omega arith) ∙ getD-take slotsFrom roster k 0 l ∙ start-in roster k l)
+          (λ (g : slotsFrom ≤ k). get-after before 0 head k (omega arith) ∙ clear k h ∙ start-out roster k g)
+          (lt-or-ge k slotsFrom);
+    }
 
 zero-word : (ws roster order a b : List ℕ) → NumberedStart roster a → NumberedChildren ws roster order a b → (s which : ℕ) → s < 1024 → which < 8 → slotWord b s which ≡ 0
 unfolding slotWord

@@ -1,5 +1,5 @@
 -- Exactly when a write succeeds, and what it leaves beside the table.
-use Prim.Native.Nat.{ℕ, zero, suc, _+_, _*_, _≤_}
+use Prim.Native.Nat.{ℕ, zero, suc, _+_, _*_, _≤_, _<_}
 use mathlib.Core.Path.{_≡_, refl, sym, ap, _∙_}
 use mathlib.Core.Bool.{Bool, true, false, _&&_, _||_}
 use mathlib.Core.Logic.{_⊎_, inl, inr, ⊎-elim}
@@ -16,19 +16,21 @@ use Rattle.words.proofs.ChoiceLaws.{both}
 use Rattle.words.proofs.BelowLaws.{some-below, below-some}
 use Rattle.words.proofs.StoreLaws.{part-put, drop-after, length-zeros}
 use Rattle.layout.specs.declared.refusal.Refusal.the-variants.{MemoryBroken, TableUnknown, EmptyKey, ImageTooLong}
-use Rattle.layout.specs.Table.{longestFile}
+use Rattle.layout.specs.Limits.{longestFile, deepest}
+use Rattle.layout.specs.Sizes.{headerSize}
 use Rattle.model.specs.Table.{Content, State, times}
 use Rattle.build_memory.specs.Memory.{tableTotal, tablePlaced}
 use Rattle.build_rules.specs.Valid.{fullyValid}
 use Rattle.image.specs.Index.{itemOf, laidIndex}
-use Rattle.image.specs.Image.{headerSize, depth, tableBytes, imageOf}
+use Rattle.image.specs.Image.{tableBytes, imageOf}
 use Rattle.image.proofs.IndexLaws.{item-within, index-within, item-index}
 use Rattle.write_numbers.specs.Roster.{stateOf}
 use Rattle.write.specs.declared.Written.{Written}
-use Rattle.write.specs.Write.{emptyHeld, hasEmpty, freeStanding, tooLong, imageFor, writeAnswer, writtenNumber, laidBy, imageAfter}
+use Rattle.build_tables.specs.Table.{freeStanding}
+use Rattle.write.specs.Write.{emptyHeld, hasEmpty, tooLong, imageFor, writeAnswer, writtenNumber, laidBy, imageAfter}
 use Rattle.write.specs.When.{EmptyIn, MayWrite, SucceedsExactly, SuccessKeepsRest, SuccessClearsHeader}
-use Rattle.write.proofs.StateLaws.{member-once}
-use Rattle.write.proofs.NumberLaws.{write-0}
+use Rattle.write_numbers.proofs.StateLaws.{state-once}
+use Rattle.write.proofs.NumberLaws.{write-30, write-0}
 
 -- ---- 30 is given just where a key is empty
 
@@ -75,6 +77,10 @@ module _ (state : State) (one : (t x : ℕ) → times x (state t .members) ≤ 1
       below-some _ (length (state t .members)) (laidIndex plain (state t) i) (index-within plain (state t) (one t) i has)
       (rw (item-index plain (state t) (one t) i has) (held-found d (empty-found d) _ _ why))
 
+pub write-30-plain : (ws ar : List ℕ) (t room : ℕ) → fullyValid ws ar ≡ true → t < tableTotal ws → tablePlaced ws t ≡ 0 → EmptyIn (stateOf ws ar) deepest t
+    → writtenNumber (writeAnswer ws ar t room) ≡ 30
+write-30-plain ws ar t room ok known loose empty = write-30 ws ar t room ok known loose (empty-found (stateOf ws ar) (state-once ws ar) deepest t empty)
+
 -- ---- exactly when a write succeeds
 
 neither : (p q : Bool) → (p || q) ≡ false → (p ≡ false) × (q ≡ false)
@@ -104,19 +110,19 @@ module _ (ws ar : List ℕ) (t room : ℕ) where
   succeeds : writtenNumber (writeAnswer ws ar t room) ≡ 0 → MayWrite ws ar t room
   unfolding writeAnswer tooLong freeStanding
   succeeds e =
-      let p = passed (fullyValid ws ar) (ltb t (tableTotal ws) && eqb (tablePlaced ws t) 0) (hasEmpty (stateOf ws ar) depth t) (ltb longestFile (length (imageFor ws ar t))) (ltb room (length (imageFor ws ar t))) _ e in
+      let p = passed (fullyValid ws ar) (ltb t (tableTotal ws) && eqb (tablePlaced ws t) 0) (hasEmpty (stateOf ws ar) deepest t) (ltb longestFile (length (imageFor ws ar t))) (ltb room (length (imageFor ws ar t))) _ e in
       let (known, loose) = both (ltb t (tableTotal ws)) (eqb (tablePlaced ws t) 0) (p .free-is) in
       record {
         whole = p .whole-is;
         known = ltb-true _ _ known;
         loose = eqb-true _ _ loose;
-        named = λ empty. never (sym (p .empty-is) ∙ empty-found (stateOf ws ar) (member-once ws ar) depth t empty);
+        named = λ empty. never (sym (p .empty-is) ∙ empty-found (stateOf ws ar) (state-once ws ar) deepest t empty);
         short = ltb-false _ _ (p .file-is);
         fits = ltb-false _ _ (p .room-is);
       }
 
-  not-empty : (EmptyIn (stateOf ws ar) depth t → ⊥) → (found : Bool) → hasEmpty (stateOf ws ar) depth t ≡ found → hasEmpty (stateOf ws ar) depth t ≡ false
-  not-empty none true e = absurd (none (empty-says (stateOf ws ar) (member-once ws ar) depth t e))
+  not-empty : (EmptyIn (stateOf ws ar) deepest t → ⊥) → (found : Bool) → hasEmpty (stateOf ws ar) deepest t ≡ found → hasEmpty (stateOf ws ar) deepest t ≡ false
+  not-empty none true e = absurd (none (empty-says (stateOf ws ar) (state-once ws ar) deepest t e))
   not-empty none false e = e
 
   written : (m : MayWrite ws ar t room) → writeAnswer ws ar t room ≡ Written.Image 24 (24 + (8 + 28 * length (stateOf ws ar t .members))) (length (imageFor ws ar t))
@@ -143,7 +149,7 @@ module _ (ws ar buffer : List ℕ) (t start end size : ℕ) (e : writeAnswer ws 
 image-header : (ws ar : List ℕ) (t : ℕ) → (24 ≤ length (imageFor ws ar t)) × (take 24 (imageFor ws ar t) ≡ zeros 24)
 unfolding imageFor imageOf
 image-header ws ar t =
-    let table = tableBytes plain (stateOf ws ar) depth t headerSize in
+    let table = tableBytes plain (stateOf ws ar) deepest t headerSize in
     (omega (arith, length-append (zeros 24) table, length-zeros 24), take-at (zeros 24) table 24 (length-zeros 24))
 
 pub success-rest : SuccessKeepsRest

@@ -4,8 +4,8 @@ use mathlib.Core.List.{List}
 use lib.ListN.{length}
 use Rattle.words.specs.Choice.{pick}
 use Rattle.layout.specs.declared.refusal.Refusal.the-variants.{EmptyKey, ImageTooLong}
-use Rattle.image.specs.Plan.{chunkSize}
-use Rattle.image.specs.Image.{headerSize, depth}
+use Rattle.layout.specs.Sizes.{headerSize, chunkSize}
+use Rattle.layout.specs.Limits.{deepest}
 use Rattle.write_bytes.specs.Numbered.{slotCount, numberedImage}
 use Rattle.write_numbers.specs.Roster.{stateOf}
 use Rattle.write.specs.Write.{hasEmpty, tooLong, imageFor}
@@ -20,4 +20,4 @@ fitAnswer numbered ar t room = sizeAnswer room (slotCount numbered t) (length (n
 
 unfoldable pub tableAnswer : List ℕ → List ℕ → ℕ → ℕ → Written
 tableAnswer ws ar t room =
-    pick (hasEmpty (stateOf ws ar) depth t) (Written.Refused EmptyKey) (sizeAnswer room (length (stateOf ws ar t .members)) (length (imageFor ws ar t)))
+    pick (hasEmpty (stateOf ws ar) deepest t) (Written.Refused EmptyKey) (sizeAnswer room (length (stateOf ws ar t .members)) (length (imageFor ws ar t)))

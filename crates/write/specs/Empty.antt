@@ -3,7 +3,8 @@ use Prim.Native.Nat.{ℕ}
 use mathlib.Core.Bool.{Bool, _&&_, _||_}
 use mathlib.Core.List.{List}
 use lib.Dec.{eqb}
-use Rattle.build_memory.specs.Memory.{keySize, itemKind, itemGuest, tableKind}
+use Rattle.layout.specs.Kind.{tableKind}
+use Rattle.build_memory.specs.Memory.{keySize, itemKind, itemGuest}
 use Rattle.write_numbers.specs.Roster.{stateOf}
 use Rattle.write.specs.Write.{hasEmpty}
 

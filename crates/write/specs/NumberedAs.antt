@@ -7,16 +7,19 @@ use lib.Dec.{eqb, ltb}
 use lib.ListN.{length, getD}
 use Rattle.words.specs.Choice.{pick}
 use Rattle.words.specs.Hash.{plain}
-use Rattle.build_memory.specs.Memory.{emptyMark, itemTotal, itemTable, itemHash, keyStart, keySize, itemParent, itemKind, valueStart, valueSize, itemGuest, containerKind}
+use Rattle.layout.specs.Item.{noItem}
+use Rattle.layout.specs.Kind.{containerKind}
+use Rattle.build_memory.specs.Memory.{itemTotal, itemTable, itemHash, keyStart, keySize, itemParent, itemKind, valueStart, valueSize, itemGuest, leastWords}
 use Rattle.image.specs.Fits.{SamePlan}
 use Rattle.image.specs.Image.{planOf}
-use Rattle.write_bytes.specs.Numbered.{numberedTables, numberedSlots, slotsAt, childrenAt, numberedSize, slotWord, childWord, byKind, numberedPlan, NumberedFits, SlotFits}
-use Rattle.write_numbers.specs.Roster.{stateOf, firstSlot, itemIndex, bucketWord}
+use Rattle.layout.specs.Limits.{mostTables, mostItems}
+use Rattle.write_bytes.specs.Numbered.{slotsFrom, childrenFrom, numberedSize, slotWord, childWord, byKind, numberedPlan, NumberedFits, SlotFits, firstSlot, slotSize}
+use Rattle.write_numbers.specs.Roster.{stateOf, itemIndex, bucketWord, rosterSize}
 
 -- every table of the numbered table agrees with the table that the memory means, whatever nested tables are laid as
 pub record NumberedAs (ws ar numbered : List ℕ) : Type 0 where
   pub fits : NumberedFits numbered ar
-  pub plans : (inner : ℕ → ℕ → List ℕ) (t : ℕ) → t < numberedTables
+  pub plans : (inner : ℕ → ℕ → List ℕ) (t : ℕ) → t < mostTables
       → SamePlan (numberedPlan inner numbered ar t) (planOf plain inner (stateOf ws ar) (stateOf ws ar t))
 
 -- ---- children
@@ -34,14 +37,18 @@ fromLast ws p = itemTotal ws - 1 - p
 abbrev pub Parents : List ℕ → List ℕ → Type 0
 Parents ws hashes = (p : ℕ) → p < itemTotal ws → getD hashes p 0 ≡ itemParent ws (fromLast ws p)
 
+-- the words of the firsts: one for each parent word, and one behind the last
+abbrev pub firstsSize : ℕ
+firstsSize = mostItems + 2
+
 -- the ranks in the order of their parents, and where those of each parent word start: siblings stand in order of creation
 pub record Siblings (ws order firsts : List ℕ) : Type 0 where
-  pub long : length order ≡ numberedSlots
-  pub wide : length firsts ≡ 1026
+  pub long : length order ≡ mostItems
+  pub wide : length firsts ≡ firstsSize
   pub inside : (j : ℕ) → j < itemTotal ws → getD order j 0 < itemTotal ws
-  pub next : (i : ℕ) → i < numberedSlots → getD firsts (i + 2) 0 ≡ getD firsts (i + 1) 0 + length (childItems ws (i + 1) (itemTotal ws))
-  pub few : (i : ℕ) → i < numberedSlots → getD firsts (i + 2) 0 ≤ itemTotal ws
-  pub child : (i j : ℕ) → i < numberedSlots → j < length (childItems ws (i + 1) (itemTotal ws))
+  pub next : (i : ℕ) → i < mostItems → getD firsts (i + 2) 0 ≡ getD firsts (i + 1) 0 + length (childItems ws (i + 1) (itemTotal ws))
+  pub few : (i : ℕ) → i < mostItems → getD firsts (i + 2) 0 ≤ itemTotal ws
+  pub child : (i j : ℕ) → i < mostItems → j < length (childItems ws (i + 1) (itemTotal ws))
       → fromLast ws (getD order (getD firsts (i + 1) 0 + j) 0) ≡ getD (childItems ws (i + 1) (itemTotal ws)) j 0
 
 -- ---- the words of a numbered table
@@ -52,7 +59,7 @@ Clear numbered = (k : ℕ) → k < numberedSize → getD numbered k 0 ≡ 0
 
 -- the head's words are the roster's; all else is 0
 unfoldable pub startWord : List ℕ → ℕ → ℕ
-startWord roster k = pick (ltb k slotsAt) (getD roster k 0) 0
+startWord roster k = pick (ltb k slotsFrom) (getD roster k 0) 0
 
 pub record NumberedStart (roster numbered : List ℕ) : Type 0 where
   pub long : length numbered ≡ numberedSize
@@ -62,8 +69,8 @@ pub record NumberedStart (roster numbered : List ℕ) : Type 0 where
 pub record NumberedChildren (ws roster order before after : List ℕ) : Type 0 where
   pub long : length after ≡ length before
   pub is : (j : ℕ) → j < itemTotal ws → childWord after j ≡ itemIndex roster (fromLast ws (getD order j 0))
-  pub kept : (k : ℕ) → k < childrenAt → getD after k 0 ≡ getD before k 0
-  pub rest : (k : ℕ) → childrenAt + itemTotal ws ≤ k → getD after k 0 ≡ getD before k 0
+  pub kept : (k : ℕ) → k < childrenFrom → getD after k 0 ≡ getD before k 0
+  pub rest : (k : ℕ) → childrenFrom + itemTotal ws ≤ k → getD after k 0 ≡ getD before k 0
 
 -- item i is laid as a child: it has a parent, which is a container
 unfoldable pub childTest : List ℕ → ℕ → Bool
@@ -83,7 +90,7 @@ module _ (ws firsts : List ℕ) where
 
 module _ (ws roster : List ℕ) where
   unfoldable pub parentWord : ℕ → ℕ
-  parentWord i = pick (childTest ws i) (itemIndex roster (itemParent ws i - 1)) emptyMark
+  parentWord i = pick (childTest ws i) (itemIndex roster (itemParent ws i - 1)) noItem
 
   -- the slot of item i
   unfoldable pub slotOf : ℕ → ℕ
@@ -91,14 +98,14 @@ module _ (ws roster : List ℕ) where
 
   -- its parent was made earlier, and its slot is one that there is
   pub record Slotted (i : ℕ) : Type 0 where
-    pub long : 14600 ≤ length ws
-    pub roster-long : length roster ≡ 3200
-    pub inside : i < 1024
-    pub table : itemTable ws i < 64
+    pub long : leastWords ≤ length ws
+    pub roster-long : length roster ≡ rosterSize
+    pub inside : i < mostItems
+    pub table : itemTable ws i < mostTables
     pub earlier : itemParent ws i ≤ i
     pub shorter : skipped ws i ≤ keySize ws i
     pub key : keyStart ws i + keySize ws i < 2 ^ 64
-    pub within : slotOf i < 1024
+    pub within : slotOf i < mostItems
 
   unfoldable pub frontWords : ℕ → List ℕ
   frontWords i = itemHash ws i ∷ parentWord i ∷ (keyStart ws i + skipped ws i) ∷ (keySize ws i - skipped ws i) ∷ []
@@ -113,14 +120,14 @@ module _ (ws roster : List ℕ) where
 
 -- `firsts` ascends, up to the count of the child words
 pub record Firsts (firsts : List ℕ) : Type 0 where
-  pub wide : length firsts ≡ 1026
-  pub up : (i : ℕ) → i < numberedSlots → getD firsts (i + 1) 0 ≤ getD firsts (i + 2) 0
-  pub few : (i : ℕ) → i < numberedSlots → getD firsts (i + 2) 0 ≤ numberedSlots
+  pub wide : length firsts ≡ firstsSize
+  pub up : (i : ℕ) → i < mostItems → getD firsts (i + 1) 0 ≤ getD firsts (i + 2) 0
+  pub few : (i : ℕ) → i < mostItems → getD firsts (i + 2) 0 ≤ mostItems
 
 -- the slots of the first n items have their words, every slot can be laid, and all else is as it was
 pub record NumberedSlots (ws ar roster firsts before after : List ℕ) (n : ℕ) : Type 0 where
   pub long : length after ≡ length before
-  pub is : (i : ℕ) → i < n → (which : ℕ) → which < 8 → slotWord after (slotOf ws roster i) which ≡ getD (slotWords ws roster firsts i) which 0
-  pub fits : (s : ℕ) → s < numberedSlots → SlotFits after ar s
-  pub head : (k : ℕ) → k < slotsAt → getD after k 0 ≡ getD before k 0
-  pub tail : (k : ℕ) → childrenAt ≤ k → getD after k 0 ≡ getD before k 0
+  pub is : (i : ℕ) → i < n → (which : ℕ) → which < slotSize → slotWord after (slotOf ws roster i) which ≡ getD (slotWords ws roster firsts i) which 0
+  pub fits : (s : ℕ) → s < mostItems → SlotFits after ar s
+  pub head : (k : ℕ) → k < slotsFrom → getD after k 0 ≡ getD before k 0
+  pub tail : (k : ℕ) → childrenFrom ≤ k → getD after k 0 ≡ getD before k 0

@@ -6,11 +6,10 @@ use mathlib.Core.Logic.{_⊎_}
 use mathlib.Core.List.{List}
 use lib.ListN.{length, take, drop}
 use Rattle.words.specs.Store.{zeros}
-use Rattle.layout.specs.Table.{longestFile}
+use Rattle.layout.specs.Limits.{longestFile, deepest}
 use Rattle.model.specs.Table.{Content, State, Has}
 use Rattle.build_memory.specs.Memory.{tableTotal, tablePlaced}
 use Rattle.build_rules.specs.Valid.{fullyValid}
-use Rattle.image.specs.Image.{depth}
 use Rattle.write_numbers.specs.Roster.{stateOf}
 use Rattle.write.specs.declared.Written.{Written}
 use Rattle.write.specs.Write.{imageFor, writeAnswer, writtenNumber, imageAfter}
@@ -30,7 +29,7 @@ pub record MayWrite (ws ar : List ℕ) (t room : ℕ) : Type 0 where
   pub known : t < tableTotal ws
   pub loose : tablePlaced ws t ≡ 0
   -- no key is empty (else 30)
-  pub named : EmptyIn (stateOf ws ar) depth t → ⊥
+  pub named : EmptyIn (stateOf ws ar) deepest t → ⊥
   -- the image is no longer than a file may be, nor than the buffer (else 31)
   pub short : length (imageFor ws ar t) ≤ longestFile
   pub fits : length (imageFor ws ar t) ≤ room

@@ -1,7 +1,7 @@
 -- A write, from document 01, 'Laying an image' and 'Order': 29, 24, 30 anywhere in the table or those nested in it, 31. A refusal writes nothing; the
 -- builder stays as it was.
 use Prim.Native.Nat.{ℕ, zero, suc, _+_}
-use mathlib.Core.Bool.{Bool, false, _&&_, _||_}
+use mathlib.Core.Bool.{Bool, false, _||_}
 use mathlib.Core.List.{List, []}
 use lib.Dec.{eqb, ltb}
 use lib.ListN.{length}
@@ -9,15 +9,15 @@ use Rattle.words.specs.Choice.{pick}
 use Rattle.words.specs.Below.{someBelow}
 use Rattle.words.specs.Store.{putAt}
 use Rattle.words.specs.Hash.{plain}
-use Rattle.layout.specs.Table.{longestFile}
+use Rattle.layout.specs.Limits.{longestFile, deepest}
 use Rattle.layout.specs.Refusal.{number}
 use Rattle.layout.specs.declared.refusal.Refusal.the-variants.{MemoryBroken, TableUnknown, EmptyKey, ImageTooLong}
 use Rattle.model.specs.Table.{Content, State}
-use Rattle.build_memory.specs.Memory.{tableTotal, tablePlaced}
 use Rattle.build_rules.specs.Valid.{fullyValid}
+use Rattle.build_tables.specs.Table.{freeStanding}
 use Rattle.image.specs.Index.{itemOf}
-use Rattle.image.specs.Plan.{chunkSize}
-use Rattle.image.specs.Image.{headerSize, depth, imageOf}
+use Rattle.layout.specs.Sizes.{headerSize, chunkSize}
+use Rattle.image.specs.Image.{imageOf}
 use Rattle.write_numbers.specs.Roster.{stateOf}
 use Rattle.write.specs.declared.Written.{Written}
 
@@ -34,10 +34,6 @@ hasEmpty state (suc d) t =
     someBelow (λ k. eqb (length (state t .key (itemOf plain (state t) k))) 0 || emptyHeld (λ u. hasEmpty state d u) (state t .content (itemOf plain (state t) k)))
     (length (state t .members))
 
--- a free-standing table: known and not placed
-unfoldable pub freeStanding : List ℕ → ℕ → Bool
-freeStanding ws t = ltb t (tableTotal ws) && eqb (tablePlaced ws t) 0
-
 -- what is to be laid
 unfoldable pub imageFor : List ℕ → List ℕ → ℕ → List ℕ
 imageFor ws ar t = imageOf plain (stateOf ws ar) t
@@ -51,7 +47,7 @@ unfoldable pub writeAnswer : List ℕ → List ℕ → ℕ → ℕ → Written
 writeAnswer ws ar t room =
     pick (fullyValid ws ar)
     (pick (freeStanding ws t)
-    (pick (hasEmpty (stateOf ws ar) depth t) (Written.Refused EmptyKey)
+    (pick (hasEmpty (stateOf ws ar) deepest t) (Written.Refused EmptyKey)
     (pick (tooLong room (length (imageFor ws ar t))) (Written.Refused ImageTooLong)
     (Written.Image headerSize (headerSize + chunkSize (length (stateOf ws ar t .members))) (length (imageFor ws ar t)))))
     (Written.Refused TableUnknown))

@@ -2,14 +2,17 @@
 use build_memory::fields::GUEST;
 use build_memory::fields::KEY_SIZE;
 use build_memory::fields::KIND;
-use build_memory::fields::TABLE_KIND;
 use build_memory::fields::item_word;
+use layout::kind::TABLE_KIND;
+use write_bytes::numbered::HEAD_WORDS;
+use write_bytes::numbered::SLOTS_FROM;
 ghost use mathlib.Core.Path.{_≡_};
 ghost use mathlib.Core.Bool.{true};
 ghost use Prim.Native.Nat.{_<_};
 ghost use Rattle.build_memory.specs.Memory.{itemTotal};
 ghost use Rattle.build_rules.specs.Valid.{fullyValid};
 ghost use Rattle.write_numbers.specs.Roster.{stateOf, Rostered};
+ghost use Rattle.layout.specs.Limits.{mostTables};
 ghost use Rattle.write.specs.Write.{hasEmpty};
 ghost use Rattle.write.specs.Empty.{itemEmpty};
 
@@ -23,17 +26,17 @@ pub fn has_empty(
 ) -> bool
     requires { ⌜ fullyValid (now words) (now arena) ≡ true ⌝ }
     requires { ⌜ Rostered (now words) (now arena) (now roster) ⌝ }
-    requires { ⌜ table < 64 ⌝ }
+    requires { ⌜ table < mostTables ⌝ }
     ensures { λ r. ⌜ r ≡ hasEmpty (stateOf (now (words .entry)) (now (arena .entry))) depth table ⌝ }
 {
     if depth == 0 {
         return false;
     }
-    let first = roster[2 * table];
-    let count = roster[2 * table + 1];
+    let first = roster[HEAD_WORDS * table];
+    let count = roster[HEAD_WORDS * table + 1];
     let mut k = 0;
     while k < count {
-        let item = roster[128 + (first + k)];
+        let item = roster[SLOTS_FROM + (first + k)];
         if item_empty(words, arena, roster, item, depth - 1) {
             return true;
         }

@@ -1,28 +1,29 @@
 // The numbered table of a builder's memory, from its roster.
+use crate::children::FIRSTS_SIZE;
 use crate::children::order_siblings;
 use crate::children::put_children;
 use crate::slot::put_slot;
 use build_memory::fields::ITEMS;
+use layout::limits::MOST_ITEMS;
+use words::store::put_words;
+use write_bytes::numbered::SLOTS_FROM;
 ghost use mathlib.Core.Path.{_≡_};
 ghost use mathlib.Core.Bool.{true};
 ghost use Prim.Native.Nat.{ℕ, _<_};
 ghost use lib.ListN.{length};
 ghost use Rattle.build_memory.specs.Memory.{itemTotal};
 ghost use Rattle.build_rules.specs.Valid.{fullyValid};
-ghost use Rattle.write_bytes.specs.Numbered.{SlotFits};
-ghost use Rattle.write_numbers.specs.Roster.{Rostered};
+ghost use Rattle.write_bytes.specs.Numbered.{SlotFits, numberedSize};
+ghost use Rattle.write_numbers.specs.Roster.{Rostered, rosterSize};
+ghost use Rattle.layout.specs.Limits.{mostItems};
 ghost use Rattle.write.specs.NumberedAs.{Clear, NumberedStart, NumberedSlots, Firsts, NumberedAs};
 
 // Puts the head, which is the roster's, into a clear numbered table.
 fn start_numbered(roster: &[usize], numbered: &mut [usize])
-    requires { ⌜ (length (now roster) ≡ 3200) × (length (now numbered) ≡ 9344) × Clear (now numbered) ⌝ }
+    requires { ⌜ (length (now roster) ≡ rosterSize) × (length (now numbered) ≡ numberedSize) × Clear (now numbered) ⌝ }
     ensures { λ _. ⌜ NumberedStart (now (roster .entry)) (now (numbered .exit)) ⌝ }
 {
-    let mut k = 0;
-    while k < 128 {
-        numbered[k] = roster[k];
-        k += 1;
-    }
+    put_words(numbered, 0, &roster[..SLOTS_FROM]);
 }
 
 // Puts the slots of all items.
@@ -36,7 +37,7 @@ fn put_slots(
     requires { ⌜ fullyValid (now words) (now arena) ≡ true ⌝ }
     requires { ⌜ Rostered (now words) (now arena) (now roster) ⌝ }
     requires { ⌜ Firsts (now firsts) ⌝ }
-    requires { ⌜ (length (now numbered) ≡ 9344) × ((s : ℕ) → s < 1024 → SlotFits (now numbered) (now arena) s) ⌝ }
+    requires { ⌜ (length (now numbered) ≡ numberedSize) × ((s : ℕ) → s < mostItems → SlotFits (now numbered) (now arena) s) ⌝ }
     ensures { λ _. ⌜ NumberedSlots (now (words .entry)) (now (arena .entry)) (now (roster .entry)) (now (firsts .entry)) (now (numbered .entry)) (now (numbered .exit)) (itemTotal (now (words .entry))) ⌝ }
 {
     let n = words[ITEMS];
@@ -51,12 +52,12 @@ fn put_slots(
 pub fn fill_numbered(words: &[usize], arena: &[u8], roster: &[usize], numbered: &mut [usize])
     requires { ⌜ fullyValid (now words) (now arena) ≡ true ⌝ }
     requires { ⌜ Rostered (now words) (now arena) (now roster) ⌝ }
-    requires { ⌜ (length (now numbered) ≡ 9344) × Clear (now numbered) ⌝ }
+    requires { ⌜ (length (now numbered) ≡ numberedSize) × Clear (now numbered) ⌝ }
     ensures { λ _. ⌜ NumberedAs (now (words .entry)) (now (arena .entry)) (now (numbered .exit)) ⌝ }
 {
     let n = words[ITEMS];
-    let mut order = [0usize; 1024];
-    let mut firsts = [n; 1026];
+    let mut order = [0usize; MOST_ITEMS];
+    let mut firsts = [n; FIRSTS_SIZE];
     order_siblings(words, arena, &mut order, &mut firsts);
     start_numbered(roster, numbered);
     put_children(words, roster, &order, numbered);

@@ -1,5 +1,5 @@
 // The words of an item's slot.
-use build_memory::fields::CONTAINER_KIND;
+use build_memory::fields::EMPTY;
 use build_memory::fields::GUEST;
 use build_memory::fields::HASH;
 use build_memory::fields::KEY;
@@ -7,22 +7,31 @@ use build_memory::fields::KEY_SIZE;
 use build_memory::fields::KIND;
 use build_memory::fields::PARENT;
 use build_memory::fields::TABLE;
-use build_memory::fields::TABLE_KIND;
 use build_memory::fields::VALUE;
-use build_memory::fields::VALUE_KIND;
 use build_memory::fields::VALUE_SIZE;
 use build_memory::fields::item_word;
+use layout::kind::CONTAINER_KIND;
+use layout::kind::TABLE_KIND;
+use layout::kind::VALUE_KIND;
+use words::store::put_words;
+use write_bytes::numbered::HEAD_WORDS;
+use write_bytes::numbered::SLOT_SIZE;
+use write_bytes::numbered::SLOTS_FROM;
+use write_numbers::roster::BUCKETS_FROM;
+use write_numbers::roster::INDICES_FROM;
 ghost use mathlib.Core.Path.{_≡_};
-ghost use mathlib.Core.List.{[], _∷_};
 ghost use Prim.Native.Nat.{ℕ, _+_, _*_, _-_, _<_, _≤_};
 ghost use lib.ListN.{length, getD};
 ghost use Rattle.words.specs.Store.{putAt};
-ghost use Rattle.build_memory.specs.Memory.{itemParent, itemTable};
-ghost use Rattle.write.specs.NumberedAs.{childTest, skipped, parentWord, slotOf, startOf, sizeOf, frontWords, backWords, slotWords, Slotted, Firsts};
+ghost use Rattle.build_memory.specs.Memory.{itemParent, itemTable, leastWords};
+ghost use Rattle.write_numbers.specs.Roster.{rosterSize};
+ghost use Rattle.write_bytes.specs.Numbered.{numberedSize, slotsFrom, slotSize};
+ghost use Rattle.layout.specs.Limits.{mostItems};
+ghost use Rattle.write.specs.NumberedAs.{childTest, skipped, parentWord, slotOf, startOf, sizeOf, frontWords, backWords, slotWords, Slotted, Firsts, firstsSize};
 
 // Whether an item is laid as a child: it has a parent, which is a container.
 fn is_child(words: &[usize], i: usize) -> bool
-    requires { ⌜ (14600 ≤ length (now words)) × (i < 1024) × (itemParent (now words) i ≤ i) ⌝ }
+    requires { ⌜ (leastWords ≤ length (now words)) × (i < mostItems) × (itemParent (now words) i ≤ i) ⌝ }
     ensures { λ r. ⌜ r ≡ childTest (now (words .entry)) i ⌝ }
 {
     let parent = item_word(words, i, PARENT);
@@ -34,7 +43,7 @@ fn is_child(words: &[usize], i: usize) -> bool
 
 // How many bytes of an item's key are its parent's.
 fn skip_of(words: &[usize], i: usize) -> usize
-    requires { ⌜ (14600 ≤ length (now words)) × (i < 1024) × (itemParent (now words) i ≤ i) ⌝ }
+    requires { ⌜ (leastWords ≤ length (now words)) × (i < mostItems) × (itemParent (now words) i ≤ i) ⌝ }
     ensures { λ r. ⌜ r ≡ skipped (now (words .entry)) i ⌝ }
 {
     if !is_child(words, i) {
@@ -45,28 +54,28 @@ fn skip_of(words: &[usize], i: usize) -> usize
 
 // The laid index of an item's parent; 0xFFFFFFFF for a root.
 fn parent_word(words: &[usize], roster: &[usize], i: usize) -> usize
-    requires { ⌜ (14600 ≤ length (now words)) × (i < 1024) × (itemParent (now words) i ≤ i) × (length (now roster) ≡ 3200) ⌝ }
+    requires { ⌜ (leastWords ≤ length (now words)) × (i < mostItems) × (itemParent (now words) i ≤ i) × (length (now roster) ≡ rosterSize) ⌝ }
     ensures { λ r. ⌜ r ≡ parentWord (now (words .entry)) (now (roster .entry)) i ⌝ }
 {
     if !is_child(words, i) {
-        return 0xFFFF_FFFF;
+        return EMPTY;
     }
     let above = item_word(words, i, PARENT) - 1;
-    roster[1152 + above]
+    roster[INDICES_FROM + above]
 }
 
 // The slot of an item.
 fn slot_of(words: &[usize], roster: &[usize], i: usize) -> usize
     requires { ⌜ Slotted (now words) (now roster) i ⌝ }
-    ensures { λ r. ⌜ (r ≡ slotOf (now (words .entry)) (now (roster .entry)) i) × (r < 1024) ⌝ }
+    ensures { λ r. ⌜ (r ≡ slotOf (now (words .entry)) (now (roster .entry)) i) × (r < mostItems) ⌝ }
 {
     let table = item_word(words, i, TABLE);
-    roster[2 * table] + roster[1152 + i]
+    roster[HEAD_WORDS * table] + roster[INDICES_FROM + i]
 }
 
 // By kind: where the value starts, the guest, or the first child word.
 fn start_of(words: &[usize], firsts: &[usize], i: usize) -> usize
-    requires { ⌜ (14600 ≤ length (now words)) × (i < 1024) × (length (now firsts) ≡ 1026) ⌝ }
+    requires { ⌜ (leastWords ≤ length (now words)) × (i < mostItems) × (length (now firsts) ≡ firstsSize) ⌝ }
     ensures { λ r. ⌜ r ≡ startOf (now (words .entry)) (now (firsts .entry)) i ⌝ }
 {
     let kind = item_word(words, i, KIND);
@@ -81,7 +90,7 @@ fn start_of(words: &[usize], firsts: &[usize], i: usize) -> usize
 
 // By kind: the value's length, nothing, or the count of child words.
 fn size_of(words: &[usize], firsts: &[usize], i: usize) -> usize
-    requires { ⌜ (14600 ≤ length (now words)) × (i < 1024) × (length (now firsts) ≡ 1026) ⌝ }
+    requires { ⌜ (leastWords ≤ length (now words)) × (i < mostItems) × (length (now firsts) ≡ firstsSize) ⌝ }
     requires { ⌜ getD (now firsts) (i + 1) 0 ≤ getD (now firsts) (i + 2) 0 ⌝ }
     ensures { λ r. ⌜ r ≡ sizeOf (now (words .entry)) (now (firsts .entry)) i ⌝ }
 {
@@ -96,17 +105,6 @@ fn size_of(words: &[usize], firsts: &[usize], i: usize) -> usize
     firsts[i + 2] - from
 }
 
-// Stores four words.
-fn put_four(numbered: &mut [usize], at: usize, a: usize, b: usize, c: usize, d: usize)
-    requires { ⌜ at + 4 ≤ length (now numbered) ⌝ }
-    ensures { λ _. ⌜ now (numbered .exit) ≡ putAt (now (numbered .entry)) at (a ∷ b ∷ c ∷ d ∷ []) ⌝ }
-{
-    numbered[at] = a;
-    numbered[at + 1] = b;
-    numbered[at + 2] = c;
-    numbered[at + 3] = d;
-}
-
 // Puts the first four words of an item's slot.
 fn put_front(words: &[usize], roster: &[usize], i: usize, numbered: &mut [usize], at: usize)
     requires { ⌜ Slotted (now words) (now roster) i ⌝ }
@@ -118,7 +116,8 @@ fn put_front(words: &[usize], roster: &[usize], i: usize, numbered: &mut [usize]
     let skip = skip_of(words, i);
     let start = item_word(words, i, KEY) + skip;
     let size = item_word(words, i, KEY_SIZE) - skip;
-    put_four(numbered, at, hash, parent, start, size);
+    let row = [hash, parent, start, size];
+    put_words(numbered, at, &row);
 }
 
 // Puts the last four words of an item's slot.
@@ -139,8 +138,9 @@ fn put_back(
     let start = start_of(words, firsts, i);
     let size = size_of(words, firsts, i);
     let slot = slot_of(words, roster, i);
-    let bucket = roster[2176 + slot];
-    put_four(numbered, at, kind, start, size, bucket);
+    let bucket = roster[BUCKETS_FROM + slot];
+    let row = [kind, start, size, bucket];
+    put_words(numbered, at, &row);
 }
 
 // Puts the words of an item's slot.
@@ -153,10 +153,10 @@ pub fn put_slot(
 )
     requires { ⌜ Slotted (now words) (now roster) i ⌝ }
     requires { ⌜ Firsts (now firsts) ⌝ }
-    requires { ⌜ length (now numbered) ≡ 9344 ⌝ }
-    ensures { λ _. ⌜ now (numbered .exit) ≡ putAt (now (numbered .entry)) (128 + 8 * slotOf (now (words .entry)) (now (roster .entry)) i) (slotWords (now (words .entry)) (now (roster .entry)) (now (firsts .entry)) i) ⌝ }
+    requires { ⌜ length (now numbered) ≡ numberedSize ⌝ }
+    ensures { λ _. ⌜ now (numbered .exit) ≡ putAt (now (numbered .entry)) (slotsFrom + slotSize * slotOf (now (words .entry)) (now (roster .entry)) i) (slotWords (now (words .entry)) (now (roster .entry)) (now (firsts .entry)) i) ⌝ }
 {
-    let at = 128 + 8 * slot_of(words, roster, i);
+    let at = SLOTS_FROM + SLOT_SIZE * slot_of(words, roster, i);
     put_front(words, roster, i, numbered, at);
     put_back(words, roster, firsts, i, numbered, at + 4);
 }

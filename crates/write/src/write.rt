@@ -2,52 +2,39 @@
 use crate::Written;
 use crate::empty::has_empty;
 use crate::numbered::fill_numbered;
-use build_memory::fields::PLACED;
-use build_memory::fields::TABLES;
-use build_memory::fields::table_word;
 use build_rules::judge::judge_fully;
+use build_tables::add::is_free_standing;
+use layout::limits::DEEPEST;
 use layout::refusal::Refusal;
+use layout::sizes::CHUNK_STEP;
+use layout::sizes::HEAD_SIZE;
+use layout::sizes::HEADER_SIZE;
 use words::wide::word_size;
 use write_bytes::Measured;
+use write_bytes::numbered::NUMBERED_SIZE;
 use write_bytes::numbered::slot_count;
 use write_bytes::whole::lay_image;
 use write_bytes::whole::measure;
 use write_numbers::fill::roster_all;
+use write_numbers::roster::ROSTER_SIZE;
 ghost use mathlib.Core.Path.{_≡_};
 ghost use mathlib.Core.Bool.{true};
 ghost use Prim.Native.Nat.{_<_, _≤_};
 ghost use lib.ListN.{length};
 ghost use Rattle.words.specs.Store.{putAt};
-ghost use Rattle.model.specs.Builder.{mostTables};
-ghost use Rattle.build_memory.specs.Memory.{leastWords, tableTotal};
+ghost use Rattle.layout.specs.Limits.{mostTables, longestFile};
 ghost use Rattle.build_rules.specs.Valid.{fullyValid};
-ghost use Rattle.write_bytes.specs.Numbered.{numberedTables, numberedImage, NumberedFits};
+ghost use Rattle.write_bytes.specs.Numbered.{numberedImage, NumberedFits};
 ghost use Rattle.write_numbers.specs.Roster.{Rostered};
-ghost use Rattle.write.specs.Write.{freeStanding, imageFor, writeAnswer, laidBy, imageAfter};
+ghost use Rattle.write.specs.Write.{imageFor, writeAnswer, laidBy, imageAfter};
 ghost use Rattle.write.specs.Answer.{fitAnswer, tableAnswer};
-
-// Where the image's root table starts, and the deepest that tables nest.
-const HEADER: usize = 24;
-
-const DEPTH: usize = 8;
-
-// Whether a table is free-standing: known and not placed.
-fn is_free_standing(words: &[usize], table: usize) -> bool
-    requires { ⌜ (leastWords ≤ length (now words)) × (tableTotal (now words) ≤ mostTables) ⌝ }
-    ensures { λ r. ⌜ r ≡ freeStanding (now (words .entry)) table ⌝ }
-{
-    if words[TABLES] <= table {
-        return false;
-    }
-    table_word(words, table, PLACED) == 0
-}
 
 // gvdb-rs: serialize_to_vec.
 // Lays the image of a table into the front of a buffer that is long enough.
 fn lay_into(numbered: &[usize], arena: &[u8], table: usize, image: &mut [u8], size: usize)
     requires { ⌜ NumberedFits (now numbered) (now arena) ⌝ }
-    requires { ⌜ (table < numberedTables) × (size ≡ length (numberedImage (now numbered) (now arena) table)) ⌝ }
-    requires { ⌜ (size ≤ length (now image)) × (size ≤ 16777216) ⌝ }
+    requires { ⌜ (table < mostTables) × (size ≡ length (numberedImage (now numbered) (now arena) table)) ⌝ }
+    requires { ⌜ (size ≤ length (now image)) × (size ≤ longestFile) ⌝ }
     ensures { λ _. ⌜ now (image .exit) ≡ putAt (now (image .entry)) 0 (numberedImage (now (numbered .entry)) (now (arena .entry)) table) ⌝ }
 {
     lay_image(numbered, arena, table, &mut image[..size]);
@@ -56,7 +43,7 @@ fn lay_into(numbered: &[usize], arena: &[u8], table: usize, image: &mut [u8], si
 // Lays a table, given by its number in a numbered table, unless its image is too long (31).
 fn write_if_fits(numbered: &[usize], arena: &[u8], table: usize, image: &mut [u8]) -> Written
     requires { ⌜ NumberedFits (now numbered) (now arena) ⌝ }
-    requires { ⌜ table < numberedTables ⌝ }
+    requires { ⌜ table < mostTables ⌝ }
     ensures { λ r. ⌜ r ≡ fitAnswer (now (numbered .entry)) (now (arena .entry)) table (length (now (image .entry))) ⌝ }
     ensures { λ _. ⌜ now (image .exit) ≡ laidBy (fitAnswer (now (numbered .entry)) (now (arena .entry)) table (length (now (image .entry)))) (numberedImage (now (numbered .entry)) (now (arena .entry)) table) (now (image .entry)) ⌝ }
 {
@@ -67,9 +54,9 @@ fn write_if_fits(numbered: &[usize], arena: &[u8], table: usize, image: &mut [u8
         return Written::Refused(Refusal::ImageTooLong);
     }
     lay_into(numbered, arena, table, image, size);
-    let end = HEADER + 8 + 28 * slot_count(numbered, table);
+    let end = HEADER_SIZE + HEAD_SIZE + CHUNK_STEP * slot_count(numbered, table);
     Written::Image {
-        start: HEADER as u32,
+        start: HEADER_SIZE as u32,
         end: end as u32,
         length: size as u32,
     }
@@ -85,14 +72,14 @@ fn write_unless_empty(
 ) -> Written
     requires { ⌜ fullyValid (now words) (now arena) ≡ true ⌝ }
     requires { ⌜ Rostered (now words) (now arena) (now roster) ⌝ }
-    requires { ⌜ table < numberedTables ⌝ }
+    requires { ⌜ table < mostTables ⌝ }
     ensures { λ r. ⌜ r ≡ tableAnswer (now (words .entry)) (now (arena .entry)) table (length (now (image .entry))) ⌝ }
     ensures { λ _. ⌜ now (image .exit) ≡ laidBy (tableAnswer (now (words .entry)) (now (arena .entry)) table (length (now (image .entry)))) (imageFor (now (words .entry)) (now (arena .entry)) table) (now (image .entry)) ⌝ }
 {
-    if has_empty(words, arena, roster, table, DEPTH) {
+    if has_empty(words, arena, roster, table, DEEPEST) {
         return Written::Refused(Refusal::EmptyKey);
     }
-    let mut numbered = [0usize; 9344];
+    let mut numbered = [0usize; NUMBERED_SIZE];
     fill_numbered(words, arena, roster, &mut numbered);
     write_if_fits(&numbered, arena, table, image)
 }
@@ -101,12 +88,12 @@ fn write_unless_empty(
 // Lays a free-standing table: indexes the items of all tables first.
 fn index_and_write(words: &mut [usize], arena: &[u8], table: usize, image: &mut [u8]) -> Written
     requires { ⌜ fullyValid (now words) (now arena) ≡ true ⌝ }
-    requires { ⌜ table < numberedTables ⌝ }
+    requires { ⌜ table < mostTables ⌝ }
     ensures { λ _. ⌜ now (words .exit) ≡ now (words .entry) ⌝ }
     ensures { λ r. ⌜ r ≡ tableAnswer (now (words .entry)) (now (arena .entry)) table (length (now (image .entry))) ⌝ }
     ensures { λ _. ⌜ now (image .exit) ≡ laidBy (tableAnswer (now (words .entry)) (now (arena .entry)) table (length (now (image .entry)))) (imageFor (now (words .entry)) (now (arena .entry)) table) (now (image .entry)) ⌝ }
 {
-    let mut roster = [0usize; 3200];
+    let mut roster = [0usize; ROSTER_SIZE];
     roster_all(words, arena, &mut roster);
     write_unless_empty(words, arena, &roster, table, image)
 }
@@ -122,7 +109,7 @@ pub fn write(words: &mut [usize], arena: &[u8], table: u32, image: &mut [u8]) ->
         return Written::Refused(Refusal::MemoryBroken);
     }
     let known = word_size(table);
-    if !is_free_standing(words, known) {
+    if !is_free_standing(words, arena, known) {
         return Written::Refused(Refusal::TableUnknown);
     }
     index_and_write(words, arena, known, image)

@@ -8,11 +8,13 @@ use lib.ListN.{length, length-append}
 use Rattle.words.specs.Store.{putAt}
 use Rattle.words.proofs.StoreLaws.{length-part}
 use Rattle.image.specs.Laid.{Laid}
-use Rattle.image.proofs.TimesLaws.{eq-or-ne}
+use Rattle.words.proofs.ChoiceLaws.{eq-or-ne}
 use Rattle.image.proofs.LaidLaws.{laid-join}
 use Rattle.image.proofs.PlanLaws.{length-words}
-use Rattle.write_bytes.specs.Numbered.{numberedSlots, kindValue, kindTable, slotWord, childWord, slotValue, SlotFits, NumberedFits}
-use Rattle.write_bytes.specs.Slot.{slotStart, slotCover, slotRecord, slotKey, plainValue, slotItem, SlotIn, CoverFits, RecordFits}
+use Rattle.layout.specs.Kind.{valueKind, tableKind}
+use Rattle.layout.specs.Limits.{mostItems}
+use Rattle.write_bytes.specs.Numbered.{slotWord, childWord, slotValue, SlotFits, NumberedFits, slotCover}
+use Rattle.write_bytes.specs.Slot.{slotStart, slotRecord, slotKey, plainValue, slotItem, SlotIn, CoverFits, RecordFits}
 use Rattle.write_bytes.proofs.KindLaws.{kind-value, kind-table, kind-container}
 use Rattle.write_bytes.proofs.SlotLaws.{cover-value, cover-table, cover-container, start-above, length-key}
 use Rattle.write_bytes.proofs.PutLaws.{plain-bytes, plain-children}
@@ -20,7 +22,7 @@ use Rattle.write_bytes.proofs.PutLaws.{plain-bytes, plain-children}
 -- a slot of a numbered table that fits
 pub record AtSlot (numbered arena : List ℕ) (s : ℕ) : Type 0 where
   pub fits : NumberedFits numbered arena
-  pub inside : s < numberedSlots
+  pub inside : s < mostItems
 
 module _ {numbered arena : List ℕ} {s : ℕ} (g : AtSlot numbered arena s) where
   pub slot-in : SlotIn numbered s
@@ -37,25 +39,25 @@ module _ {numbered arena : List ℕ} {s : ℕ} (g : AtSlot numbered arena s) whe
   }
 
   -- a value that is no nested table has the length that its pointer covers
-  pub length-plain : (slotWord numbered s 4 ≡ kindTable → ⊥) → length (plainValue numbered arena s) ≡ slotCover numbered s
+  pub length-plain : (slotWord numbered s 4 ≡ tableKind → ⊥) → length (plainValue numbered arena s) ≡ slotCover numbered s
   length-plain m =
       ⊎-elim
       (λ e. ap length (plain-bytes numbered arena s e) ∙ length-part arena (slotWord numbered s 5) (slotWord numbered s 6) (slot-fits .value e) ∙ sym (cover-value numbered s e))
       (λ n. ap length (plain-children numbered arena s n) ∙ length-words (λ j. childWord numbered (slotWord numbered s 5 + j)) (slotWord numbered s 6) ∙ sym (cover-container numbered s n m))
-      (eq-or-ne (slotWord numbered s 4) kindValue)
+      (eq-or-ne (slotWord numbered s 4) valueKind)
 
   module _ (inner : ℕ → ℕ → List ℕ) where
-    pub value-table : (at : ℕ) → slotWord numbered s 4 ≡ kindTable → slotValue inner numbered arena s at ≡ inner (slotWord numbered s 5) at
+    pub value-table : (at : ℕ) → slotWord numbered s 4 ≡ tableKind → slotValue inner numbered arena s at ≡ inner (slotWord numbered s 5) at
     unfolding slotValue
     value-table at e = kind-table _ _ _ _ e
 
-    pub value-plain : (at : ℕ) → (slotWord numbered s 4 ≡ kindTable → ⊥) → slotValue inner numbered arena s at ≡ plainValue numbered arena s
+    pub value-plain : (at : ℕ) → (slotWord numbered s 4 ≡ tableKind → ⊥) → slotValue inner numbered arena s at ≡ plainValue numbered arena s
     unfolding slotValue
     value-plain at m =
         ⊎-elim
         (λ e. kind-value _ _ _ _ e ∙ sym (plain-bytes numbered arena s e))
         (λ n. kind-container _ _ _ _ n m ∙ sym (plain-children numbered arena s n))
-        (eq-or-ne (slotWord numbered s 4) kindValue)
+        (eq-or-ne (slotWord numbered s 4) valueKind)
 
     pub key-end : (at : ℕ) → at + length (slotKey numbered arena s at (slotStart numbered s at)) ≡ slotStart numbered s at
     key-end at = length-key numbered s arena at (slotStart numbered s at) (slot-fits .fragment) (start-above numbered s at)
@@ -72,7 +74,7 @@ module _ {numbered arena : List ℕ} {s : ℕ} (g : AtSlot numbered arena s) whe
         ⊎-elim
         (λ e. omega (arith, cover-table numbered s e, cover-fits .items e))
         (λ m. omega (arith, ap length (value-plain start m), length-plain m))
-        (eq-or-ne (slotWord numbered s 4) kindTable)
+        (eq-or-ne (slotWord numbered s 4) tableKind)
 
     pub record-fits : (at : ℕ) → at + length (slotItem inner numbered arena s at) ≤ 16777216 → RecordFits numbered s at (slotStart numbered s at)
     record-fits at h = record {
@@ -101,13 +103,13 @@ module _ {numbered arena : List ℕ} {s : ℕ} (g : AtSlot numbered arena s) whe
 
     -- ---- its value and its end by the words that were read
 
-    pub guest-is : {guest start : ℕ} → slotWord numbered s 4 ≡ kindTable → guest ≡ slotWord numbered s 5 → inner guest start ≡ slotValue inner numbered arena s start
+    pub guest-is : {guest start : ℕ} → slotWord numbered s 4 ≡ tableKind → guest ≡ slotWord numbered s 5 → inner guest start ≡ slotValue inner numbered arena s start
     guest-is {guest} {start} k g = rw g (sym (value-table start k))
 
-    pub table-item : (at : ℕ) {guest start : ℕ} → slotWord numbered s 4 ≡ kindTable → guest ≡ slotWord numbered s 5 → start ≡ slotStart numbered s at
+    pub table-item : (at : ℕ) {guest start : ℕ} → slotWord numbered s 4 ≡ tableKind → guest ≡ slotWord numbered s 5 → start ≡ slotStart numbered s at
         → at + length (slotItem inner numbered arena s at) ≡ start + length (inner guest start)
     table-item at {guest} {start} k g e = item-end at ∙ rw (guest-is {guest = guest} {start = start} k g, e)
 
-    pub plain-item : (at : ℕ) {start : ℕ} → (slotWord numbered s 4 ≡ kindTable → ⊥) → start ≡ slotStart numbered s at
+    pub plain-item : (at : ℕ) {start : ℕ} → (slotWord numbered s 4 ≡ tableKind → ⊥) → start ≡ slotStart numbered s at
         → at + length (slotItem inner numbered arena s at) ≡ start + slotCover numbered s
     plain-item at m e = omega (arith, e, item-end at, ap length (value-plain (slotStart numbered s at) m), length-plain m)

@@ -5,8 +5,8 @@ use Prim.Native.Nat.{ℕ, _≤_, _<_}
 use native.Mathlib.Omega.{arith}
 use borrow.Author.Tests.{lt-ltb, le-ltb}
 use Rattle.words.specs.Choice.{pick}
-use Rattle.layout.specs.Table.{longestFile}
-use Rattle.image.proofs.TimesLaws.{lt-or-ge}
+use Rattle.layout.specs.Limits.{longestFile}
+use Rattle.words.proofs.ChoiceLaws.{lt-or-ge}
 use Rattle.write_bytes.specs.declared.Measured.{Measured}
 use Rattle.write_bytes.specs.Measure.{measured}
 

@@ -13,8 +13,9 @@ use Rattle.words.proofs.FieldLaws.{length-spelled}
 use Rattle.image.specs.Laid.{Laid}
 use Rattle.image.specs.Plan.{word, wordsOf}
 use Rattle.image.proofs.PlanLaws.{length-words, words-more, fourth-word}
-use Rattle.write_bytes.specs.Numbered.{kindValue, slotWord, childWord}
-use Rattle.write_bytes.specs.Slot.{headBytes, slotCover, slotRecord, slotKey, plainValue}
+use Rattle.layout.specs.Kind.{valueKind}
+use Rattle.write_bytes.specs.Numbered.{slotWord, childWord, slotCover}
+use Rattle.write_bytes.specs.Slot.{headBytes, slotRecord, slotKey, plainValue}
 
 -- a store directly behind another is one store of both
 pub put-then : (l : List ℕ) (at : ℕ) (a b : List ℕ) {m n : List ℕ} {mid : ℕ} → mid ≡ at + length a → m ≡ putAt l at a → n ≡ putAt m mid b → n ≡ putAt l at (a ++ b)
@@ -100,18 +101,18 @@ put-key numbered arena l s at start {from} {size} {end} {m} {n} ef es fits laid 
 -- ---- a value that is no nested table
 
 module _ (numbered arena : List ℕ) (s : ℕ) where
-  pub plain-bytes : slotWord numbered s 4 ≡ kindValue → plainValue numbered arena s ≡ part arena (slotWord numbered s 5) (slotWord numbered s 6)
+  pub plain-bytes : slotWord numbered s 4 ≡ valueKind → plainValue numbered arena s ≡ part arena (slotWord numbered s 5) (slotWord numbered s 6)
   unfolding plainValue pick
   plain-bytes e = rw (eq-eqb (slotWord numbered s 4) 118 e)
 
-  pub plain-children : (slotWord numbered s 4 ≡ kindValue → ⊥) → plainValue numbered arena s ≡ wordsOf (λ j. childWord numbered (slotWord numbered s 5 + j)) (slotWord numbered s 6)
+  pub plain-children : (slotWord numbered s 4 ≡ valueKind → ⊥) → plainValue numbered arena s ≡ wordsOf (λ j. childWord numbered (slotWord numbered s 5 + j)) (slotWord numbered s 6)
   unfolding plainValue pick
   plain-children n = rw (ne-eqb (slotWord numbered s 4) 118 n)
 
-  pub bytes-laid : {l m : List ℕ} {at start size end : ℕ} → slotWord numbered s 4 ≡ kindValue → start ≡ slotWord numbered s 5 → size ≡ slotWord numbered s 6
+  pub bytes-laid : {l m : List ℕ} {at start size end : ℕ} → slotWord numbered s 4 ≡ valueKind → start ≡ slotWord numbered s 5 → size ≡ slotWord numbered s 6
       → Laid l m at (part arena start size) end → Laid l m at (plainValue numbered arena s) end
   bytes-laid k e f p = rw (plain-bytes k, ← e, ← f) p
 
-  pub children-laid : {l m : List ℕ} {at start size end : ℕ} → (slotWord numbered s 4 ≡ kindValue → ⊥) → start ≡ slotWord numbered s 5 → size ≡ slotWord numbered s 6
+  pub children-laid : {l m : List ℕ} {at start size end : ℕ} → (slotWord numbered s 4 ≡ valueKind → ⊥) → start ≡ slotWord numbered s 5 → size ≡ slotWord numbered s 6
       → Laid l m at (wordsOf (λ j. childWord numbered (start + j)) size) end → Laid l m at (plainValue numbered arena s) end
   children-laid k e f p = rw (plain-children k) (rw (← e, ← f) p)

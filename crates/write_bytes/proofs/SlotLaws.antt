@@ -7,24 +7,25 @@ use lib.ListN.{length, length-append}
 use Rattle.words.specs.Store.{part, zeros}
 use Rattle.words.specs.Align.{aligned}
 use Rattle.words.proofs.StoreLaws.{length-zeros, length-part}
-use Rattle.image.specs.Plan.{chunkSize}
+use Rattle.layout.specs.Sizes.{chunkSize}
 use Rattle.image.proofs.PlanLaws.{aligned-above}
-use Rattle.write_bytes.specs.Numbered.{kindValue, kindTable, slotCount, slotWord, byKind}
-use Rattle.write_bytes.specs.Slot.{slotStart, slotCover, slotKey}
+use Rattle.layout.specs.Kind.{valueKind, tableKind}
+use Rattle.write_bytes.specs.Numbered.{slotCount, slotWord, byKind, slotCover}
+use Rattle.write_bytes.specs.Slot.{slotStart, slotKey}
 use Rattle.write_bytes.proofs.KindLaws.{kind-value, kind-table, kind-container}
 
 module _ (numbered : List ℕ) (s : ℕ) where
   -- ---- what its pointer covers, kind by kind
 
-  pub cover-value : slotWord numbered s 4 ≡ kindValue → slotCover numbered s ≡ slotWord numbered s 6
+  pub cover-value : slotWord numbered s 4 ≡ valueKind → slotCover numbered s ≡ slotWord numbered s 6
   unfolding slotCover
   cover-value e = kind-value _ _ _ _ e
 
-  pub cover-table : slotWord numbered s 4 ≡ kindTable → slotCover numbered s ≡ 8 + 28 * slotCount numbered (slotWord numbered s 5)
+  pub cover-table : slotWord numbered s 4 ≡ tableKind → slotCover numbered s ≡ 8 + 28 * slotCount numbered (slotWord numbered s 5)
   unfolding slotCover chunkSize
   cover-table e = kind-table _ _ _ _ e
 
-  pub cover-container : (slotWord numbered s 4 ≡ kindValue → ⊥) → (slotWord numbered s 4 ≡ kindTable → ⊥) → slotCover numbered s ≡ 4 * slotWord numbered s 6
+  pub cover-container : (slotWord numbered s 4 ≡ valueKind → ⊥) → (slotWord numbered s 4 ≡ tableKind → ⊥) → slotCover numbered s ≡ 4 * slotWord numbered s 6
   unfolding slotCover
   cover-container n m = kind-container _ _ _ _ n m
 

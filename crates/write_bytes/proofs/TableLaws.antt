@@ -7,12 +7,14 @@ use native.Mathlib.Omega.{arith}
 use lib.ListN.{length, length-append}
 use Rattle.words.specs.Store.{part, putAt}
 use Rattle.words.proofs.StoreLaws.{put-none, put-comm, length-part}
-use Rattle.image.specs.Plan.{Plan, wordsOf, chunkSize, valueStart, itemBytes, payload, place, recordBytes, records, planBytes}
+use Rattle.layout.specs.Sizes.{chunkSize}
+use Rattle.image.specs.Plan.{Plan, wordsOf, valueStart, itemBytes, payload, place, recordBytes, records, planBytes}
 use Rattle.image.specs.Laid.{Laid}
 use Rattle.image.proofs.LaidLaws.{put-both}
 use Rattle.image.proofs.PlanLaws.{length-words, length-record, length-records, length-item, offset-zero, offset-next, offset-rises, payload-more, records-more, plan-end}
-use Rattle.write_bytes.specs.Numbered.{numberedTables, numberedSlots, firstSlot, slotCount, slotWord, slotCovers, numberedPlan, numberedBytes, NumberedFits}
-use Rattle.write_bytes.specs.Slot.{headBytes, slotStart, slotCover, slotRecord, slotKey, slotItem}
+use Rattle.layout.specs.Limits.{mostTables, mostItems}
+use Rattle.write_bytes.specs.Numbered.{firstSlot, slotCount, slotWord, numberedPlan, numberedBytes, NumberedFits, slotCover}
+use Rattle.write_bytes.specs.Slot.{headBytes, slotStart, slotRecord, slotKey, slotItem}
 use Rattle.write_bytes.proofs.PutLaws.{put-then, length-head}
 
 -- ---- a plan, and what a loop over its items has laid
@@ -92,8 +94,8 @@ module _ (inner : ℕ → ℕ → List ℕ) (numbered arena : List ℕ) (t : ℕ
   unfolding numberedPlan
   plan-first n = refl
 
-  module _ (fits : NumberedFits numbered arena) (known : t < numberedTables) (k : ℕ) (less : k < slotCount numbered t) where
-    pub slot-below : firstSlot numbered t + k < numberedSlots
+  module _ (fits : NumberedFits numbered arena) (known : t < mostTables) (k : ℕ) (less : k < slotCount numbered t) where
+    pub slot-below : firstSlot numbered t + k < mostItems
     slot-below = omega (arith, fits .tables t known)
 
     fragment-size : length (part arena (slotWord numbered (firstSlot numbered t + k) 2) (slotWord numbered (firstSlot numbered t + k) 3)) ≡ slotWord numbered (firstSlot numbered t + k) 3
@@ -108,7 +110,7 @@ module _ (inner : ℕ → ℕ → List ℕ) (numbered arena : List ℕ) (t : ℕ
     plan-item at = rw (plan-start at, fragment-size)
 
     pub plan-record : (at start : ℕ) → recordBytes (numberedPlan inner numbered arena t) k at start ≡ slotRecord numbered (firstSlot numbered t + k) at start
-    unfolding numberedPlan recordBytes slotRecord slotCovers slotCover
+    unfolding numberedPlan recordBytes slotRecord slotCover
     plan-record at start = rw fragment-size
 
 -- ---- a table by the depth left

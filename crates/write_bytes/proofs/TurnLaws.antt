@@ -6,11 +6,13 @@ use native.Mathlib.Nat.{add-zero}
 use native.Mathlib.Omega.{arith}
 use lib.ListN.{length}
 use Rattle.words.specs.Store.{putAt}
-use Rattle.image.specs.Plan.{Plan, wordsOf, chunkSize, itemBytes, place}
+use Rattle.layout.specs.Sizes.{chunkSize}
+use Rattle.image.specs.Plan.{Plan, wordsOf, itemBytes, place}
 use Rattle.image.specs.Laid.{Laid}
 use Rattle.image.proofs.LaidLaws.{laid-none, laid-as}
 use Rattle.image.proofs.PlanLaws.{offset-zero, offset-rises, plan-end}
-use Rattle.write_bytes.specs.Numbered.{numberedTables, numberedSlots, firstSlot, slotCount, slotWord, numberedPlan, numberedBytes, NumberedFits}
+use Rattle.layout.specs.Limits.{mostTables, mostItems}
+use Rattle.write_bytes.specs.Numbered.{firstSlot, slotCount, slotWord, numberedPlan, numberedBytes, NumberedFits}
 use Rattle.write_bytes.specs.Slot.{headBytes, slotStart, slotRecord, slotItem}
 use Rattle.write_bytes.proofs.TableLaws.{Half, half-none, half-more, half-all, offset-more, plan-count, plan-first, plan-start, plan-item, plan-record, table-none, table-plan}
 
@@ -23,14 +25,14 @@ baseAt numbered arena d t at = at + chunkSize (planAt numbered arena d t .count)
 
 -- what laying item k at `end` asks
 pub record Turn (numbered arena : List ℕ) (d slot to end room : ℕ) : Type 0 where
-  pub inside : slot < numberedSlots
+  pub inside : slot < mostItems
   pub apart : to + 24 ≤ end
   pub fits : end + length (slotItem (numberedBytes numbered arena (d - 1)) numbered arena slot end) ≤ room
 
 -- a table of a numbered table that fits, with some depth left, and the words that were read of it
 pub record AtTable (numbered arena : List ℕ) (t at d first count : ℕ) : Type 0 where
   pub fits : NumberedFits numbered arena
-  pub known : t < numberedTables
+  pub known : t < mostTables
   pub deep : d ≡ 0 → ⊥
   pub first-is : first ≡ firstSlot numbered t
   pub count-is : count ≡ slotCount numbered t
@@ -65,7 +67,7 @@ module _ {numbered arena : List ℕ} {t at d first count : ℕ} (g : AtTable num
       let base = baseAt numbered arena d t at in
       omega (arith, table-ends, base-is, offset-zero p base, offset-rises p base 0 count (omega arith))
 
-  pub few : first + count ≤ numberedSlots
+  pub few : first + count ≤ mostItems
   few = omega (arith, g .fits .tables t (g .known))
 
   pub buckets-fit : (b : ℕ) → b < count → slotWord numbered (first + b) 7 < 2 ^ 32

@@ -5,7 +5,7 @@ use lib.Dec.{ltb}
 use lib.ListN.{length}
 use Rattle.words.specs.Choice.{pick}
 use Rattle.words.specs.Store.{putAt}
-use Rattle.layout.specs.Table.{longestFile}
+use Rattle.layout.specs.Limits.{longestFile}
 use Rattle.write_bytes.specs.declared.Measured.{Measured}
 
 -- where what is measured ends, unless that is past the most bytes that an image may have

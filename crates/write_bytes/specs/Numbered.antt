@@ -1,7 +1,7 @@
 -- A numbered table: the array that a write lays from. It holds the tables by number, and each table's items in the order in which they are laid;
 -- below stand the bytes that it means. In words:
 --   2t, 2t + 1     table t (64 of them): its first slot, and its count of items, which stand in the slots behind one another
---   128 + 8s       slot s (1,024 of them): hash, parent's laid index (4294967295: none), fragment start and size in the arena, kind,
+--   128 + 8s       slot s (1,024 of them): hash, parent's laid index (`noItem`: none), fragment start and size in the arena, kind,
 --                  then by kind: value start in the arena, guest, or first of its child words; value length, nothing, or count of its child words;
 --                  and the word of bucket (s - first slot)
 --   8320 + j       child words (1,024 of them): the laid indices of the children, container by container
@@ -12,47 +12,50 @@ use lib.Dec.{eqb}
 use lib.ListN.{length, getD}
 use Rattle.words.specs.Choice.{pick}
 use Rattle.words.specs.Store.{part, zeros}
-use Rattle.image.specs.Plan.{Plan, wordsOf, chunkSize, planBytes}
-use Rattle.image.specs.Image.{headerSize, depth}
+use Rattle.layout.specs.Limits.{mostItems, mostTables, deepest}
+use Rattle.layout.specs.Sizes.{headerSize, chunkSize}
+use Rattle.layout.specs.Kind.{valueKind, tableKind}
+use Rattle.image.specs.Plan.{Plan, wordsOf, planBytes}
 
-abbrev pub numberedTables : ℕ
-numberedTables = 64
+-- the words of a table
+abbrev pub headWords : ℕ
+headWords = 2
 
-abbrev pub numberedSlots : ℕ
-numberedSlots = 1024
+abbrev pub slotsFrom : ℕ
+slotsFrom = headWords * mostTables
 
-abbrev pub slotsAt : ℕ
-slotsAt = 128
+-- the words of a slot
+abbrev pub slotSize : ℕ
+slotSize = 8
 
-abbrev pub childrenAt : ℕ
-childrenAt = 8320
+abbrev pub childrenFrom : ℕ
+childrenFrom = slotsFrom + slotSize * mostItems
 
 abbrev pub numberedSize : ℕ
-numberedSize = 9344
-
-abbrev pub kindValue : ℕ
-kindValue = 118
-
-abbrev pub kindTable : ℕ
-kindTable = 72
+numberedSize = childrenFrom + mostItems
 
 module _ (numbered : List ℕ) where
   unfoldable pub firstSlot : ℕ → ℕ
-  firstSlot t = getD numbered (2 * t) 0
+  firstSlot t = getD numbered (headWords * t) 0
 
   unfoldable pub slotCount : ℕ → ℕ
-  slotCount t = getD numbered (2 * t + 1) 0
+  slotCount t = getD numbered (headWords * t + 1) 0
 
   -- word `which` of slot s
   unfoldable pub slotWord : ℕ → ℕ → ℕ
-  slotWord s which = getD numbered (slotsAt + 8 * s + which) 0
+  slotWord s which = getD numbered (slotsFrom + slotSize * s + which) 0
 
   unfoldable pub childWord : ℕ → ℕ
-  childWord j = getD numbered (childrenAt + j) 0
+  childWord j = getD numbered (childrenFrom + j) 0
 
 -- by kind: for a value, for a nested table, for a container
 unfoldable pub byKind : {A : Type 0} → ℕ → A → A → A → A
-byKind kind value table container = pick (eqb kind kindValue) value (pick (eqb kind kindTable) table container)
+byKind kind value table container = pick (eqb kind valueKind) value (pick (eqb kind tableKind) table container)
+
+-- the length that the value pointer of slot s covers: of a nested table the table chunk only
+unfoldable pub slotCover : List ℕ → ℕ → ℕ
+slotCover numbered s =
+    byKind (slotWord numbered s 4) (slotWord numbered s 6) (chunkSize (slotCount numbered (slotWord numbered s 5))) (4 * slotWord numbered s 6)
 
 module _ (inner : ℕ → ℕ → List ℕ) (numbered arena : List ℕ) where
   -- what slot s holds, if it starts at an offset: a value's bytes, a nested table with all its chunks, or the children's indices
@@ -60,10 +63,6 @@ module _ (inner : ℕ → ℕ → List ℕ) (numbered arena : List ℕ) where
   slotValue s at =
       byKind (slotWord numbered s 4) (part arena (slotWord numbered s 5) (slotWord numbered s 6)) (inner (slotWord numbered s 5) at)
       (wordsOf (λ j. childWord numbered (slotWord numbered s 5 + j)) (slotWord numbered s 6))
-
-  -- the length that its pointer covers: of a nested table the table chunk only
-  unfoldable pub slotCovers : ℕ → ℕ
-  slotCovers s = byKind (slotWord numbered s 4) (slotWord numbered s 6) (chunkSize (slotCount numbered (slotWord numbered s 5))) (4 * slotWord numbered s 6)
 
   -- table t, index by index
   unfoldable pub numberedPlan : ℕ → Plan
@@ -76,7 +75,7 @@ module _ (inner : ℕ → ℕ → List ℕ) (numbered arena : List ℕ) where
     kind = λ k. slotWord numbered (firstSlot numbered t + k) 4;
     align = λ k. byKind (slotWord numbered (firstSlot numbered t + k) 4) 8 4 4;
     value = λ k at. slotValue (firstSlot numbered t + k) at;
-    covers = λ k. slotCovers (firstSlot numbered t + k);
+    covers = λ k. slotCover numbered (firstSlot numbered t + k);
   }
 
 -- table t at `at`, with all its chunks; nested tables as deep as d goes
@@ -86,7 +85,7 @@ numberedBytes numbered arena (suc d) t at = planBytes (numberedPlan (λ u start.
 
 -- the whole image: zeros for the header, then the root table
 unfoldable pub numberedImage : List ℕ → List ℕ → ℕ → List ℕ
-numberedImage numbered arena root = zeros headerSize ++ numberedBytes numbered arena depth root headerSize
+numberedImage numbered arena root = zeros headerSize ++ numberedBytes numbered arena deepest root headerSize
 
 -- ---- a numbered table that can be laid: every part lies where it should, and every word fits its field
 
@@ -97,12 +96,12 @@ pub record SlotFits (numbered arena : List ℕ) (s : ℕ) : Type 0 where
   pub size : slotWord numbered s 3 < 65536
   pub kind : slotWord numbered s 4 < 256
   pub bucket : slotWord numbered s 7 < 2 ^ 32
-  pub value : slotWord numbered s 4 ≡ kindValue → slotWord numbered s 5 + slotWord numbered s 6 ≤ length arena
-  pub guest : slotWord numbered s 4 ≡ kindTable → slotWord numbered s 5 < numberedTables
-  pub children : (slotWord numbered s 4 ≡ kindValue → ⊥) → (slotWord numbered s 4 ≡ kindTable → ⊥) → slotWord numbered s 5 + slotWord numbered s 6 ≤ numberedSlots
+  pub value : slotWord numbered s 4 ≡ valueKind → slotWord numbered s 5 + slotWord numbered s 6 ≤ length arena
+  pub guest : slotWord numbered s 4 ≡ tableKind → slotWord numbered s 5 < mostTables
+  pub children : (slotWord numbered s 4 ≡ valueKind → ⊥) → (slotWord numbered s 4 ≡ tableKind → ⊥) → slotWord numbered s 5 + slotWord numbered s 6 ≤ mostItems
 
 pub record NumberedFits (numbered arena : List ℕ) : Type 0 where
   pub long : length numbered ≡ numberedSize
-  pub tables : (t : ℕ) → t < numberedTables → firstSlot numbered t + slotCount numbered t ≤ numberedSlots
-  pub slots : (s : ℕ) → s < numberedSlots → SlotFits numbered arena s
-  pub children : (j : ℕ) → j < numberedSlots → childWord numbered j < 2 ^ 32
+  pub tables : (t : ℕ) → t < mostTables → firstSlot numbered t + slotCount numbered t ≤ mostItems
+  pub slots : (s : ℕ) → s < mostItems → SlotFits numbered arena s
+  pub children : (j : ℕ) → j < mostItems → childWord numbered j < 2 ^ 32

@@ -1,5 +1,5 @@
 -- What is laid of one slot of a numbered table: its record, its fragment with the zeros behind it, its value.
-use Prim.Native.Nat.{ℕ, _+_, _*_, _-_, _≤_, _<_, _^_}
+use Prim.Native.Nat.{ℕ, _+_, _-_, _≤_, _<_, _^_}
 use mathlib.Core.Path.{_≡_}
 use mathlib.Core.List.{List, [], _∷_, _++_}
 use lib.Dec.{eqb}
@@ -8,8 +8,10 @@ use Rattle.words.specs.Choice.{pick}
 use Rattle.words.specs.Store.{part, zeros}
 use Rattle.words.specs.Field.{spelled}
 use Rattle.words.specs.Align.{aligned}
-use Rattle.image.specs.Plan.{word, wordsOf, chunkSize}
-use Rattle.write_bytes.specs.Numbered.{numberedTables, numberedSlots, numberedSize, kindValue, kindTable, slotCount, slotWord, childWord, byKind, slotValue}
+use Rattle.image.specs.Plan.{word, wordsOf}
+use Rattle.layout.specs.Kind.{valueKind, tableKind}
+use Rattle.layout.specs.Limits.{mostTables, mostItems}
+use Rattle.write_bytes.specs.Numbered.{numberedSize, slotCount, slotWord, childWord, byKind, slotCover, slotValue}
 
 -- a table's first word and its count of buckets
 unfoldable pub headBytes : ℕ → List ℕ
@@ -20,15 +22,11 @@ module _ (numbered : List ℕ) where
   unfoldable pub slotStart : ℕ → ℕ → ℕ
   slotStart s at = aligned (at + slotWord numbered s 3) (byKind (slotWord numbered s 4) 8 4 4)
 
-  -- the length that its value pointer covers
-  unfoldable pub slotCover : ℕ → ℕ
-  slotCover s = byKind (slotWord numbered s 4) (slotWord numbered s 6) (chunkSize (slotCount numbered (slotWord numbered s 5))) (4 * slotWord numbered s 6)
-
   -- its record, the key at `at`, the value at `start`
   unfoldable pub slotRecord : ℕ → ℕ → ℕ → List ℕ
   slotRecord s at start =
       word (slotWord numbered s 0) ++ (word (slotWord numbered s 1) ++ (word at
-      ++ ((spelled 2 (slotWord numbered s 3) ++ (slotWord numbered s 4 ∷ 0 ∷ [])) ++ (word start ++ word (start + slotCover s)))))
+      ++ ((spelled 2 (slotWord numbered s 3) ++ (slotWord numbered s 4 ∷ 0 ∷ [])) ++ (word start ++ word (start + slotCover numbered s)))))
 
 -- its fragment at `at`, and zeros up to the value at `start`
 unfoldable pub slotKey : List ℕ → List ℕ → ℕ → ℕ → ℕ → List ℕ
@@ -37,7 +35,7 @@ slotKey numbered arena s at start = part arena (slotWord numbered s 2) (slotWord
 -- its value, where that is no nested table: bytes, or the children's indices
 unfoldable pub plainValue : List ℕ → List ℕ → ℕ → List ℕ
 plainValue numbered arena s =
-    pick (eqb (slotWord numbered s 4) kindValue) (part arena (slotWord numbered s 5) (slotWord numbered s 6))
+    pick (eqb (slotWord numbered s 4) valueKind) (part arena (slotWord numbered s 5) (slotWord numbered s 6))
     (wordsOf (λ j. childWord numbered (slotWord numbered s 5 + j)) (slotWord numbered s 6))
 
 -- its fragment, zeros and value
@@ -49,13 +47,13 @@ slotItem inner numbered arena s at = slotKey numbered arena s at (slotStart numb
 -- it is a slot of a whole numbered table
 pub record SlotIn (numbered : List ℕ) (s : ℕ) : Type 0 where
   pub long : length numbered ≡ numberedSize
-  pub inside : s < numberedSlots
+  pub inside : s < mostItems
 
 -- its guest is a table, and what its pointer covers can be counted
 pub record CoverFits (numbered : List ℕ) (s : ℕ) : Type 0 where
-  pub guest : slotWord numbered s 4 ≡ kindTable → slotWord numbered s 5 < numberedTables
-  pub items : slotWord numbered s 4 ≡ kindTable → slotCount numbered (slotWord numbered s 5) ≤ numberedSlots
-  pub children : (slotWord numbered s 4 ≡ kindValue → ⊥) → (slotWord numbered s 4 ≡ kindTable → ⊥) → slotWord numbered s 6 ≤ numberedSlots
+  pub guest : slotWord numbered s 4 ≡ tableKind → slotWord numbered s 5 < mostTables
+  pub items : slotWord numbered s 4 ≡ tableKind → slotCount numbered (slotWord numbered s 5) ≤ mostItems
+  pub children : (slotWord numbered s 4 ≡ valueKind → ⊥) → (slotWord numbered s 4 ≡ tableKind → ⊥) → slotWord numbered s 6 ≤ mostItems
 
 -- the words of its record fit their fields
 pub record RecordFits (numbered : List ℕ) (s at start : ℕ) : Type 0 where

@@ -1,21 +1,23 @@
 // A table measured before a byte of it is laid: two functions that call each other as in laying, without an image.
 use crate::Measured;
+use crate::numbered::KIND;
+use crate::numbered::VALUE;
 use crate::numbered::first_slot;
 use crate::numbered::slot_count;
 use crate::numbered::slot_word;
-use crate::slot::TABLE;
 use crate::slot::cover;
 use crate::slot::value_start;
+use layout::kind::TABLE_KIND;
+use layout::limits::LONGEST_FILE;
+use layout::sizes::CHUNK_STEP;
+use layout::sizes::HEAD_SIZE;
 ghost use mathlib.Core.Path.{_≡_};
 ghost use Prim.Native.Nat.{_+_, _≤_, _<_};
 ghost use lib.ListN.{length};
-ghost use Rattle.layout.specs.Table.{longestFile};
-ghost use Rattle.write_bytes.specs.Numbered.{numberedTables, numberedSlots, numberedBytes, NumberedFits};
+ghost use Rattle.layout.specs.Limits.{longestFile, mostTables, mostItems};
+ghost use Rattle.write_bytes.specs.Numbered.{numberedBytes, NumberedFits};
 ghost use Rattle.write_bytes.specs.Slot.{slotItem};
 ghost use Rattle.write_bytes.specs.Measure.{measured};
-
-// The most bytes that an image may have.
-const MOST: usize = 16777216;
 
 // Measures a table that starts at `at`.
 pub fn measure_table(
@@ -26,7 +28,7 @@ pub fn measure_table(
     depth: usize,
 ) -> Measured
     requires { ⌜ NumberedFits (now numbered) (now arena) ⌝ }
-    requires { ⌜ (table < numberedTables) × (at ≤ longestFile) ⌝ }
+    requires { ⌜ (table < mostTables) × (at ≤ longestFile) ⌝ }
     ensures { λ r. ⌜ r ≡ measured (at + length (numberedBytes (now (numbered .entry)) (now (arena .entry)) depth table at)) ⌝ }
 {
     if depth == 0 {
@@ -34,8 +36,8 @@ pub fn measure_table(
     }
     let first = first_slot(numbered, table);
     let count = slot_count(numbered, table);
-    let mut end = at + 8 + 28 * count;
-    if MOST < end {
+    let mut end = at + HEAD_SIZE + CHUNK_STEP * count;
+    if LONGEST_FILE < end {
         return Measured::TooLong;
     }
     let mut k = 0;
@@ -52,20 +54,20 @@ pub fn measure_table(
 // Measures a slot's fragment at `at` and its value behind it.
 fn measure_item(numbered: &[usize], arena: &[u8], slot: usize, at: usize, depth: usize) -> Measured
     requires { ⌜ NumberedFits (now numbered) (now arena) ⌝ }
-    requires { ⌜ (slot < numberedSlots) × (at ≤ longestFile) ⌝ }
+    requires { ⌜ (slot < mostItems) × (at ≤ longestFile) ⌝ }
     ensures { λ r. ⌜ r ≡ measured (at + length (slotItem (numberedBytes (now (numbered .entry)) (now (arena .entry)) depth) (now (numbered .entry)) (now (arena .entry)) slot at)) ⌝ }
 {
     let start = value_start(numbered, slot, at);
-    if MOST < start {
+    if LONGEST_FILE < start {
         return Measured::TooLong;
     }
-    let kind = slot_word(numbered, slot, 4);
-    if kind == TABLE {
-        let guest = slot_word(numbered, slot, 5);
+    let kind = slot_word(numbered, slot, KIND);
+    if kind == TABLE_KIND {
+        let guest = slot_word(numbered, slot, VALUE);
         return measure_table(numbered, arena, guest, start, depth);
     }
     let size = cover(numbered, slot);
-    if MOST - start < size {
+    if LONGEST_FILE - start < size {
         return Measured::TooLong;
     }
     Measured::End(start + size)

@@ -1,8 +1,17 @@
 // Bytes laid into an image: a table's head and bucket words, a record, a fragment with its zeros, a value.
+use crate::numbered::BUCKET;
+use crate::numbered::FRAGMENT;
+use crate::numbered::FRAGMENT_SIZE;
+use crate::numbered::HASH;
+use crate::numbered::KIND;
+use crate::numbered::PARENT;
+use crate::numbered::VALUE;
+use crate::numbered::VALUE_SIZE;
 use crate::numbered::child_word;
 use crate::numbered::slot_word;
-use crate::slot::VALUE;
 use crate::slot::cover;
+use layout::kind::VALUE_KIND;
+use layout::sizes::HEAD_SIZE;
 use words::field::put_word;
 use words::store::put_bytes;
 use words::store::put_zeros;
@@ -11,10 +20,13 @@ ghost use mathlib.Core.List.{_++_};
 ghost use Prim.Native.Nat.{ℕ, _+_, _*_, _≤_, _<_, _^_};
 ghost use lib.ListN.{length};
 ghost use Rattle.words.specs.Store.{part, putAt};
+ghost use Rattle.layout.specs.Sizes.{headSize, bucketSize, recordSize};
 ghost use Rattle.image.specs.Laid.{Laid};
 ghost use Rattle.image.specs.Plan.{word, wordsOf};
-ghost use Rattle.write_bytes.specs.Numbered.{slotWord, childWord, numberedSlots, numberedSize, kindTable, NumberedFits};
-ghost use Rattle.write_bytes.specs.Slot.{headBytes, slotRecord, slotKey, slotCover, plainValue, SlotIn, CoverFits, RecordFits};
+ghost use Rattle.layout.specs.Kind.{tableKind};
+ghost use Rattle.layout.specs.Limits.{mostItems};
+ghost use Rattle.write_bytes.specs.Numbered.{slotWord, childWord, numberedSize, NumberedFits, slotCover};
+ghost use Rattle.write_bytes.specs.Slot.{headBytes, slotRecord, slotKey, plainValue, SlotIn, CoverFits, RecordFits};
 
 // The first word of every table: a shift of 5, and no bloom words.
 const MARK: u32 = 0x2800_0000;
@@ -22,7 +34,7 @@ const MARK: u32 = 0x2800_0000;
 // gvdb-rs: HashHeader::new.
 // Lays a table's first word and its count of buckets.
 fn lay_head(image: &mut [u8], count: usize, at: usize)
-    requires { ⌜ (at + 8 ≤ length (now image)) × (count < 2 ^ 32) ⌝ }
+    requires { ⌜ (at + headSize ≤ length (now image)) × (count < 2 ^ 32) ⌝ }
     ensures { λ _. ⌜ now (image .exit) ≡ putAt (now (image .entry)) at (headBytes count) ⌝ }
 {
     put_word(image, at, MARK);
@@ -31,14 +43,14 @@ fn lay_head(image: &mut [u8], count: usize, at: usize)
 
 // Lays the bucket words of a table, whose slots start with `first`.
 fn lay_buckets(numbered: &[usize], image: &mut [u8], first: usize, count: usize, at: usize)
-    requires { ⌜ (length (now numbered) ≡ numberedSize) × (first + count ≤ numberedSlots) ⌝ }
+    requires { ⌜ (length (now numbered) ≡ numberedSize) × (first + count ≤ mostItems) ⌝ }
     requires { ⌜ ((b : ℕ) → b < count → slotWord (now numbered) (first + b) 7 < 2 ^ 32) ⌝ }
     requires { ⌜ at + 4 * count ≤ length (now image) ⌝ }
     ensures { λ _. ⌜ now (image .exit) ≡ putAt (now (image .entry)) at (wordsOf (λ b. slotWord (now (numbered .entry)) (first + b) 7) count) ⌝ }
 {
     let mut b = 0;
     while b < count {
-        let word = slot_word(numbered, first + b, 7);
+        let word = slot_word(numbered, first + b, BUCKET);
         put_word(image, at + 4 * b, word as u32);
         b += 1;
     }
@@ -46,13 +58,13 @@ fn lay_buckets(numbered: &[usize], image: &mut [u8], first: usize, count: usize,
 
 // Lays what stands before a table's records: its head and its bucket words.
 pub fn lay_front(numbered: &[usize], image: &mut [u8], first: usize, count: usize, at: usize)
-    requires { ⌜ (length (now numbered) ≡ numberedSize) × (first + count ≤ numberedSlots) ⌝ }
+    requires { ⌜ (length (now numbered) ≡ numberedSize) × (first + count ≤ mostItems) ⌝ }
     requires { ⌜ ((b : ℕ) → b < count → slotWord (now numbered) (first + b) 7 < 2 ^ 32) ⌝ }
-    requires { ⌜ at + 8 + 4 * count ≤ length (now image) ⌝ }
+    requires { ⌜ at + headSize + bucketSize * count ≤ length (now image) ⌝ }
     ensures { λ _. ⌜ now (image .exit) ≡ putAt (now (image .entry)) at (headBytes count ++ wordsOf (λ b. slotWord (now (numbered .entry)) (first + b) 7) count) ⌝ }
 {
     lay_head(image, count, at);
-    lay_buckets(numbered, image, first, count, at + 8);
+    lay_buckets(numbered, image, first, count, at + HEAD_SIZE);
 }
 
 // Lays three words.
@@ -79,14 +91,14 @@ pub fn lay_record(
     requires { ⌜ SlotIn (now numbered) slot ⌝ }
     requires { ⌜ CoverFits (now numbered) slot ⌝ }
     requires { ⌜ RecordFits (now numbered) slot at start ⌝ }
-    requires { ⌜ to + 24 ≤ length (now image) ⌝ }
+    requires { ⌜ to + recordSize ≤ length (now image) ⌝ }
     ensures { λ _. ⌜ now (image .exit) ≡ putAt (now (image .entry)) to (slotRecord (now (numbered .entry)) slot at start) ⌝ }
 {
-    let hash = slot_word(numbered, slot, 0);
-    let parent = slot_word(numbered, slot, 1);
+    let hash = slot_word(numbered, slot, HASH);
+    let parent = slot_word(numbered, slot, PARENT);
     lay_three(image, to, hash, parent, at);
-    let size = slot_word(numbered, slot, 3);
-    let kind = slot_word(numbered, slot, 4);
+    let size = slot_word(numbered, slot, FRAGMENT_SIZE);
+    let kind = slot_word(numbered, slot, KIND);
     let stop = start + cover(numbered, slot);
     lay_three(image, to + 12, size + 65536 * kind, start, stop);
 }
@@ -118,15 +130,15 @@ pub fn lay_key(
     requires { ⌜ (at + slotWord (now numbered) slot 3 ≤ start) × (start ≤ length (now image)) ⌝ }
     ensures { λ _. ⌜ now (image .exit) ≡ putAt (now (image .entry)) at (slotKey (now (numbered .entry)) (now (arena .entry)) slot at start) ⌝ }
 {
-    let from = slot_word(numbered, slot, 2);
-    let size = slot_word(numbered, slot, 3);
+    let from = slot_word(numbered, slot, FRAGMENT);
+    let size = slot_word(numbered, slot, FRAGMENT_SIZE);
     let end = lay_part(arena, image, from, size, at);
     put_zeros(image, end, start - end);
 }
 
 // Lays the indices of a container's children as words. Answers where they end.
 fn lay_children(numbered: &[usize], image: &mut [u8], from: usize, count: usize, at: usize) -> usize
-    requires { ⌜ (length (now numbered) ≡ numberedSize) × (from + count ≤ numberedSlots) ⌝ }
+    requires { ⌜ (length (now numbered) ≡ numberedSize) × (from + count ≤ mostItems) ⌝ }
     requires { ⌜ ((j : ℕ) → j < count → childWord (now numbered) (from + j) < 2 ^ 32) ⌝ }
     requires { ⌜ at + 4 * count ≤ length (now image) ⌝ }
     ensures { λ r. ⌜ Laid (now (image .entry)) (now (image .exit)) at (wordsOf (λ j. childWord (now (numbered .entry)) (from + j)) count) r ⌝ }
@@ -150,15 +162,15 @@ pub fn lay_plain(
     at: usize,
 ) -> usize
     requires { ⌜ NumberedFits (now numbered) (now arena) ⌝ }
-    requires { ⌜ slot < numberedSlots ⌝ }
-    requires { ⌜ (slotWord (now numbered) slot 4 ≡ kindTable → ⊥) ⌝ }
+    requires { ⌜ slot < mostItems ⌝ }
+    requires { ⌜ (slotWord (now numbered) slot 4 ≡ tableKind → ⊥) ⌝ }
     requires { ⌜ at + slotCover (now numbered) slot ≤ length (now image) ⌝ }
     ensures { λ r. ⌜ Laid (now (image .entry)) (now (image .exit)) at (plainValue (now (numbered .entry)) (now (arena .entry)) slot) r ⌝ }
 {
-    let kind = slot_word(numbered, slot, 4);
-    let start = slot_word(numbered, slot, 5);
-    let size = slot_word(numbered, slot, 6);
-    if kind == VALUE {
+    let kind = slot_word(numbered, slot, KIND);
+    let start = slot_word(numbered, slot, VALUE);
+    let size = slot_word(numbered, slot, VALUE_SIZE);
+    if kind == VALUE_KIND {
         return lay_part(arena, image, start, size, at);
     }
     lay_children(numbered, image, start, size, at)

@@ -1,4 +1,6 @@
 // A table laid with all its chunks: laying a table and laying an item call each other, and the depth left falls.
+use crate::numbered::KIND;
+use crate::numbered::VALUE;
 use crate::numbered::first_slot;
 use crate::numbered::slot_count;
 use crate::numbered::slot_word;
@@ -6,13 +8,18 @@ use crate::put::lay_front;
 use crate::put::lay_key;
 use crate::put::lay_plain;
 use crate::put::lay_record;
-use crate::slot::TABLE;
 use crate::slot::value_start;
+use layout::kind::TABLE_KIND;
+use layout::sizes::BUCKET_SIZE;
+use layout::sizes::HEAD_SIZE;
+use layout::sizes::RECORD_SIZE;
 ghost use Prim.Native.Nat.{_+_, _≤_, _<_};
 ghost use lib.ListN.{length};
 ghost use Rattle.words.specs.Store.{putAt};
 ghost use Rattle.image.specs.Laid.{Laid};
-ghost use Rattle.write_bytes.specs.Numbered.{numberedTables, numberedSlots, numberedBytes, NumberedFits};
+ghost use Rattle.layout.specs.Limits.{longestFile, mostTables, mostItems};
+ghost use Rattle.layout.specs.Sizes.{recordSize};
+ghost use Rattle.write_bytes.specs.Numbered.{numberedBytes, NumberedFits};
 ghost use Rattle.write_bytes.specs.Slot.{slotStart, slotRecord, slotItem};
 
 // gvdb-rs: add_simple_hash_table.
@@ -26,8 +33,8 @@ pub fn lay_table(
     depth: usize,
 ) -> usize
     requires { ⌜ NumberedFits (now numbered) (now arena) ⌝ }
-    requires { ⌜ table < numberedTables ⌝ }
-    requires { ⌜ (at + length (numberedBytes (now numbered) (now arena) depth table at) ≤ length (now image)) × (length (now image) ≤ 16777216) ⌝ }
+    requires { ⌜ table < mostTables ⌝ }
+    requires { ⌜ (at + length (numberedBytes (now numbered) (now arena) depth table at) ≤ length (now image)) × (length (now image) ≤ longestFile) ⌝ }
     ensures { λ r. ⌜ Laid (now (image .entry)) (now (image .exit)) at (numberedBytes (now (numbered .entry)) (now (arena .entry)) depth table at) r ⌝ }
 {
     if depth == 0 {
@@ -36,8 +43,8 @@ pub fn lay_table(
     let first = first_slot(numbered, table);
     let count = slot_count(numbered, table);
     lay_front(numbered, image, first, count, at);
-    let records = at + 8 + 4 * count;
-    let mut end = records + 24 * count;
+    let records = at + HEAD_SIZE + BUCKET_SIZE * count;
+    let mut end = records + RECORD_SIZE * count;
     let mut k = 0;
     while k < count {
         end = lay_item(
@@ -45,7 +52,7 @@ pub fn lay_table(
             arena,
             image,
             first + k,
-            records + 24 * k,
+            records + RECORD_SIZE * k,
             end,
             depth - 1,
         );
@@ -66,16 +73,16 @@ fn lay_item(
     depth: usize,
 ) -> usize
     requires { ⌜ NumberedFits (now numbered) (now arena) ⌝ }
-    requires { ⌜ (slot < numberedSlots) × (to + 24 ≤ at) ⌝ }
-    requires { ⌜ (at + length (slotItem (numberedBytes (now numbered) (now arena) depth) (now numbered) (now arena) slot at) ≤ length (now image)) × (length (now image) ≤ 16777216) ⌝ }
+    requires { ⌜ (slot < mostItems) × (to + recordSize ≤ at) ⌝ }
+    requires { ⌜ (at + length (slotItem (numberedBytes (now numbered) (now arena) depth) (now numbered) (now arena) slot at) ≤ length (now image)) × (length (now image) ≤ longestFile) ⌝ }
     ensures { λ r. ⌜ Laid (putAt (now (image .entry)) to (slotRecord (now (numbered .entry)) slot at (slotStart (now (numbered .entry)) slot at))) (now (image .exit)) at (slotItem (numberedBytes (now (numbered .entry)) (now (arena .entry)) depth) (now (numbered .entry)) (now (arena .entry)) slot at) r ⌝ }
 {
     let start = value_start(numbered, slot, at);
     lay_record(numbered, image, slot, to, at, start);
     lay_key(numbered, arena, image, slot, at, start);
-    let kind = slot_word(numbered, slot, 4);
-    if kind == TABLE {
-        let guest = slot_word(numbered, slot, 5);
+    let kind = slot_word(numbered, slot, KIND);
+    if kind == TABLE_KIND {
+        let guest = slot_word(numbered, slot, VALUE);
         return lay_table(numbered, arena, image, guest, start, depth);
     }
     lay_plain(numbered, arena, image, slot, start)

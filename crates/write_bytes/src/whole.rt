@@ -2,36 +2,35 @@
 use crate::Measured;
 use crate::measure::measure_table;
 use crate::table::lay_table;
+use layout::limits::DEEPEST;
+use layout::sizes::HEADER_SIZE;
 use words::store::put_zeros;
 ghost use mathlib.Core.Path.{_≡_};
 ghost use Prim.Native.Nat.{_≤_, _<_};
 ghost use lib.ListN.{length};
 ghost use Rattle.words.specs.Store.{putAt};
-ghost use Rattle.write_bytes.specs.Numbered.{numberedTables, numberedImage, NumberedFits};
+ghost use Rattle.layout.specs.Limits.{longestFile, mostTables};
+ghost use Rattle.write_bytes.specs.Numbered.{numberedImage, NumberedFits};
 ghost use Rattle.write_bytes.specs.Measure.{measured};
-
-const HEADER: usize = 24;
-
-const DEPTH: usize = 8;
 
 // gvdb-rs: file_size.
 // Measures the image of a table.
 pub fn measure(numbered: &[usize], arena: &[u8], table: usize) -> Measured
     requires { ⌜ NumberedFits (now numbered) (now arena) ⌝ }
-    requires { ⌜ table < numberedTables ⌝ }
+    requires { ⌜ table < mostTables ⌝ }
     ensures { λ r. ⌜ r ≡ measured (length (numberedImage (now (numbered .entry)) (now (arena .entry)) table)) ⌝ }
 {
-    measure_table(numbered, arena, table, HEADER, DEPTH)
+    measure_table(numbered, arena, table, HEADER_SIZE, DEEPEST)
 }
 
 // gvdb-rs: serialize, and allocate_empty_chunk for the header.
 // Lays the image of a table at the front of a buffer that has room for it.
 pub fn lay_image(numbered: &[usize], arena: &[u8], table: usize, image: &mut [u8])
     requires { ⌜ NumberedFits (now numbered) (now arena) ⌝ }
-    requires { ⌜ table < numberedTables ⌝ }
-    requires { ⌜ (length (numberedImage (now numbered) (now arena) table) ≤ length (now image)) × (length (now image) ≤ 16777216) ⌝ }
+    requires { ⌜ table < mostTables ⌝ }
+    requires { ⌜ (length (numberedImage (now numbered) (now arena) table) ≤ length (now image)) × (length (now image) ≤ longestFile) ⌝ }
     ensures { λ _. ⌜ now (image .exit) ≡ putAt (now (image .entry)) 0 (numberedImage (now (numbered .entry)) (now (arena .entry)) table) ⌝ }
 {
-    put_zeros(image, 0, HEADER);
-    lay_table(numbered, arena, image, table, HEADER, DEPTH);
+    put_zeros(image, 0, HEADER_SIZE);
+    lay_table(numbered, arena, image, table, HEADER_SIZE, DEEPEST);
 }

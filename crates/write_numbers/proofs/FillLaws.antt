@@ -12,7 +12,7 @@ use Rattle.words.specs.Hash.{plain}
 use Rattle.words.specs.Store.{putAt}
 use Rattle.words.proofs.StoreLaws.{get-put, get-before}
 use Rattle.model.specs.Table.{Has}
-use Rattle.model.specs.Builder.{mostItems}
+use Rattle.layout.specs.Limits.{mostItems}
 use Rattle.build_memory.specs.Memory.{itemTotal, itemTable}
 use Rattle.image.specs.Index.{hashesOf, bucketStart, byIndex, itemOf, laidIndex}
 use Rattle.image.proofs.IndexLaws.{length-hashes, length-by-index, numbering}
@@ -22,8 +22,8 @@ use Rattle.write_order.proofs.ChainLaws.{length-starts, starts-at}
 use Rattle.write_order.proofs.ItemLaws.{indices-of}
 use Rattle.write_numbers.specs.Roster.{stateOf}
 use Rattle.write_numbers.specs.Fill.{allOfTable, firstSlotOf, Fit, IndexedAs, Put, Sized, Filled}
-use Rattle.write_numbers.proofs.OfTableLaws.{of-table-here, of-table-table, slot-next, slot-apart, slot-few}
-use Rattle.write_numbers.proofs.StateLaws.{state-members, state-below, state-once, all-of-table-few}
+use Rattle.write_numbers.proofs.OfTableLaws.{slot-next, slot-apart, slot-few}
+use Rattle.write_numbers.proofs.StateLaws.{state-members, state-below, state-once, state-table, state-has, all-of-table-few}
 
 -- ---- one table
 
@@ -34,14 +34,6 @@ module _ (ws ar : List ℕ) (t : ℕ) where
   by-index-below : (n : ℕ) → itemTotal ws ≤ n → AllBelow n (byIndex plain (stateOf ws ar t))
   unfolding AllBelow
   by-index-below n few k h = omega (arith, state-below ws ar t _ (by-index-has k h))
-
-  member-table : (i : ℕ) → Has (stateOf ws ar t .members) i → itemTable ws i ≡ t
-  unfolding allOfTable
-  member-table i h = of-table-table ws i t (itemTotal ws) (rw (state-members ws ar t) at h)
-
-  table-member : (i : ℕ) → i < itemTotal ws → itemTable ws i ≡ t → Has (stateOf ws ar t .members) i
-  unfolding allOfTable
-  table-member i l e = let one = of-table-here ws i t (itemTotal ws) l e in rw (state-members ws ar t) (omega arith)
 
   members-long : length (stateOf ws ar t .members) ≡ length (allOfTable ws t)
   members-long = ap length (state-members ws ar t)
@@ -131,14 +123,14 @@ module _ (ws ar : List ℕ) (t first n : ℕ) (heads slots slots′ indices indi
   more-of-table : (i : ℕ) → i < itemTotal ws → itemTable ws i ≡ t → getD indices′ i 0 ≡ laidIndex plain (stateOf ws ar (itemTable ws i)) i
   more-of-table i l e =
       ap (λ (m : List ℕ). getD m i 0) (p .indices-are)
-      ∙ indices-of plain (stateOf ws ar t) indices (state-once ws ar t) (by-index-below ws ar t (length indices) (omega (arith, fit .few, size .of-indices))) i (table-member ws ar t i l e)
+      ∙ indices-of plain (stateOf ws ar t) indices (state-once ws ar t) (by-index-below ws ar t (length indices) (omega (arith, fit .few, size .of-indices))) i (state-has ws ar t i l e)
       ∙ ap (λ (u : ℕ). laidIndex plain (stateOf ws ar u) i) (sym e)
 
   more-kept : (i : ℕ) → itemTable ws i < t → getD indices′ i 0 ≡ getD indices i 0
   more-kept i l =
       ap (λ (m : List ℕ). getD m i 0) (p .indices-are)
       ∙ indices-other indices (byIndex plain (stateOf ws ar t)) i (length (byIndex plain (stateOf ws ar t))) (omega arith)
-      (λ k h e. let ofTable : itemTable ws i ≡ t = ap (itemTable ws) (sym e) ∙ member-table ws ar t _ (by-index-has ws ar t k h) in omega arith)
+      (λ k h e. let ofTable : itemTable ws i ≡ t = ap (itemTable ws) (sym e) ∙ state-table ws ar t _ (by-index-has ws ar t k h) in omega arith)
 
   pub filled-more : Filled ws ar (t + 1) (set (set heads (2 * t) first) (2 * t + 1) n) slots′ indices′ buckets′
   filled-more = record {

@@ -13,13 +13,14 @@ use Rattle.words.specs.Store.{putAt}
 use Rattle.words.proofs.StoreLaws.{put-none, put-snoc}
 use Rattle.model.specs.Table.{times, Has}
 use Rattle.build_memory.specs.Memory.{itemTotal, itemTable}
-use Rattle.image.proofs.TimesLaws.{eq-or-ne, lt-or-ge, times-here, times-there, times-none, times-append}
+use Rattle.words.proofs.ChoiceLaws.{eq-or-ne, lt-or-ge}
+use Rattle.image.proofs.TimesLaws.{times-here, times-there, times-none, times-append}
 use Rattle.write_numbers.specs.Fill.{ofTable, allOfTable, earlier, firstSlotOf}
 
 module _ (ws : List ℕ) where
   -- ---- one item more
 
-  of-table-more : (t n : ℕ) → itemTable ws n ≡ t → ofTable ws t (suc n) ≡ ofTable ws t n ++ (n ∷ [])
+  pub of-table-more : (t n : ℕ) → itemTable ws n ≡ t → ofTable ws t (suc n) ≡ ofTable ws t n ++ (n ∷ [])
   unfolding ofTable pick
   of-table-more t n e = simp (eq-eqb _ _ e)
 

@@ -4,17 +4,17 @@ use native.Mathlib.Omega.{arith}
 use mathlib.Core.Path.{_≡_, ap, _∙_}
 use mathlib.Core.Bool.{true}
 use mathlib.Core.List.{List}
-use lib.ListN.{length, getD, take}
-use lib.Seq.{take-all}
+use lib.ListN.{length, getD}
 use Rattle.words.specs.Hash.{plain}
 use Rattle.words.specs.Store.{putAt}
 use Rattle.words.proofs.StoreLaws.{length-put, get-put, get-before}
-use Rattle.model.specs.Builder.{mostTables, mostItems}
+use Rattle.layout.specs.Limits.{mostItems, mostTables}
 use Rattle.build_memory.specs.Memory.{itemTotal, itemTable}
 use Rattle.image.specs.Index.{hashesOf, bucketStart, itemOf, laidIndex}
 use Rattle.build_rules.specs.Valid.{fullyValid}
 use Rattle.build_rules.proofs.ValidFacts.{whole-facts}
-use Rattle.write_numbers.specs.Roster.{stateOf, firstSlot, slotCount, slotItem, itemIndex, bucketWord, Rostered}
+use Rattle.write_bytes.specs.Numbered.{slotsFrom, firstSlot, slotCount}
+use Rattle.write_numbers.specs.Roster.{indicesFrom, bucketsFrom, rosterSize, stateOf, slotItem, itemIndex, bucketWord, Rostered}
 use Rattle.write_numbers.specs.Fill.{firstSlotOf, Fit, Judged, Sized, Filled}
 use Rattle.write_numbers.proofs.OfTableLaws.{slot-few}
 use Rattle.write_numbers.proofs.StateLaws.{state-members}
@@ -25,60 +25,47 @@ whole-fit ws ar e = let w = whole-facts ws ar e in record { long = w .facts .lon
 pub whole-judged : (ws ar : List ℕ) → fullyValid ws ar ≡ true → Judged ws ar
 whole-judged ws ar e = record { fit = whole-fit ws ar e; hash = whole-facts ws ar e .hash }
 
-module _ (heads slots indices buckets r r1 r2 r3 r4 : List ℕ) (long : length r ≡ 3200) (head : length heads ≡ 128) (size : Sized slots indices buckets)
-    (e1 : r1 ≡ putAt r 0 (take 128 heads)) (e2 : r2 ≡ putAt r1 128 (take 1024 slots)) (e3 : r3 ≡ putAt r2 1152 (take 1024 indices))
-    (e4 : r4 ≡ putAt r3 2176 (take 1024 buckets)) where
-  all-heads : r1 ≡ putAt r 0 heads
-  all-heads = e1 ∙ ap (putAt r 0) (take-all 128 heads (omega arith))
+module _ (heads slots indices buckets r r1 r2 r3 r4 : List ℕ) (long : length r ≡ rosterSize) (head : length heads ≡ slotsFrom) (size : Sized slots indices buckets)
+    (e1 : r1 ≡ putAt r 0 heads) (e2 : r2 ≡ putAt r1 slotsFrom slots) (e3 : r3 ≡ putAt r2 indicesFrom indices) (e4 : r4 ≡ putAt r3 bucketsFrom buckets) where
+  long-1 : length r1 ≡ rosterSize
+  long-1 = ap length e1 ∙ length-put r 0 heads ∙ long
 
-  all-slots : r2 ≡ putAt r1 128 slots
-  all-slots = e2 ∙ ap (putAt r1 128) (take-all 1024 slots (omega (arith, size .of-slots)))
+  long-2 : length r2 ≡ rosterSize
+  long-2 = ap length e2 ∙ length-put r1 slotsFrom slots ∙ long-1
 
-  all-indices : r3 ≡ putAt r2 1152 indices
-  all-indices = e3 ∙ ap (putAt r2 1152) (take-all 1024 indices (omega (arith, size .of-indices)))
+  long-3 : length r3 ≡ rosterSize
+  long-3 = ap length e3 ∙ length-put r2 indicesFrom indices ∙ long-2
 
-  all-buckets : r4 ≡ putAt r3 2176 buckets
-  all-buckets = e4 ∙ ap (putAt r3 2176) (take-all 1024 buckets (omega (arith, size .of-buckets)))
+  long-4 : length r4 ≡ rosterSize
+  long-4 = ap length e4 ∙ length-put r3 bucketsFrom buckets ∙ long-3
 
-  long-1 : length r1 ≡ 3200
-  long-1 = ap length all-heads ∙ length-put r 0 heads ∙ long
+  below-buckets : (i : ℕ) → i < bucketsFrom → getD r4 i 0 ≡ getD r3 i 0
+  below-buckets i h = ap (λ (l : List ℕ). getD l i 0) e4 ∙ get-before r3 bucketsFrom buckets i h
 
-  long-2 : length r2 ≡ 3200
-  long-2 = ap length all-slots ∙ length-put r1 128 slots ∙ long-1
+  below-indices : (i : ℕ) → i < indicesFrom → getD r4 i 0 ≡ getD r2 i 0
+  below-indices i h = below-buckets i (omega arith) ∙ ap (λ (l : List ℕ). getD l i 0) e3 ∙ get-before r2 indicesFrom indices i h
 
-  long-3 : length r3 ≡ 3200
-  long-3 = ap length all-indices ∙ length-put r2 1152 indices ∙ long-2
+  below-slots : (i : ℕ) → i < slotsFrom → getD r4 i 0 ≡ getD r1 i 0
+  below-slots i h = below-indices i (omega arith) ∙ ap (λ (l : List ℕ). getD l i 0) e2 ∙ get-before r1 slotsFrom slots i h
 
-  long-4 : length r4 ≡ 3200
-  long-4 = ap length all-buckets ∙ length-put r3 2176 buckets ∙ long-3
-
-  below-buckets : (i : ℕ) → i < 2176 → getD r4 i 0 ≡ getD r3 i 0
-  below-buckets i h = ap (λ (l : List ℕ). getD l i 0) all-buckets ∙ get-before r3 2176 buckets i h
-
-  below-indices : (i : ℕ) → i < 1152 → getD r4 i 0 ≡ getD r2 i 0
-  below-indices i h = below-buckets i (omega arith) ∙ ap (λ (l : List ℕ). getD l i 0) all-indices ∙ get-before r2 1152 indices i h
-
-  below-slots : (i : ℕ) → i < 128 → getD r4 i 0 ≡ getD r1 i 0
-  below-slots i h = below-indices i (omega arith) ∙ ap (λ (l : List ℕ). getD l i 0) all-slots ∙ get-before r1 128 slots i h
-
-  read-head : (i : ℕ) → i < 128 → getD r4 i 0 ≡ getD heads i 0
+  read-head : (i : ℕ) → i < slotsFrom → getD r4 i 0 ≡ getD heads i 0
   read-head i h =
       let at : i ≡ 0 + i = omega arith in
-      below-slots i h ∙ ap (λ (l : List ℕ). getD l i 0) all-heads ∙ ap (λ (k : ℕ). getD (putAt r 0 heads) k 0) at ∙ get-put r 0 heads i (omega arith) (omega arith)
+      below-slots i h ∙ ap (λ (l : List ℕ). getD l i 0) e1 ∙ ap (λ (k : ℕ). getD (putAt r 0 heads) k 0) at ∙ get-put r 0 heads i (omega arith) (omega arith)
 
-  read-slot : (s : ℕ) → s < 1024 → getD r4 (128 + s) 0 ≡ getD slots s 0
+  read-slot : (s : ℕ) → s < mostItems → getD r4 (slotsFrom + s) 0 ≡ getD slots s 0
   read-slot s h =
-      below-indices (128 + s) (omega arith) ∙ ap (λ (l : List ℕ). getD l (128 + s) 0) all-slots
-      ∙ get-put r1 128 slots s (omega (arith, size .of-slots, long-1)) (omega (arith, size .of-slots))
+      below-indices (slotsFrom + s) (omega arith) ∙ ap (λ (l : List ℕ). getD l (slotsFrom + s) 0) e2
+      ∙ get-put r1 slotsFrom slots s (omega (arith, size .of-slots, long-1)) (omega (arith, size .of-slots))
 
-  read-index : (i : ℕ) → i < 1024 → getD r4 (1152 + i) 0 ≡ getD indices i 0
+  read-index : (i : ℕ) → i < mostItems → getD r4 (indicesFrom + i) 0 ≡ getD indices i 0
   read-index i h =
-      below-buckets (1152 + i) (omega arith) ∙ ap (λ (l : List ℕ). getD l (1152 + i) 0) all-indices
-      ∙ get-put r2 1152 indices i (omega (arith, size .of-indices, long-2)) (omega (arith, size .of-indices))
+      below-buckets (indicesFrom + i) (omega arith) ∙ ap (λ (l : List ℕ). getD l (indicesFrom + i) 0) e3
+      ∙ get-put r2 indicesFrom indices i (omega (arith, size .of-indices, long-2)) (omega (arith, size .of-indices))
 
-  read-bucket : (s : ℕ) → s < 1024 → getD r4 (2176 + s) 0 ≡ getD buckets s 0
+  read-bucket : (s : ℕ) → s < mostItems → getD r4 (bucketsFrom + s) 0 ≡ getD buckets s 0
   read-bucket s h =
-      ap (λ (l : List ℕ). getD l (2176 + s) 0) all-buckets ∙ get-put r3 2176 buckets s (omega (arith, size .of-buckets, long-3)) (omega (arith, size .of-buckets))
+      ap (λ (l : List ℕ). getD l (bucketsFrom + s) 0) e4 ∙ get-put r3 bucketsFrom buckets s (omega (arith, size .of-buckets, long-3)) (omega (arith, size .of-buckets))
 
   module _ (ws ar : List ℕ) (ok : fullyValid ws ar ≡ true) (f : Filled ws ar mostTables heads slots indices buckets) where
     first-is : (t : ℕ) → t < mostTables → firstSlot r4 t ≡ firstSlotOf ws t
@@ -96,13 +83,13 @@ module _ (heads slots indices buckets r r1 r2 r3 r4 : List ℕ) (long : length r
     unfolding slotItem
     item-is t k h l =
         let few : k < length (stateOf ws ar t .members) = omega (arith, count-is t h) in
-        ap (λ (s : ℕ). getD r4 (128 + (s + k)) 0) (first-is t h) ∙ read-slot (firstSlotOf ws t + k) (omega (arith, slots-in t)) ∙ f .items-are t k h few
+        ap (λ (s : ℕ). getD r4 (slotsFrom + (s + k)) 0) (first-is t h) ∙ read-slot (firstSlotOf ws t + k) (omega (arith, slots-in t)) ∙ f .items-are t k h few
 
     bucket-is : (t b : ℕ) → t < mostTables → b < slotCount r4 t → bucketWord r4 (firstSlot r4 t + b) ≡ bucketStart (hashesOf plain (stateOf ws ar t)) b
     unfolding bucketWord
     bucket-is t b h l =
         let few : b < length (stateOf ws ar t .members) = omega (arith, count-is t h) in
-        ap (λ (s : ℕ). getD r4 (2176 + (s + b)) 0) (first-is t h) ∙ read-bucket (firstSlotOf ws t + b) (omega (arith, slots-in t)) ∙ f .buckets-are t b h few
+        ap (λ (s : ℕ). getD r4 (bucketsFrom + (s + b)) 0) (first-is t h) ∙ read-bucket (firstSlotOf ws t + b) (omega (arith, slots-in t)) ∙ f .buckets-are t b h few
 
     index-is : (i : ℕ) → i < itemTotal ws → itemIndex r4 i ≡ laidIndex plain (stateOf ws ar (itemTable ws i)) i
     unfolding itemIndex

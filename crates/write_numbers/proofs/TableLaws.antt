@@ -11,7 +11,8 @@ use Rattle.words.proofs.StoreLaws.{part-put, length-put}
 use Rattle.image.specs.Index.{keyOrder, hashesOf, byBucket, byIndex}
 use Rattle.image.proofs.OrderLaws.{length-order, times-order}
 use Rattle.image.proofs.IndexLaws.{length-hashes, ranks-each, length-by-index}
-use Rattle.write_order.specs.Key.{keyed, hashAt, Known}
+use Rattle.build_memory.specs.Memory.{itemHash}
+use Rattle.write_order.specs.Key.{keyed, Known}
 use Rattle.write_order.specs.Chain.{Empty, starts}
 use Rattle.write_order.specs.Items.{AllBelow, hashesIn, itemsAt}
 use Rattle.write_order.proofs.KeyLaws.{order-keyed}
@@ -27,7 +28,7 @@ take-front l xs n e h = ap (λ (k : ℕ). take k (putAt l 0 xs)) (sym e) ∙ par
 
 pub length-hashes-in : (ws run : List ℕ) → length (hashesIn ws run) ≡ length run
 unfolding hashesIn
-length-hashes-in ws run = length-map run (hashAt ws)
+length-hashes-in ws run = length-map run (itemHash ws)
 
 pub hashes-front : (ws run h h′ : List ℕ) → length run ≤ length h → h′ ≡ putAt h 0 (hashesIn ws run) → take (length run) h′ ≡ hashesIn ws run
 hashes-front ws run h h′ room e = ap (take (length run)) e ∙ take-front h (hashesIn ws run) (length run) (length-hashes-in ws run) room
@@ -74,7 +75,7 @@ module _ (ws ar : List ℕ) (t n : ℕ) (run : List ℕ) (judged : Judged ws ar)
 
   order-known : Known ws (keyOrder (stateOf ws ar t))
   unfolding Known
-  order-known i h = omega (arith, state-below ws ar t i (rw (times-order (stateOf ws ar t) i) at h), judged .fit .long, judged .fit .few)
+  order-known = (judged .fit .long, λ i h. omega (arith, state-below ws ar t i (rw (times-order (stateOf ws ar t) i) at h), judged .fit .few))
 
   pub ordered-known : Known ws (take n run)
   ordered-known = rw (o .order) order-known

@@ -9,9 +9,11 @@ use Rattle.words.specs.Choice.{pick}
 use Rattle.words.specs.Below.{someBelow}
 use Rattle.words.specs.Hash.{hashOf, plain}
 use Rattle.words.specs.Store.{putAt}
-use Rattle.model.specs.Builder.{mostItems}
-use Rattle.build_memory.specs.Memory.{word, leastWords, links, linkAt, emptyMark, tableTotal, itemTotal, itemTable, itemHash, keyOf}
+use Rattle.layout.specs.Limits.{mostItems}
+use Rattle.layout.specs.Item.{noItem}
+use Rattle.build_memory.specs.Memory.{word, leastWords, links, linkAt, tableTotal, itemTotal, itemTable, itemHash, keyOf}
 use Rattle.image.specs.Index.{keyOrder, hashesOf, bucketStart, byIndex, itemOf, laidIndex}
+use Rattle.write_bytes.specs.Numbered.{headWords}
 use Rattle.write_order.specs.Chain.{starts}
 use Rattle.write_order.specs.Items.{indicesPut}
 use Rattle.write_numbers.specs.Roster.{stateOf}
@@ -46,7 +48,7 @@ pub record Fit (ws : List ℕ) : Type 0 where
   pub long : leastWords ≤ length ws
   pub few : itemTotal ws ≤ mostItems
   pub known : (i : ℕ) → i < itemTotal ws → itemTable ws i < tableTotal ws
-  pub empty : (j : ℕ) → j < links → word ws (linkAt j) ≡ emptyMark
+  pub empty : (j : ℕ) → j < links → word ws (linkAt j) ≡ noItem
 
 -- they fit, and the hash word of every item is the hash of its key
 pub record Judged (ws ar : List ℕ) : Type 0 where
@@ -88,8 +90,8 @@ pub record Sized (slots indices buckets : List ℕ) : Type 0 where
 
 -- the tables before `most` are filled
 pub record Filled (ws ar : List ℕ) (most : ℕ) (heads slots indices buckets : List ℕ) : Type 0 where
-  pub starts-are : (t : ℕ) → t < most → getD heads (2 * t) 0 ≡ firstSlotOf ws t
-  pub counts-are : (t : ℕ) → t < most → getD heads (2 * t + 1) 0 ≡ length (stateOf ws ar t .members)
+  pub starts-are : (t : ℕ) → t < most → getD heads (headWords * t) 0 ≡ firstSlotOf ws t
+  pub counts-are : (t : ℕ) → t < most → getD heads (headWords * t + 1) 0 ≡ length (stateOf ws ar t .members)
   pub items-are : (t k : ℕ) → t < most → k < length (stateOf ws ar t .members) → getD slots (firstSlotOf ws t + k) 0 ≡ itemOf plain (stateOf ws ar t) k
   pub buckets-are : (t b : ℕ) → t < most → b < length (stateOf ws ar t .members) → getD buckets (firstSlotOf ws t + b) 0 ≡ bucketStart (hashesOf plain (stateOf ws ar t)) b
   pub indices-are : (i : ℕ) → i < itemTotal ws → itemTable ws i < most → getD indices i 0 ≡ laidIndex plain (stateOf ws ar (itemTable ws i)) i

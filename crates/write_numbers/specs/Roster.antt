@@ -1,42 +1,34 @@
--- A roster: the items of every table in the order in which they are laid. In words:
+-- A roster: the items of every table in the order in which they are laid. Its tables stand as those of a numbered table do. In words:
 --   2t, 2t + 1   table t (64 of them): its first slot, and its count of items, which stand in the slots behind one another
 --   128 + s      the item in slot s (1,024 of them)
 --   1152 + i     the laid index of item i (1,024 of them)
 --   2176 + s     the word of bucket (s - first slot) of the table that slot s is of (1,024 of them)
-use Prim.Native.Nat.{ℕ, _+_, _*_, _≤_, _<_}
+use Prim.Native.Nat.{ℕ, _+_, _≤_, _<_}
 use mathlib.Core.Path.{_≡_}
 use mathlib.Core.List.{List}
 use lib.ListN.{length, getD}
 use Rattle.words.specs.Hash.{plain}
 use Rattle.model.specs.Table.{State, rowsOf}
-use Rattle.model.specs.Builder.{mostTables, mostItems}
+use Rattle.layout.specs.Limits.{mostItems, mostTables}
 use Rattle.build_memory.specs.Memory.{itemTotal, itemTable}
 use Rattle.build_memory.specs.Meaning.{meaning}
 use Rattle.image.specs.Index.{hashesOf, bucketStart, itemOf, laidIndex}
-
-abbrev pub slotsFrom : ℕ
-slotsFrom = 128
+use Rattle.write_bytes.specs.Numbered.{slotsFrom, firstSlot, slotCount}
 
 abbrev pub indicesFrom : ℕ
-indicesFrom = 1152
+indicesFrom = slotsFrom + mostItems
 
 abbrev pub bucketsFrom : ℕ
-bucketsFrom = 2176
+bucketsFrom = indicesFrom + mostItems
 
 abbrev pub rosterSize : ℕ
-rosterSize = 3200
+rosterSize = bucketsFrom + mostItems
 
 -- the tables that a builder's memory means
 unfoldable pub stateOf : List ℕ → List ℕ → State
 stateOf ws ar = rowsOf (meaning ws ar .items)
 
 module _ (roster : List ℕ) where
-  unfoldable pub firstSlot : ℕ → ℕ
-  firstSlot t = getD roster (2 * t) 0
-
-  unfoldable pub slotCount : ℕ → ℕ
-  slotCount t = getD roster (2 * t + 1) 0
-
   unfoldable pub slotItem : ℕ → ℕ
   slotItem s = getD roster (slotsFrom + s) 0
 

@@ -3,11 +3,12 @@ use build_memory::fields::ITEMS;
 use build_memory::fields::TABLE;
 use build_memory::fields::TABLES;
 use build_memory::fields::item_word;
+use layout::limits::MOST_ITEMS;
 use write_order::sort::sort;
 ghost use mathlib.Core.Path.{_≡_};
 ghost use Prim.Native.Nat.{_≤_};
 ghost use lib.ListN.{length, take};
-ghost use Rattle.model.specs.Builder.{mostItems};
+ghost use Rattle.layout.specs.Limits.{mostItems};
 ghost use Rattle.image.specs.Index.{keyOrder};
 ghost use Rattle.write_order.specs.Key.{keyed, Known};
 ghost use Rattle.write_numbers.specs.Fill.{Fit, hasItems, Collected, Ordered};
@@ -58,7 +59,7 @@ fn sort_first(words: &[usize], arena: &[u8], run: &mut [usize], n: usize)
     requires { ⌜ Known (now words) (take n (now run)) × (n ≤ length (now run)) × (n ≤ mostItems) ⌝ }
     ensures { λ _. ⌜ take n (now (run .exit)) ≡ keyOrder (keyed (now (words .entry)) (now (arena .entry)) (take n (now (run .entry)))) ⌝ }
 {
-    let mut scratch = [0usize; 1024];
+    let mut scratch = [0usize; MOST_ITEMS];
     sort(words, arena, &mut run[..n], &mut scratch);
 }
 

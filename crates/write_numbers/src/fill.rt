@@ -1,14 +1,22 @@
 // The roster of all tables: their slots stand one behind the other.
 use crate::collect::has_items;
+use crate::roster::BUCKETS_FROM;
+use crate::roster::INDICES_FROM;
 use crate::table::index_table;
+use layout::limits::MOST_ITEMS;
+use layout::limits::MOST_TABLES;
+use words::store::put_words;
+use write_bytes::numbered::HEAD_WORDS;
+use write_bytes::numbered::SLOTS_FROM;
 use write_order::items::index_items;
 ghost use mathlib.Core.Path.{_≡_};
 ghost use Prim.Native.Nat.{_+_, _≤_};
 ghost use mathlib.Core.Bool.{true};
 ghost use lib.ListN.{length, take};
 ghost use Rattle.words.specs.Store.{putAt};
-ghost use Rattle.model.specs.Builder.{mostTables};
+ghost use Rattle.layout.specs.Limits.{mostTables};
 ghost use Rattle.build_rules.specs.Valid.{fullyValid};
+ghost use Rattle.write_bytes.specs.Numbered.{slotsFrom};
 ghost use Rattle.write_numbers.specs.Roster.{rosterSize, Rostered};
 ghost use Rattle.write_numbers.specs.Fill.{Judged, Fits, Sized, Put, Filled};
 
@@ -17,11 +25,7 @@ fn copy_first(src: &[usize], n: usize, out: &mut [usize], at: usize)
     requires { ⌜ (n ≤ length (now src)) × (at + n ≤ length (now out)) ⌝ }
     ensures { λ _. ⌜ now (out .exit) ≡ putAt (now (out .entry)) at (take n (now (src .entry))) ⌝ }
 {
-    let mut j = 0;
-    while j < n {
-        out[at + j] = src[j];
-        j += 1;
-    }
+    put_words(out, at, &src[..n]);
 }
 
 // Puts the items of a table t that has some into its slots, which start at `first`, with their indices and bucket words. Answers how many there are.
@@ -39,8 +43,8 @@ fn put_items(
     ensures { λ _. ⌜ now (words .exit) ≡ now (words .entry) ⌝ }
     ensures { λ r. ⌜ Put (now (words .entry)) (now (arena .entry)) t first r (now (slots .entry)) (now (slots .exit)) (now (indices .entry)) (now (indices .exit)) (now (buckets .entry)) (now (buckets .exit)) ⌝ }
 {
-    let mut items = [0usize; 1024];
-    let mut firsts = [0usize; 1024];
+    let mut items = [0usize; MOST_ITEMS];
+    let mut firsts = [0usize; MOST_ITEMS];
     let n = index_table(words, arena, t, &mut items, &mut firsts);
     copy_first(&items, n, slots, first);
     copy_first(&firsts, n, buckets, first);
@@ -78,17 +82,17 @@ fn fill(
     indices: &mut [usize],
     buckets: &mut [usize],
 )
-    requires { ⌜ Judged (now words) (now arena) × (length (now heads) ≡ mostTables + mostTables) ⌝ }
+    requires { ⌜ Judged (now words) (now arena) × (length (now heads) ≡ slotsFrom) ⌝ }
     requires { ⌜ Sized (now slots) (now indices) (now buckets) ⌝ }
     ensures { λ _. ⌜ now (words .exit) ≡ now (words .entry) ⌝ }
     ensures { λ _. ⌜ Filled (now (words .entry)) (now (arena .entry)) mostTables (now (heads .exit)) (now (slots .exit)) (now (indices .exit)) (now (buckets .exit)) ⌝ }
 {
     let mut t = 0;
     let mut first = 0;
-    while t < 64 {
+    while t < MOST_TABLES {
         let n = put_table(words, arena, t, first, slots, indices, buckets);
-        heads[2 * t] = first;
-        heads[2 * t + 1] = n;
+        heads[HEAD_WORDS * t] = first;
+        heads[HEAD_WORDS * t + 1] = n;
         first += n;
         t += 1;
     }
@@ -101,10 +105,10 @@ pub fn roster_all(words: &mut [usize], arena: &[u8], roster: &mut [usize])
     ensures { λ _. ⌜ now (words .exit) ≡ now (words .entry) ⌝ }
     ensures { λ _. ⌜ Rostered (now (words .entry)) (now (arena .entry)) (now (roster .exit)) ⌝ }
 {
-    let mut heads = [0usize; 128];
-    let mut slots = [0usize; 1024];
-    let mut indices = [0usize; 1024];
-    let mut buckets = [0usize; 1024];
+    let mut heads = [0usize; SLOTS_FROM];
+    let mut slots = [0usize; MOST_ITEMS];
+    let mut indices = [0usize; MOST_ITEMS];
+    let mut buckets = [0usize; MOST_ITEMS];
     fill(
         words,
         arena,
@@ -113,8 +117,8 @@ pub fn roster_all(words: &mut [usize], arena: &[u8], roster: &mut [usize])
         &mut indices,
         &mut buckets,
     );
-    copy_first(&heads, 128, roster, 0);
-    copy_first(&slots, 1024, roster, 128);
-    copy_first(&indices, 1024, roster, 1152);
-    copy_first(&buckets, 1024, roster, 2176);
+    put_words(roster, 0, &heads);
+    put_words(roster, SLOTS_FROM, &slots);
+    put_words(roster, INDICES_FROM, &indices);
+    put_words(roster, BUCKETS_FROM, &buckets);
 }

@@ -2,6 +2,7 @@
 use crate::collect::in_order;
 use build_memory::fields::LEAST_WORDS;
 use build_memory::fields::LINKS_FROM;
+use layout::limits::MOST_ITEMS;
 use write_order::buckets::index_by_bucket;
 use write_order::items::hash_all;
 use write_order::items::items_at;
@@ -9,7 +10,7 @@ ghost use mathlib.Core.Path.{_≡_};
 ghost use Prim.Native.Nat.{_≤_};
 ghost use lib.ListN.{length};
 ghost use Rattle.words.specs.Store.{putAt};
-ghost use Rattle.model.specs.Builder.{mostItems};
+ghost use Rattle.layout.specs.Limits.{mostItems};
 ghost use Rattle.image.specs.Index.{byBucket};
 ghost use Rattle.write_order.specs.Key.{Known};
 ghost use Rattle.write_order.specs.Chain.{starts};
@@ -36,7 +37,7 @@ fn index_run(words: &mut [usize], run: &[usize], order: &mut [usize], firsts: &m
     ensures { λ _. ⌜ now (firsts .exit) ≡ putAt (now (firsts .entry)) 0 (starts (hashesIn (now (words .entry)) (now (run .entry)))) ⌝ }
 {
     let n = run.len();
-    let mut hashes = [0usize; 1024];
+    let mut hashes = [0usize; MOST_ITEMS];
     hash_all(words, run, &mut hashes);
     index_links(words, &hashes[..n], order, firsts);
 }
@@ -54,8 +55,8 @@ pub fn index_table(
     ensures { λ _. ⌜ now (words .exit) ≡ now (words .entry) ⌝ }
     ensures { λ r. ⌜ IndexedAs (now (words .entry)) (now (arena .entry)) t r (now (items .exit)) (now (firsts .exit)) ⌝ }
 {
-    let mut run = [0usize; 1024];
-    let mut order = [0usize; 1024];
+    let mut run = [0usize; MOST_ITEMS];
+    let mut order = [0usize; MOST_ITEMS];
     let n = in_order(words, arena, t, &mut run);
     index_run(words, &run[..n], &mut order, firsts);
     items_at(&run[..n], &order[..n], items);

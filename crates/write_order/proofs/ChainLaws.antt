@@ -10,9 +10,11 @@ use lib.ListN.{length, getD, set, length-set, length-append, replicate, getD-rep
 use lib.Seq.{ext-getD, getD-set-same, getD-set-other, getD-at}
 use Rattle.model.specs.Table.{times}
 use Rattle.image.specs.Index.{bucketOf, run, bucketStart}
-use Rattle.image.proofs.TimesLaws.{eq-or-ne, times-here, times-cons}
+use Rattle.words.proofs.ChoiceLaws.{eq-or-ne}
+use Rattle.image.proofs.TimesLaws.{times-here, times-cons}
 use Rattle.image.proofs.RunLaws.{run-hit, run-cases, run-above, run-other}
-use Rattle.write_order.specs.Chain.{mark, startsBelow, starts, Empty, EmptyFrom, Chain, Chained, cleared}
+use Rattle.layout.specs.Item.{noItem}
+use Rattle.write_order.specs.Chain.{startsBelow, starts, Empty, EmptyFrom, Chain, Chained, cleared}
 
 -- ---- chains
 
@@ -52,7 +54,7 @@ module _ (hashes : List ℕ) where
   unfolding Chained Chain run Empty
   chained-none heads links h e b l = e b (omega arith)
 
-  chained-front : (k : ℕ) (heads links : List ℕ) → bucketOf hashes k < length heads → k < length links → k < mark → Chained hashes k heads links
+  chained-front : (k : ℕ) (heads links : List ℕ) → bucketOf hashes k < length heads → k < length links → k < noItem → Chained hashes k heads links
       → (b : ℕ) → b < length hashes → bucketOf hashes k ≡ b → Chain (set links k (getD heads (bucketOf hashes k) 0)) (getD (set heads (bucketOf hashes k) k) b 0) (k ∷ run hashes b k)
   unfolding Chained Chain
   chained-front k heads links inh fits small c b l e = (
@@ -63,7 +65,7 @@ module _ (hashes : List ℕ) where
         (chain-set links k (getD heads b 0) (getD heads b 0) (run hashes b k) (run-above hashes b k k (omega arith)) (c b l)),
   )
 
-  pub chained-more : (k : ℕ) (heads links : List ℕ) {b : ℕ} → b ≡ bucketOf hashes k → b < length heads → k < length links → k < mark
+  pub chained-more : (k : ℕ) (heads links : List ℕ) {b : ℕ} → b ≡ bucketOf hashes k → b < length heads → k < length links → k < noItem
       → Chained hashes k heads links → Chained hashes (k + 1) (set heads b k) (set links k (getD heads b 0))
   unfolding Chained
   chained-more k heads links here inh fits small c b l =
@@ -89,39 +91,39 @@ unfolding Empty
 empty-same a b e p q = ext-getD 0 a b e (λ i l. p i l ∙ sym (q i (rw e at l)))
 
 -- a fresh array of empty marks
-pub empty-fresh : (n : ℕ) → Empty (replicate n mark)
+pub empty-fresh : (n : ℕ) → Empty (replicate n noItem)
 unfolding Empty
-empty-fresh n i l = getD-replicate n i mark 0 (rw (length-replicate n mark) at l)
+empty-fresh n i l = getD-replicate n i noItem 0 (rw (length-replicate n noItem) at l)
 
 -- ---- cleared links
 
 pub length-cleared : (links l : List ℕ) → length (cleared links l) ≡ length links
 unfolding cleared
 length-cleared links [] = refl
-length-cleared links (x ∷ l) = length-cleared (set links x mark) l ∙ length-set links x mark
+length-cleared links (x ∷ l) = length-cleared (set links x noItem) l ∙ length-set links x noItem
 
 pub cleared-nil : (links : List ℕ) → cleared links [] ≡ links
 unfolding cleared
 cleared-nil links = refl
 
-pub cleared-snoc : (links l : List ℕ) (x : ℕ) → cleared links (l ++ (x ∷ [])) ≡ set (cleared links l) x mark
+pub cleared-snoc : (links l : List ℕ) (x : ℕ) → cleared links (l ++ (x ∷ [])) ≡ set (cleared links l) x noItem
 unfolding cleared
 cleared-snoc links [] x = refl
-cleared-snoc links (y ∷ l) x = cleared-snoc (set links y mark) l x
+cleared-snoc links (y ∷ l) x = cleared-snoc (set links y noItem) l x
 
 -- what is not cleared stays
 pub cleared-other : (links l : List ℕ) (y : ℕ) → times y l ≡ 0 → getD (cleared links l) y 0 ≡ getD links y 0
 unfolding cleared
 cleared-other links [] y none = refl
 cleared-other links (x ∷ l) y none =
-    cleared-other (set links x mark) l y (not-rest y x l none) ∙ getD-set-other links x y mark 0 (λ e. not-first y x l none (sym e))
+    cleared-other (set links x noItem) l y (not-rest y x l none) ∙ getD-set-other links x y noItem 0 (λ e. not-first y x l none (sym e))
 
 -- a chain none of whose ranks is cleared stands
 chain-cleared : (links : List ℕ) (h : ℕ) (l m : List ℕ) → ((x : ℕ) → 0 < times x l → times x m ≡ 0) → Chain links h m → Chain (cleared links l) h m
 unfolding cleared
 chain-cleared links h [] m apart c = c
 chain-cleared links h (x ∷ l) m apart c =
-    chain-cleared (set links x mark) h l m (λ y s. apart y (omega (arith, times-cons y x l))) (chain-set links x mark h m (apart x (omega (arith, times-here x x l refl))) c)
+    chain-cleared (set links x noItem) h l m (λ y s. apart y (omega (arith, times-cons y x l))) (chain-set links x noItem h m (apart x (omega (arith, times-here x x l refl))) c)
 
 module _ (hashes : List ℕ) where
   -- the other buckets' chains stand
@@ -136,19 +138,19 @@ module _ (hashes : List ℕ) where
           (eq-or-ne (bucketOf hashes x) b)
 
   -- every rank of the run is cleared
-  pub run-cleared : (links : List ℕ) (b k x : ℕ) → x < k → k ≤ length links → bucketOf hashes x ≡ b → getD (cleared links (run hashes b k)) x 0 ≡ mark
+  pub run-cleared : (links : List ℕ) (b k x : ℕ) → x < k → k ≤ length links → bucketOf hashes x ≡ b → getD (cleared links (run hashes b k)) x 0 ≡ noItem
   unfolding cleared
   run-cleared links b zero x h l e = absurd (omega arith)
   run-cleared links b (suc k) x h l e =
       ⊎-elim
       (λ q. rw (run-hit hashes b k (ap (bucketOf hashes) (sym q) ∙ e)) (last q))
-      (λ less. run-cases hashes (λ r. getD (cleared links r) x 0 ≡ mark) b k
-      (λ _. run-cleared (set links k mark) b k x less (rw length-set (omega arith)) e)
+      (λ less. run-cases hashes (λ r. getD (cleared links r) x 0 ≡ noItem) b k
+      (λ _. run-cleared (set links k noItem) b k x less (rw length-set (omega arith)) e)
       (λ _. run-cleared links b k x less (omega arith) e))
       (eq-or-lt-of-le (le-of-suc-le-suc h))
     where
-      last : x ≡ k → getD (cleared links (k ∷ run hashes b k)) x 0 ≡ mark
-      last q = rw q (cleared-other (set links k mark) (run hashes b k) k (run-above hashes b k k (omega arith)) ∙ getD-set-same links k mark 0 (omega arith))
+      last : x ≡ k → getD (cleared links (k ∷ run hashes b k)) x 0 ≡ noItem
+      last q = rw q (cleared-other (set links k noItem) (run hashes b k) k (run-above hashes b k k (omega arith)) ∙ getD-set-same links k noItem 0 (omega arith))
 
   -- ---- the bucket words
 

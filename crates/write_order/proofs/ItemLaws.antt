@@ -17,7 +17,7 @@ use Rattle.image.specs.Index.{keyOrder, hashesOf, byBucket, byIndex, indexIn, l
 use Rattle.image.proofs.TimesLaws.{times-here, times-cons, index-stands}
 use Rattle.image.proofs.OrderLaws.{length-order, times-order}
 use Rattle.image.proofs.IndexLaws.{ranks-each, numbering}
-use Rattle.write_order.specs.Key.{hashAt}
+use Rattle.build_memory.specs.Memory.{itemHash}
 use Rattle.write_order.specs.Items.{AllBelow, hashesIn, itemsAt, indicesPut}
 
 -- ---- lists made one by one
@@ -50,11 +50,11 @@ module _ (f : ℕ → ℕ) (l out : List ℕ) where
 
 -- ---- hashes and items of the table's definition
 
-pub hashes-order : (words : List ℕ) (table : Rows) → ((i : ℕ) → Has (table .members) i → hashAt words i ≡ hashOf (table .key i))
+pub hashes-order : (words : List ℕ) (table : Rows) → ((i : ℕ) → Has (table .members) i → itemHash words i ≡ hashOf (table .key i))
     → hashesIn words (keyOrder table) ≡ hashesOf plain table
 unfolding hashesIn hashesOf
 hashes-order words table same =
-    map-same (hashAt words) (λ (i : ℕ). hashBy plain (table .key i)) (keyOrder table) (λ x h. same x (rw (times-order table x) at h))
+    map-same (itemHash words) (λ (i : ℕ). hashBy plain (table .key i)) (keyOrder table) (λ x h. same x (rw (times-order table x) at h))
 
 pub items-index : (rule : ℕ → ℕ) (table : Rows) → itemsAt (keyOrder table) (byBucket (hashesOf rule table)) ≡ byIndex rule table
 unfolding itemsAt byIndex

@@ -16,12 +16,11 @@ use Rattle.text.proofs.OrderLaws.{transitive}
 use Rattle.model.specs.Table.{Rows}
 use Rattle.image.specs.Index.{insertKey, sortKeys, keyOrder}
 use Rattle.image.proofs.OrderLaws.{not-before}
-use Rattle.write_order.specs.Key.{keyAt, keyed}
+use Rattle.build_memory.specs.Memory.{keyOf}
+use Rattle.write_order.specs.Key.{keyed}
 use Rattle.write_order.specs.Merge.{rightFirst, mergedFrom, merged}
 use Rattle.write_order.proofs.KeyLaws.{keyed-order, length-keyed}
-
-clash : {A : Type 0} → true ≡ false → A
-clash e = let z : _≡_ {A = ℕ} 0 1 = cc in absurd (omega arith)
+use Rattle.words.proofs.ChoiceLaws.{clash}
 
 -- ---- one item more
 
@@ -162,11 +161,11 @@ module _ (table : Rows) where
 -- ---- the sort
 
 module _ (words arena : List ℕ) where
-  merge-both : (l r : List ℕ) → merged (keyAt words arena) (sortKeys (keyed words arena []) l) (sortKeys (keyed words arena []) r) ≡ sortKeys (keyed words arena []) (l ++ r)
+  merge-both : (l r : List ℕ) → merged (keyOf words arena) (sortKeys (keyed words arena []) l) (sortKeys (keyed words arena []) r) ≡ sortKeys (keyed words arena []) (l ++ r)
   unfolding keyed
   merge-both l r = merge-sorts (keyed words arena []) l r
 
-  pub merge-keyed : (l r : List ℕ) → merged (keyAt words arena) (keyOrder (keyed words arena l)) (keyOrder (keyed words arena r)) ≡ keyOrder (keyed words arena (l ++ r))
+  pub merge-keyed : (l r : List ℕ) → merged (keyOf words arena) (keyOrder (keyed words arena l)) (keyOrder (keyed words arena r)) ≡ keyOrder (keyed words arena (l ++ r))
   merge-keyed l r = rw (keyed-order words arena l, keyed-order words arena r, keyed-order words arena (l ++ r)) (merge-both l r)
 
   -- nothing is to be done for one item or none
@@ -179,10 +178,10 @@ module _ (words arena : List ℕ) where
   -- both halves sorted, merged into the scratch words and copied over
   pub sort-all : (mid : ℕ) (l m n s : List ℕ) {out res : List ℕ} → take mid m ≡ keyOrder (keyed words arena (take mid l)) → drop mid m ≡ drop mid l
       → drop mid n ≡ keyOrder (keyed words arena (drop mid m)) → take mid n ≡ take mid m
-      → out ≡ putAt s 0 (merged (keyAt words arena) (take mid n) (drop mid n)) → length n ≡ length l → length n ≤ length s → res ≡ take (length n) out
+      → out ≡ putAt s 0 (merged (keyOf words arena) (take mid n) (drop mid n)) → length n ≡ length l → length n ≤ length s → res ≡ take (length n) out
       → res ≡ keyOrder (keyed words arena l)
   sort-all mid l m n s {out} {res} front kept back kept′ e same room r =
-      let whole : merged (keyAt words arena) (take mid n) (drop mid n) ≡ keyOrder (keyed words arena l) =
+      let whole : merged (keyOf words arena) (take mid n) (drop mid n) ≡ keyOrder (keyed words arena l) =
       rw (kept′, front, back, kept, merge-keyed (take mid l) (drop mid l), take-append-drop mid l) in
       let size : length (keyOrder (keyed words arena l)) ≡ length n = length-keyed words arena l ∙ sym same in
       r ∙ rw (e, whole, ← size) (part-put s 0 (keyOrder (keyed words arena l)) (omega arith))

@@ -2,7 +2,7 @@
 use Prim.Native.Nat.{ℕ, zero, suc, _<_}
 use mathlib.Core.List.{List, map}
 use lib.ListN.{length, getD, set}
-use Rattle.write_order.specs.Key.{hashAt}
+use Rattle.build_memory.specs.Memory.{itemHash}
 
 -- every element is below n
 unfoldable pub AllBelow : ℕ → List ℕ → Type 0
@@ -10,7 +10,7 @@ AllBelow n l = (k : ℕ) → k < length l → getD l k 0 < n
 
 -- the hashes of some items
 unfoldable pub hashesIn : List ℕ → List ℕ → List ℕ
-hashesIn words run = map (hashAt words) run
+hashesIn words run = map (itemHash words) run
 
 -- the items of some ranks
 unfoldable pub itemsAt : List ℕ → List ℕ → List ℕ

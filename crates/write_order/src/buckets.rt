@@ -1,14 +1,14 @@
 // Indices for the items of one table, bucket by bucket. An item goes by its rank, which counts in ascending key order; `hashes` has the hash of each rank.
-// A chain runs from the head of its bucket through `links`.
+// A chain runs from the head of its bucket through `links`, and ends with the empty mark.
+use build_memory::fields::EMPTY;
+use layout::limits::MOST_ITEMS;
 ghost use mathlib.Core.Path.{_≡_};
 ghost use Prim.Native.Nat.{_≤_, _<_};
 ghost use lib.ListN.{length};
 ghost use Rattle.words.specs.Store.{putAt};
+ghost use Rattle.layout.specs.Limits.{mostItems};
 ghost use Rattle.image.specs.Index.{bucketOf, byBucket};
 ghost use Rattle.write_order.specs.Chain.{Chained, Ended, Drained, Empty, EmptyFrom, Rooms, starts};
-
-// The empty mark of a chain's end.
-const EMPTY: usize = 0xFFFF_FFFF;
 
 // gvdb-rs: SimpleHashTable::hash_bucket.
 // The bucket of a rank.
@@ -22,7 +22,7 @@ fn bucket_of(hashes: &[usize], place: usize) -> usize
 // gvdb-rs: SimpleHashTable::insert.
 // Puts each rank, in ascending order, at the front of its bucket's chain.
 fn chain_all(hashes: &[usize], heads: &mut [usize], links: &mut [usize])
-    requires { ⌜ (length (now hashes) ≤ 1024) × (length (now hashes) ≤ length (now heads)) × (length (now hashes) ≤ length (now links)) ⌝ }
+    requires { ⌜ (length (now hashes) ≤ mostItems) × (length (now hashes) ≤ length (now heads)) × (length (now hashes) ≤ length (now links)) ⌝ }
     requires { ⌜ Empty (now heads) × Empty (now links) ⌝ }
     ensures { λ _. ⌜ Chained (now (hashes .entry)) (length (now (hashes .entry))) (now (heads .exit)) (now (links .exit)) ⌝ }
     ensures { λ _. ⌜ EmptyFrom (length (now (hashes .entry))) (now (links .exit)) ⌝ }
@@ -92,7 +92,7 @@ pub fn index_by_bucket(
     ensures { λ _. ⌜ now (firsts .exit) ≡ putAt (now (firsts .entry)) 0 (starts (now (hashes .entry))) ⌝ }
     ensures { λ _. ⌜ now (links .exit) ≡ now (links .entry) ⌝ }
 {
-    let mut heads = [EMPTY; 1024];
+    let mut heads = [EMPTY; MOST_ITEMS];
     chain_all(hashes, &mut heads, links);
     index_all(hashes, &heads, links, order, firsts);
 }

@@ -1,5 +1,6 @@
 // From ranks to items and indices: the hash of each rank, the item at each index, the index of each item.
-use crate::key::hash_of;
+use build_memory::fields::HASH;
+use build_memory::fields::item_word;
 ghost use mathlib.Core.Path.{_≡_};
 ghost use Prim.Native.Nat.{_≤_};
 ghost use lib.ListN.{length};
@@ -14,7 +15,7 @@ pub fn hash_all(words: &[usize], run: &[usize], hashes: &mut [usize])
 {
     let mut k = 0;
     while k < run.len() {
-        hashes[k] = hash_of(words, run[k]);
+        hashes[k] = item_word(words, run[k], HASH);
         k += 1;
     }
 }

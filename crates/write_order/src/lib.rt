@@ -1,5 +1,4 @@
 // The items of one table in ascending key order, and their indices bucket by bucket.
 pub mod buckets;
 pub mod items;
-pub mod key;
 pub mod sort;

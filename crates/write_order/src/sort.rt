@@ -1,18 +1,31 @@
 // Items sorted by their keys, in a merge sort over lent words. Of equal keys the earlier item stays first.
-use crate::key::comes_before;
+use build_memory::fields::key_of;
+use text::keyorder::less;
+use words::store::put_words;
 ghost use mathlib.Core.Path.{_≡_};
-ghost use Prim.Native.Nat.{_≤_};
+ghost use Prim.Native.Nat.{_≤_, _<_};
 ghost use lib.ListN.{length, take, drop};
 ghost use Rattle.words.specs.Store.{putAt};
+ghost use Rattle.text.specs.Order.{precedes};
+ghost use Rattle.layout.specs.Limits.{mostItems};
+ghost use Rattle.build_memory.specs.Memory.{leastWords, keyOf};
 ghost use Rattle.image.specs.Index.{keyOrder};
-ghost use Rattle.write_order.specs.Key.{keyAt, keyed, Known};
+ghost use Rattle.write_order.specs.Key.{keyed, Known};
 ghost use Rattle.write_order.specs.Merge.{rightFirst, merged};
+
+// Whether the key of item a comes before that of item b.
+fn comes_before(words: &[usize], arena: &[u8], a: usize, b: usize) -> bool
+    requires { ⌜ (leastWords ≤ length (now words)) × (a < mostItems) × (b < mostItems) ⌝ }
+    ensures { λ r. ⌜ r ≡ precedes (keyOf (now (words .entry)) (now (arena .entry)) a) (keyOf (now (words .entry)) (now (arena .entry)) b) ⌝ }
+{
+    less(key_of(words, arena, a), key_of(words, arena, b))
+}
 
 // Whether the next item is that of the right run, run[j..], and not of the left, run[i..mid].
 fn right_first(words: &[usize], arena: &[u8], run: &[usize], mid: usize, i: usize, j: usize) -> bool
     requires { ⌜ Known (now words) (now run) ⌝ }
     requires { ⌜ (mid ≤ length (now run)) × (i ≤ mid) × (j ≤ length (now run)) ⌝ }
-    ensures { λ r. ⌜ r ≡ rightFirst (keyAt (now (words .entry)) (now (arena .entry))) (drop i (take mid (now (run .entry)))) (drop j (now (run .entry))) ⌝ }
+    ensures { λ r. ⌜ r ≡ rightFirst (keyOf (now (words .entry)) (now (arena .entry))) (drop i (take mid (now (run .entry)))) (drop j (now (run .entry))) ⌝ }
 {
     if j == run.len() {
         return false;
@@ -27,7 +40,7 @@ fn right_first(words: &[usize], arena: &[u8], run: &[usize], mid: usize, i: usiz
 fn merge(words: &[usize], arena: &[u8], run: &[usize], mid: usize, out: &mut [usize])
     requires { ⌜ Known (now words) (now run) ⌝ }
     requires { ⌜ (mid ≤ length (now run)) × (length (now run) ≤ length (now out)) ⌝ }
-    ensures { λ _. ⌜ now (out .exit) ≡ putAt (now (out .entry)) 0 (merged (keyAt (now (words .entry)) (now (arena .entry))) (take mid (now (run .entry))) (drop mid (now (run .entry)))) ⌝ }
+    ensures { λ _. ⌜ now (out .exit) ≡ putAt (now (out .entry)) 0 (merged (keyOf (now (words .entry)) (now (arena .entry))) (take mid (now (run .entry))) (drop mid (now (run .entry)))) ⌝ }
 {
     let mut i = 0;
     let mut j = mid;
@@ -50,11 +63,8 @@ fn copy_over(src: &[usize], dst: &mut [usize])
     requires { ⌜ length (now dst) ≤ length (now src) ⌝ }
     ensures { λ _. ⌜ now (dst .exit) ≡ take (length (now (dst .entry))) (now (src .entry)) ⌝ }
 {
-    let mut i = 0;
-    while i < dst.len() {
-        dst[i] = src[i];
-        i += 1;
-    }
+    let n = dst.len();
+    put_words(dst, 0, &src[..n]);
 }
 
 // Sorts the items of `run` in place. What `scratch` then holds is not said.

@@ -1,7 +1,5 @@
--- `build_nested::insert::place_table` meets its contract: two stores are one.
-use Rattle.build_nested.proofs.NestLaws.{placed-stores}
-use lib.ListN.{length-set}
-use native.Mathlib.Omega.{arith}
+-- `build_nested::insert::place_table` meets its contract.
+use Rattle.build_nested.specs.Nest.{placeTable}
 use borrow.Author.Needs.{needs}
 use Rattle.build_nested.proofs.insert.place_table.Statement.{statement}
 use Rattle.build_nested.proofs.insert.place_table.Tie as tie
@@ -15,26 +13,18 @@ add-at c = search needs
 add-at-2 : tie.Need-add-at-2
 add-at-2 c = search needs
 
-mul-words : tie.Need-mul-words
-mul-words c = search needs
+slice-aggregate-put-words : tie.Need-slice-aggregate-put-words
+slice-aggregate-put-words c = search needs
 
-slice-write-words : tie.Need-slice-write-words
-slice-write-words c = search needs
-
-add-words : tie.Need-add-words
-add-words c = search needs
-
-mul-words-2 : tie.Need-mul-words-2
-mul-words-2 c = search needs
-
-slice-write-words-2 : tie.Need-slice-write-words-2
-slice-write-words-2 c = simp length-set (omega arith)
+put-words-requires : tie.Need-put-words-requires
+put-words-requires c κs = search needs
 
 same-length : tie.Need-same-length
 same-length c = search needs
 
 returns : tie.Need-returns
-returns c = placed-stores _ _ _
+unfolding placeTable
+returns c = search needs
 
 pub place-table-spec : {M : Type 1} → statement M
 place-table-spec =
@@ -43,10 +33,7 @@ place-table-spec =
     mul-at
     add-at
     add-at-2
-    mul-words
-    slice-write-words
-    add-words
-    mul-words-2
-    slice-write-words-2
+    slice-aggregate-put-words
+    put-words-requires
     same-length
     returns)

@@ -2,7 +2,7 @@
 use Rattle.build_rules.proofs.ValidLaws.{guest-low, Met, met-none, met-pass, met-mark, once-pass, once-twice, once-first}
 use Rattle.build_rules.specs.Valid.{heldOnce}
 use Rattle.build_memory.specs.Memory.{itemTotal}
-use Rattle.model.specs.Builder.{mostTables}
+use Rattle.layout.specs.Limits.{mostTables}
 use Rattle.words.proofs.BelowLaws.{all-fails, all-turn}
 use Rattle.words.specs.Below.{allBelow}
 use lib.ListN.{length, length-set}

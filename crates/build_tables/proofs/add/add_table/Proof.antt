@@ -1,7 +1,5 @@
 -- `build_tables::add::add_table` meets its contract: 27, or a row for the table and one table more.
 use Rattle.build_tables.proofs.TableLaws.{tables-many, table-added}
-use lib.ListN.{length-set}
-use native.Mathlib.Omega.{arith}
 use borrow.Author.Needs.{needs}
 use Rattle.build_tables.proofs.add.add_table.Statement.{statement}
 use Rattle.build_tables.proofs.add.add_table.Tie as tie
@@ -18,35 +16,20 @@ mul-at c = search needs
 add-at : tie.Need-add-at
 add-at c = search needs
 
-mul-words : tie.Need-mul-words
-mul-words c = search needs
+slice-aggregate-put-words : tie.Need-slice-aggregate-put-words
+slice-aggregate-put-words c = search needs
 
-slice-write-words : tie.Need-slice-write-words
-slice-write-words c = search needs
+put-words-requires : tie.Need-put-words-requires
+put-words-requires c κs = search needs
 
-add-words : tie.Need-add-words
-add-words c = search needs
+add-t9 : tie.Need-add-t9
+add-t9 c = search needs
 
-mul-words-2 : tie.Need-mul-words-2
-mul-words-2 c = search needs
+slice-aggregate-put-words-2 : tie.Need-slice-aggregate-put-words-2
+slice-aggregate-put-words-2 c = search needs
 
-slice-write-words-2 : tie.Need-slice-write-words-2
-slice-write-words-2 c = simp length-set (omega arith)
-
-add-words-2 : tie.Need-add-words-2
-add-words-2 c = search needs
-
-mul-words-3 : tie.Need-mul-words-3
-mul-words-3 c = search needs
-
-slice-write-words-3 : tie.Need-slice-write-words-3
-slice-write-words-3 c = simp length-set (omega arith)
-
-add-words-3 : tie.Need-add-words-3
-add-words-3 c = search needs
-
-slice-write-words-4 : tie.Need-slice-write-words-4
-slice-write-words-4 c = simp length-set (omega arith)
+put-words-requires-2 : tie.Need-put-words-requires-2
+put-words-requires-2 c κs = search needs
 
 narrow-requires : tie.Need-narrow-requires
 narrow-requires c κs = search needs
@@ -55,7 +38,10 @@ same-length : tie.Need-same-length
 same-length c = search needs
 
 returns-2 : tie.Need-returns-2
-returns-2 c = table-added _ _ _ (c .before .if1 .left) _ (c .narrow .ensures)
+returns-2 c =
+    let second = c .before .before .before in
+    let first = second .before .before .before .before .before in
+    table-added _ _ _ (first .before .before .before .if1 .left) _ (c .narrow .ensures) _ _ (first .put-words .ensures) (second .put-words2 .ensures)
 
 pub add-table-spec : {M : Type 1} → statement M
 add-table-spec =
@@ -65,16 +51,11 @@ add-table-spec =
     returns
     mul-at
     add-at
-    mul-words
-    slice-write-words
-    add-words
-    mul-words-2
-    slice-write-words-2
-    add-words-2
-    mul-words-3
-    slice-write-words-3
-    add-words-3
-    slice-write-words-4
+    slice-aggregate-put-words
+    put-words-requires
+    add-t9
+    slice-aggregate-put-words-2
+    put-words-requires-2
     narrow-requires
     same-length
     returns-2)

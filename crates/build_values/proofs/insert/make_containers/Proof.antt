@@ -5,7 +5,8 @@ use Rattle.build_values.specs.Insert.{containers}
 use Rattle.build_values.specs.Walk.{sum}
 use Rattle.build_memory.proofs.MadeLaws.{made-all}
 use Rattle.build_memory.specs.Item.{stored}
-use Rattle.build_memory.specs.Memory.{itemTotal, roomUsed, containerKind, memory}
+use Rattle.layout.specs.Kind.{containerKind}
+use Rattle.build_memory.specs.Memory.{itemTotal, roomUsed, memory}
 use Rattle.text.specs.Prefix.{endsPast}
 use Rattle.words.specs.Hash.{hashOf, plain}
 use Rattle.words.proofs.HashLaws.{hash-further}

@@ -1,7 +1,7 @@
 -- `build_values::walk::cost_of` meets its contract. The invariant: what is counted and what is left make the whole.
 use Rattle.build_values.proofs.WalkLaws.{further, last}
 use Rattle.build_values.specs.Walk.{sum}
-use Rattle.model.specs.Builder.{longestKey}
+use Rattle.layout.specs.Limits.{longestKey}
 use Rattle.text.specs.Prefix.{endsPast}
 use lib.ListN.{length}
 use native.Mathlib.Omega.{arith}

@@ -2,7 +2,7 @@
 -- up to here.
 use Rattle.build_values.proofs.WalkLaws.{further, walked-is, walk-end, walk-miss, walk-block, walk-pass}
 use Rattle.build_values.specs.Walk.{descend}
-use Rattle.model.specs.Builder.{mostItems}
+use Rattle.layout.specs.Limits.{mostItems}
 use Rattle.text.specs.Prefix.{endsPast}
 use Rattle.words.specs.Hash.{hashOf, plain}
 use Rattle.words.proofs.HashLaws.{hash-none, hash-further}

@@ -12,7 +12,6 @@ place-of-requires : tie.Need-place-of-requires
 place-of-requires c κs = search needs
 
 returns : tie.Need-returns
-unfolding lookedAnswer
 returns c = c .place-of .ensures ∙ ap lookedAnswer (c .before .lookup-table .ensures)
 
 pub gvdb-get-table-spec : {M : Type 1} → statement M

@@ -1,5 +1,6 @@
 -- `gvdb::reading::gvdb_next_key` meets its contract: the listing's answer as numbers, and its buffer.
 use mathlib.Core.Path.{sym, ap, _∙_}
+use Rattle.read.specs.Answer.{listedNumber, listedKey}
 use Rattle.gvdb.specs.Reading.{listedAnswer}
 use borrow.Author.Needs.{needs}
 use Rattle.gvdb.proofs.reading.gvdb_next_key.Statement.{statement}
@@ -21,14 +22,14 @@ same-length : tie.Need-same-length
 same-length c = search needs
 
 returns : tie.Need-returns
-unfolding listedAnswer
+unfolding listedAnswer listedNumber listedKey
 returns c = (ap listedAnswer (sym (c .before .size .given .1) ∙ c .before .before .before .before .before .next-key .ensures .0), c .before .before .before .before .before .next-key .ensures .1)
 
 same-length-2 : tie.Need-same-length-2
 same-length-2 c = search needs
 
 returns-2 : tie.Need-returns-2
-unfolding listedAnswer
+unfolding listedAnswer listedNumber listedKey
 returns-2 c = (rw (c .number-of .ensures) (ap listedAnswer (sym (c .before .before .why .given .1) ∙ c .before .before .before .before .before .before .next-key .ensures .0)), c .before .before .before .before .before .before .next-key .ensures .1)
 
 pub gvdb-next-key-spec : {M : Type 1} → statement M

@@ -1,5 +1,6 @@
 -- `gvdb::reading::gvdb_next_value` meets its contract: the listing's answer as numbers.
 use mathlib.Core.Path.{sym, ap, _∙_}
+use Rattle.read.specs.Answer.{valuedNumber, valuedPointer, valuedItem}
 use Rattle.gvdb.specs.Reading.{valuedAnswer}
 use borrow.Author.Needs.{needs}
 use Rattle.gvdb.proofs.reading.gvdb_next_value.Statement.{statement}
@@ -24,15 +25,15 @@ number-of-requires-2 : tie.Need-number-of-requires-2
 number-of-requires-2 c κs = search needs
 
 returns : tie.Need-returns
-unfolding valuedAnswer
+unfolding valuedAnswer valuedNumber valuedPointer valuedItem
 returns c = ap valuedAnswer (sym (c .before .index .given .1) ∙ c .before .before .before .next-value .ensures)
 
 returns-2 : tie.Need-returns-2
-unfolding valuedAnswer
+unfolding valuedAnswer valuedNumber valuedPointer valuedItem
 returns-2 c = rw (c .number-of .ensures) (ap valuedAnswer (sym (c .before .before .why .given .1) ∙ c .before .before .before .before .next-value .ensures))
 
 returns-3 : tie.Need-returns-3
-unfolding valuedAnswer
+unfolding valuedAnswer valuedNumber valuedPointer valuedItem
 returns-3 c = rw (c .number-of2 .ensures) (ap valuedAnswer (sym (c .before .before .why2 .given .1) ∙ c .before .before .before .before .next-value .ensures))
 
 pub gvdb-next-value-spec : {M : Type 1} → statement M

@@ -2,7 +2,8 @@
 use mathlib.Core.Path.{sym, ap, _∙_}
 use native.Mathlib.Omega.{arith}
 use Rattle.layout.proofs.OpenLaws.{opened-in-file}
-use Rattle.gvdb.specs.Reading.{openedAnswer}
+use Rattle.layout.specs.Answer.{openedNumber}
+use Rattle.gvdb.specs.Reading.{openedCount, openedAnswer}
 use borrow.Author.Needs.{needs}
 use Rattle.gvdb.proofs.reading.gvdb_open.Statement.{statement}
 use Rattle.gvdb.proofs.reading.gvdb_open.Tie as tie
@@ -38,11 +39,11 @@ number-of-requires : tie.Need-number-of-requires
 number-of-requires c κs = search needs
 
 returns : tie.Need-returns
-unfolding openedAnswer
+unfolding openedAnswer openedCount openedNumber
 returns c = ap openedAnswer (sym (c .before .before .before .before .table .given .1) ∙ c .before .before .before .before .before .before .open-table .ensures)
 
 returns-2 : tie.Need-returns-2
-unfolding openedAnswer
+unfolding openedAnswer openedCount openedNumber
 returns-2 c = rw (c .number-of .ensures) (ap openedAnswer (sym (c .before .before .why .given .1) ∙ c .before .before .before .before .open-table .ensures))
 
 pub gvdb-open-spec : {M : Type 1} → statement M

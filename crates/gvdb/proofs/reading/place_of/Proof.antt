@@ -1,5 +1,6 @@
 -- `gvdb::reading::place_of` meets its contract: each arm by the variant that it matched.
 use mathlib.Core.Path.{sym, ap}
+use Rattle.read.specs.Answer.{lookedNumber, lookedPointer}
 use Rattle.gvdb.specs.Reading.{lookedAnswer}
 use borrow.Author.Needs.{needs}
 use Rattle.gvdb.proofs.reading.place_of.Statement.{statement}
@@ -15,11 +16,11 @@ number-of-requires : tie.Need-number-of-requires
 number-of-requires c κs = search needs
 
 returns : tie.Need-returns
-unfolding lookedAnswer
+unfolding lookedAnswer lookedNumber lookedPointer
 returns c = sym (ap lookedAnswer (c .before .looked .given .1))
 
 returns-2 : tie.Need-returns-2
-unfolding lookedAnswer
+unfolding lookedAnswer lookedNumber lookedPointer
 returns-2 c = rw (c .number-of .ensures) (sym (ap lookedAnswer (c .before .before .looked2 .given .1)))
 
 pub place-of-spec : {M : Type 1} → statement M

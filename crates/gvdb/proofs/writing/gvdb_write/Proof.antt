@@ -1,6 +1,7 @@
 -- `gvdb::writing::gvdb_write` meets its contract: the write's answer as numbers, and its buffer.
 use mathlib.Core.Path.{sym, ap, _∙_}
-use Rattle.gvdb.specs.Writing.{writtenAnswer}
+use Rattle.write.specs.Write.{writtenNumber}
+use Rattle.gvdb.specs.Writing.{writtenImage, writtenAnswer}
 use borrow.Author.Needs.{needs}
 use Rattle.gvdb.proofs.writing.gvdb_write.Statement.{statement}
 use Rattle.gvdb.proofs.writing.gvdb_write.Tie as tie
@@ -24,7 +25,7 @@ same-length-2 : tie.Need-same-length-2
 same-length-2 c = search needs
 
 returns : tie.Need-returns
-unfolding writtenAnswer
+unfolding writtenAnswer writtenNumber writtenImage
 returns c = let w = c .before .before .before .before .before .before .before .write .ensures in (ap writtenAnswer (sym (c .before .start .given .1) ∙ w .1 .0), (w .0, w .1 .1))
 
 same-length-3 : tie.Need-same-length-3
@@ -34,7 +35,7 @@ same-length-4 : tie.Need-same-length-4
 same-length-4 c = search needs
 
 returns-2 : tie.Need-returns-2
-unfolding writtenAnswer
+unfolding writtenAnswer writtenNumber writtenImage
 returns-2 c = let w = c .before .before .before .before .before .before .before .before .write .ensures in (rw (c .number-of .ensures) (ap writtenAnswer (sym (c .before .before .why .given .1) ∙ w .1 .0)), (w .0, w .1 .1))
 
 pub gvdb-write-spec : {M : Type 1} → statement M

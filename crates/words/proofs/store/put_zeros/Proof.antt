@@ -5,7 +5,7 @@ use native.Mathlib.Omega.{arith}
 use borrow.Author.Needs.{needs}
 use lib.ListN.{length, take, length-set}
 use Rattle.words.specs.Store.{putAt, zeros}
-use Rattle.words.proofs.StoreLaws.{copy-start, copy-end, zero-turn, length-zeros}
+use Rattle.words.proofs.StoreLaws.{copy-start, fill-turn, fill-end}
 use Rattle.words.proofs.store.put_zeros.Statement.{statement}
 use Rattle.words.proofs.store.put_zeros.Tie as tie
 
@@ -38,7 +38,7 @@ loop-again c =
     let args = at .before .args in (
       omega arith,
       simp length-set (omega arith),
-      rw (at .loop .inv .2) (zero-turn (args .out .now) (args .at) (args .size) (at .loop .i) (omega arith)),
+      rw (at .loop .inv .2) (fill-turn (args .out .now) (args .at) (args .size) 0 (at .loop .i) (omega arith)),
     )
 
 same-length : tie.Need-same-length Inv-loop μ-loop
@@ -47,7 +47,7 @@ same-length c = search needs
 returns : tie.Need-returns Inv-loop μ-loop
 returns c =
     let args = c .before .before .args in
-    c .before .loop .inv .2 ∙ copy-end (args .out .now) (args .at) (zeros (args .size)) (c .before .loop .i) (omega (arith, length-zeros (args .size)))
+    c .before .loop .inv .2 ∙ fill-end (args .out .now) (args .at) (args .size) 0 (c .before .loop .i) (omega arith)
 
 pub put-zeros-spec : {M : Type 1} → statement M
 put-zeros-spec =

@@ -26,16 +26,19 @@ mul-bucket c = search needs
 shared-slice-read-bucket : tie.Need-shared-slice-read-bucket
 shared-slice-read-bucket c = search needs
 
-put-four-requires : tie.Need-put-four-requires
-put-four-requires c κs = search needs
+slice-aggregate-put-words : tie.Need-slice-aggregate-put-words
+slice-aggregate-put-words c = search needs
+
+put-words-requires : tie.Need-put-words-requires
+put-words-requires c κs = search needs
 
 same-length : tie.Need-same-length
 same-length c = search needs
 
 returns : tie.Need-returns
 returns c =
-    let a = c .before .before .before .before .before .before .before .before .before .before .before .before .before .args in
-    c .before .before .put-four .ensures ∙ back-made (a .words .now) (a .roster .now) (a .numbered .now) (a .i) (a .at) (a .firsts .now) _ _ _ _ (c .before .before .before .before .before .before .before .before .item-word .ensures) (c .before .before .before .before .before .before .before .start-of .ensures) (c .before .before .before .before .before .before .size-of .ensures) (c .before .before .before .before .before .slot-of .ensures .0)
+    let a = c .before .before .before .before .before .before .before .before .before .before .before .before .before .before .args in
+    c .before .before .put-words .ensures ∙ back-made (a .words .now) (a .roster .now) (a .numbered .now) (a .i) (a .at) (a .firsts .now) _ _ _ _ (c .before .before .before .before .before .before .before .before .before .item-word .ensures) (c .before .before .before .before .before .before .before .before .start-of .ensures) (c .before .before .before .before .before .before .before .size-of .ensures) (c .before .before .before .before .before .before .slot-of .ensures .0)
 
 pub put-back-spec : {M : Type 1} → statement M
 put-back-spec =
@@ -48,6 +51,7 @@ put-back-spec =
     add-bucket
     mul-bucket
     shared-slice-read-bucket
-    put-four-requires
+    slice-aggregate-put-words
+    put-words-requires
     same-length
     returns)

@@ -26,16 +26,19 @@ item-word-requires-3 c κs = search needs
 sub-size : tie.Need-sub-size
 sub-size c = search needs
 
-put-four-requires : tie.Need-put-four-requires
-put-four-requires c κs = search needs
+slice-aggregate-put-words : tie.Need-slice-aggregate-put-words
+slice-aggregate-put-words c = search needs
+
+put-words-requires : tie.Need-put-words-requires
+put-words-requires c κs = search needs
 
 same-length : tie.Need-same-length
 same-length c = search needs
 
 returns : tie.Need-returns
 returns c =
-    let a = c .before .before .before .before .before .before .before .before .before .before .before .before .args in
-    c .before .before .put-four .ensures ∙ front-made (a .words .now) (a .roster .now) (a .numbered .now) (a .i) (a .at) _ _ _ _ _ (c .before .before .before .before .before .before .before .before .item-word .ensures) (c .before .before .before .before .before .before .before .parent-word .ensures) (c .before .before .before .before .before .before .skip-of .ensures) (c .before .before .before .before .before .item-word2 .ensures) (c .before .before .before .before .item-word3 .ensures)
+    let a = c .before .before .before .before .before .before .before .before .before .before .before .before .before .args in
+    c .before .before .put-words .ensures ∙ front-made (a .words .now) (a .roster .now) (a .numbered .now) (a .i) (a .at) _ _ _ _ _ (c .before .before .before .before .before .before .before .before .before .item-word .ensures) (c .before .before .before .before .before .before .before .before .parent-word .ensures) (c .before .before .before .before .before .before .before .skip-of .ensures) (c .before .before .before .before .before .before .item-word2 .ensures) (c .before .before .before .before .before .item-word3 .ensures)
 
 pub put-front-spec : {M : Type 1} → statement M
 put-front-spec =
@@ -48,6 +51,7 @@ put-front-spec =
     add-start
     item-word-requires-3
     sub-size
-    put-four-requires
+    slice-aggregate-put-words
+    put-words-requires
     same-length
     returns)

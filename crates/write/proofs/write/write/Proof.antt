@@ -1,12 +1,13 @@
 -- `write::write::write` meets its contract, answer by answer, in the document's order.
-use Rattle.write.specs.Write.{freeStanding}
+use Rattle.build_tables.specs.Table.{freeStanding}
 use mathlib.Core.Path.{refl, ap, _∙_}
 use Prim.Native.Nat.{_<_}
 use native.Mathlib.Omega.{arith}
 use Rattle.build_memory.specs.Memory.{tableTotal}
 use Rattle.write.proofs.StateLaws.{fully-valid}
 use Rattle.write.proofs.SlotLaws.{turned-on, turned-off}
-use Rattle.write.proofs.AnswerLaws.{free-below, write-broken, write-unknown, index-and-write, image-after}
+use Rattle.write.proofs.AnswerLaws.{write-broken, write-unknown, index-and-write, image-after}
+use Rattle.build_tables.proofs.TableLaws.{free-standing-facts}
 use borrow.Author.Needs.{needs}
 use Rattle.write.proofs.write.write.Statement.{statement}
 use Rattle.write.proofs.write.write.Tie as tie
@@ -27,7 +28,7 @@ word-size-requires : tie.Need-word-size-requires
 word-size-requires c κs = search needs
 
 is-free-standing-requires : tie.Need-is-free-standing-requires
-is-free-standing-requires c κs = let s = fully-valid _ _ (turned-on _ _ (c .before .before .before .judge-fully .ensures) (c .before .before .if1 .left)) .valid in (s .long, s .tables)
+is-free-standing-requires c κs = fully-valid _ _ (turned-on _ _ (c .before .before .before .judge-fully .ensures) (c .before .before .if1 .left)) .valid
 
 same-length-2 : tie.Need-same-length-2
 same-length-2 c = search needs
@@ -43,7 +44,7 @@ index-and-write-requires c κs =
     let a = c .before .before .before .before .before .before .before .before .before .before .before .before .args in
     let ok = turned-on _ _ (c .before .before .before .before .before .before .before .judge-fully .ensures) (c .before .before .before .before .before .before .if1 .left) in
     let s = fully-valid _ _ ok .valid in
-    let low : c .before .before .before .before .before .word-size .result < tableTotal (a .words .now) = free-below (a .words .now) (c .before .before .before .before .before .word-size .result) (turned-on _ _ (c .before .before .before .is-free-standing .ensures) (c .before .before .if2 .left)) in
+    let low : c .before .before .before .before .before .word-size .result < tableTotal (a .words .now) = free-standing-facts (a .words .now) (c .before .before .before .before .before .word-size .result) (turned-on _ _ (c .before .before .before .is-free-standing .ensures) (c .before .before .if2 .left)) .0 in
     (ok, omega (arith, s .tables))
 
 same-length-3 : tie.Need-same-length-3

@@ -3,7 +3,8 @@ use mathlib.Core.Path.{_≡_, sym, _∙_}
 use Prim.Native.Nat.{_+_}
 use native.Mathlib.Omega.{arith}
 use borrow.Author.Needs.{needs}
-use Rattle.write_bytes.specs.Numbered.{kindValue, slotWord}
+use Rattle.layout.specs.Kind.{valueKind}
+use Rattle.write_bytes.specs.Numbered.{slotWord}
 use Rattle.write_bytes.proofs.SlotLaws.{cover-value, cover-container}
 use Rattle.write_bytes.proofs.PutLaws.{bytes-laid, children-laid}
 use Rattle.write_bytes.proofs.put.lay_plain.Statement.{statement}
@@ -39,7 +40,7 @@ lay-children-requires : tie.Need-lay-children-requires
 lay-children-requires c κs =
     let s = c .before .before .before .before .before .before .before .before in
     let fits = s .pre .0 in
-    let other : slotWord (s .args .numbered .now) (s .args .slot) 4 ≡ kindValue → ⊥ = λ e. c .before .if1 .left (c .before .before .before .before .slot-word .ensures ∙ e) in
+    let other : slotWord (s .args .numbered .now) (s .args .slot) 4 ≡ valueKind → ⊥ = λ e. c .before .if1 .left (c .before .before .before .before .slot-word .ensures ∙ e) in
     let room = fits .slots (s .args .slot) (s .pre .1 .0) .children other (s .pre .1 .1 .0) in (
       (fits .long, omega (arith, room, c .before .before .before .slot-word2 .ensures, c .before .before .slot-word3 .ensures)),
       (

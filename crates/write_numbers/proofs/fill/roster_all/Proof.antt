@@ -20,29 +20,29 @@ slice-aggregate-fill-4 c = search needs
 fill-requires : tie.Need-fill-requires
 fill-requires c κs = let s = c .before .before .before .before .before .before .before .before in ((whole-judged (s .args .words .now) (s .args .arena .now) (s .pre .0), refl), record { of-slots = refl; of-indices = refl; of-buckets = refl })
 
-slice-aggregate-copy-first : tie.Need-slice-aggregate-copy-first
-slice-aggregate-copy-first c = search needs
+slice-aggregate-put-words : tie.Need-slice-aggregate-put-words
+slice-aggregate-put-words c = search needs
 
-copy-first-requires : tie.Need-copy-first-requires
-copy-first-requires c κs = search needs
+put-words-requires : tie.Need-put-words-requires
+put-words-requires c κs = search needs
 
-slice-aggregate-copy-first-2 : tie.Need-slice-aggregate-copy-first-2
-slice-aggregate-copy-first-2 c = search needs
+slice-aggregate-put-words-2 : tie.Need-slice-aggregate-put-words-2
+slice-aggregate-put-words-2 c = search needs
 
-copy-first-requires-2 : tie.Need-copy-first-requires-2
-copy-first-requires-2 c κs = search needs
+put-words-requires-2 : tie.Need-put-words-requires-2
+put-words-requires-2 c κs = search needs
 
-slice-aggregate-copy-first-3 : tie.Need-slice-aggregate-copy-first-3
-slice-aggregate-copy-first-3 c = search needs
+slice-aggregate-put-words-3 : tie.Need-slice-aggregate-put-words-3
+slice-aggregate-put-words-3 c = search needs
 
-copy-first-requires-3 : tie.Need-copy-first-requires-3
-copy-first-requires-3 c κs = search needs
+put-words-requires-3 : tie.Need-put-words-requires-3
+put-words-requires-3 c κs = search needs
 
-slice-aggregate-copy-first-4 : tie.Need-slice-aggregate-copy-first-4
-slice-aggregate-copy-first-4 c = search needs
+slice-aggregate-put-words-4 : tie.Need-slice-aggregate-put-words-4
+slice-aggregate-put-words-4 c = search needs
 
-copy-first-requires-4 : tie.Need-copy-first-requires-4
-copy-first-requires-4 c κs = search needs
+put-words-requires-4 : tie.Need-put-words-requires-4
+put-words-requires-4 c κs = search needs
 
 same-length : tie.Need-same-length
 same-length c = search needs
@@ -56,9 +56,9 @@ returns c =
     let f = c .before .before .before .before .before .before .before .before .before .before .before .before .before .before .before .before .before .before .before .before .before .before .before .before .before .before .fill in (
       f .ensures .0,
       rostered (f .last .1 .1 .0) (f .last .1 .1 .1 .0) (f .last .1 .1 .1 .1 .0) (f .last .1 .1 .1 .1 .1 .0) (s .args .roster .now)
-          (c .before .before .before .before .before .before .before .before .before .before .before .before .before .before .before .before .before .copy-first .last .1 .1 .0) (c .before .before .before .before .before .before .before .before .before .before .before .before .copy-first2 .last .1 .1 .0) (c .before .before .before .before .before .before .before .copy-first3 .last .1 .1 .0) (c .before .before .copy-first4 .last .1 .1 .0)
+          (c .before .before .before .before .before .before .before .before .before .before .before .before .before .before .before .before .before .put-words .last .0) (c .before .before .before .before .before .before .before .before .before .before .before .before .put-words2 .last .0) (c .before .before .before .before .before .before .before .put-words3 .last .0) (c .before .before .put-words4 .last .0)
           (s .pre .1) (f .kept .1 .1 .0) (record { of-slots = f .kept .1 .1 .1 .0; of-indices = f .kept .1 .1 .1 .1 .0; of-buckets = f .kept .1 .1 .1 .1 .1 .0 })
-          (c .before .before .before .before .before .before .before .before .before .before .before .before .before .before .before .before .before .copy-first .ensures) (c .before .before .before .before .before .before .before .before .before .before .before .before .copy-first2 .ensures) (c .before .before .before .before .before .before .before .copy-first3 .ensures) (c .before .before .copy-first4 .ensures)
+          (c .before .before .before .before .before .before .before .before .before .before .before .before .before .before .before .before .before .put-words .ensures) (c .before .before .before .before .before .before .before .before .before .before .before .before .put-words2 .ensures) (c .before .before .before .before .before .before .before .put-words3 .ensures) (c .before .before .put-words4 .ensures)
           (s .args .words .now) (s .args .arena .now) (s .pre .0) (f .ensures .1),
     )
 
@@ -71,14 +71,14 @@ roster-all-spec =
     slice-aggregate-fill-3
     slice-aggregate-fill-4
     fill-requires
-    slice-aggregate-copy-first
-    copy-first-requires
-    slice-aggregate-copy-first-2
-    copy-first-requires-2
-    slice-aggregate-copy-first-3
-    copy-first-requires-3
-    slice-aggregate-copy-first-4
-    copy-first-requires-4
+    slice-aggregate-put-words
+    put-words-requires
+    slice-aggregate-put-words-2
+    put-words-requires-2
+    slice-aggregate-put-words-3
+    put-words-requires-3
+    slice-aggregate-put-words-4
+    put-words-requires-4
     same-length
     same-length-2
     returns)

@@ -9,7 +9,8 @@ use Rattle.words.specs.Store.{putAt}
 use Rattle.words.proofs.StoreLaws.{put-none, put-snoc}
 use Rattle.model.specs.Table.{times}
 use Rattle.image.proofs.TimesLaws.{times-here, times-cons}
-use Rattle.write_order.specs.Chain.{mark, Chain, cleared, Drained}
+use Rattle.layout.specs.Item.{noItem}
+use Rattle.write_order.specs.Chain.{Chain, cleared, Drained}
 use Rattle.write_order.proofs.ChainLaws.{chain-set, chain-unique, cleared-nil, cleared-snoc}
 use Rattle.write_order.proofs.buckets.drain_chain.Statement.{statement}
 use Rattle.write_order.proofs.buckets.drain_chain.Tie as tie
@@ -31,12 +32,12 @@ record Draining (links₀ order₀ : List ℕ) (head at : ℕ) (links order : Li
 record Turn (links₀ order₀ : List ℕ) (head at : ℕ) (links order : List ℕ) (p end : ℕ) : Type 0 where
   linked : p < length links
   room : end < length order
-  next : Draining links₀ order₀ head at (set links p mark) (set order end p) (getD links p 0) (end + 1)
+  next : Draining links₀ order₀ head at (set links p noItem) (set order end p) (getD links p 0) (end + 1)
 
 module _ {links₀ order₀ : List ℕ} {head at : ℕ} {links order : List ℕ} {p end : ℕ} where
   turn-at : (done rest : List ℕ) → Chain links₀ head (done ++ rest) → Chain links p rest → ((x : ℕ) → times x rest ≤ 1)
       → end ≡ at + length done → order ≡ putAt order₀ at done → links ≡ cleared links₀ done → end + length rest ≤ length order₀ → length links ≡ length links₀
-      → length order ≡ length order₀ → (p ≡ mark → ⊥) → Turn links₀ order₀ head at links order p end
+      → length order ≡ length order₀ → (p ≡ noItem → ⊥) → Turn links₀ order₀ head at links order p end
   unfolding Chain
   turn-at done [] w c d e o k f ll lo n = absurd (n c)
   turn-at done (x ∷ rest) w c d e o k f ll lo n =
@@ -47,22 +48,22 @@ module _ {links₀ order₀ : List ℕ} {head at : ℕ} {links order : List ℕ}
           done = done ++ (x ∷ []);
           rest = rest;
           whole = rw append-assoc w;
-          chained = chain-set links x mark (getD links x 0) rest (omega (arith, d x, times-here x x rest refl)) (c .3);
+          chained = chain-set links x noItem (getD links x 0) rest (omega (arith, d x, times-here x x rest refl)) (c .3);
           once = λ y. omega (arith, d y, times-cons y x rest);
           end-is = simp length-append (omega arith);
           order-is = rw (put-snoc, ← o, ← e);
           links-is = rw (cleared-snoc, ← k);
           fits = omega arith;
-          links-long = length-set links x mark ∙ ll;
+          links-long = length-set links x noItem ∙ ll;
           order-long = length-set order end x ∙ lo;
         });
       }
 
-  turn : Draining links₀ order₀ head at links order p end → (p ≡ mark → ⊥) → Turn links₀ order₀ head at links order p end
+  turn : Draining links₀ order₀ head at links order p end → (p ≡ noItem → ⊥) → Turn links₀ order₀ head at links order p end
   turn s n = turn-at (s .done) (s .rest) (s .whole) (s .chained) (s .once) (s .end-is) (s .order-is) (s .links-is) (s .fits) (s .links-long) (s .order-long) n
 
   -- at the empty mark nothing is left
-  drained : Draining links₀ order₀ head at links order p end → p ≡ mark → Drained links₀ links order₀ order head at end
+  drained : Draining links₀ order₀ head at links order p end → p ≡ noItem → Drained links₀ links order₀ order head at end
   unfolding Drained Chain
   drained s e l c =
       let none : s .rest ≡ [] = chain-unique links p (s .rest) [] (s .chained) e in

@@ -9,9 +9,10 @@ use lib.ListN.{length, getD, set, length-set, length-append}
 use Rattle.words.specs.Store.{putAt}
 use Rattle.words.proofs.StoreLaws.{put-none, put-append, put-snoc, length-put}
 use Rattle.image.specs.Index.{bucketOf, run, runsBelow, byBucket, bucketStart}
-use Rattle.image.proofs.TimesLaws.{eq-or-ne, lt-or-ge}
+use Rattle.words.proofs.ChoiceLaws.{eq-or-ne, lt-or-ge}
 use Rattle.image.proofs.RunLaws.{run-above, run-other, run-once, runs-more, start-fits, bucket-within}
-use Rattle.write_order.specs.Chain.{mark, startsBelow, starts, Empty, EmptyFrom, Chain, Chained, cleared, Ended, DrainedOf, Drained}
+use Rattle.layout.specs.Item.{noItem}
+use Rattle.write_order.specs.Chain.{startsBelow, starts, Empty, EmptyFrom, Chain, Chained, cleared, Ended, DrainedOf, Drained}
 use Rattle.write_order.proofs.ChainLaws.{length-cleared, cleared-other, chain-other, run-cleared, starts-more, length-starts-below}
 use Rattle.write_order.proofs.buckets.index_all.Statement.{statement}
 use Rattle.write_order.proofs.buckets.index_all.Tie as tie
@@ -22,7 +23,7 @@ record Buckets (hashes heads links₀ order₀ firsts₀ links order firsts : Li
   order-is : order ≡ putAt order₀ 0 (runsBelow hashes b)
   firsts-is : firsts ≡ putAt firsts₀ 0 (startsBelow hashes b)
   later : (d : ℕ) → b ≤ d → d < length hashes → Chain links (getD heads d 0) (run hashes d (length hashes))
-  clear : (i : ℕ) → i < length links → (i < length hashes → bucketOf hashes i < b) → getD links i 0 ≡ mark
+  clear : (i : ℕ) → i < length links → (i < length hashes → bucketOf hashes i < b) → getD links i 0 ≡ noItem
   links-long : length links ≡ length links₀
   order-long : length order ≡ length order₀
   firsts-long : length firsts ≡ length firsts₀
@@ -59,7 +60,7 @@ module _ {hashes heads links₀ order₀ firsts₀ links order firsts : List ℕ
 
   -- what holds the empty mark once this bucket is cleared too
   cleared-next : length hashes ≤ length links₀ → (i : ℕ) → i < length links → (i < length hashes → bucketOf hashes i < b + 1)
-      → getD (cleared links (run hashes b (length hashes))) i 0 ≡ mark
+      → getD (cleared links (run hashes b (length hashes))) i 0 ≡ noItem
   cleared-next room i l h =
       ⊎-elim
       (λ inside. ⊎-elim

@@ -4,7 +4,7 @@ use Prim.Native.Nat.{_-_, _≤_}
 use native.Mathlib.Omega.{arith}
 use lib.ListN.{length, take, length-set}
 use Rattle.words.specs.Store.{putAt}
-use Rattle.write_order.specs.Key.{hashAt}
+use Rattle.build_memory.specs.Memory.{itemHash}
 use Rattle.write_order.specs.Items.{hashesIn}
 use Rattle.write_order.proofs.KeyLaws.{known-at}
 use Rattle.write_order.proofs.ItemLaws.{made-start, made-turn, made-end}
@@ -20,16 +20,19 @@ abbrev μ-loop : tie.MeasureT-loop
 
 loop-holds : tie.Need-loop-holds Inv-loop μ-loop
 unfolding hashesIn
-loop-holds c = let a = c .before .before .before .args in (omega arith, refl, made-start (hashAt (a .words .now)) (a .run .now) (a .hashes .now))
+loop-holds c = let a = c .before .before .before .args in (omega arith, refl, made-start (itemHash (a .words .now)) (a .run .now) (a .hashes .now))
 
-mul-hash-of : tie.Need-mul-hash-of Inv-loop μ-loop
-mul-hash-of c = omega arith
+mul-item-word : tie.Need-mul-item-word Inv-loop μ-loop
+mul-item-word c = omega arith
 
-shared-slice-read-hash-of : tie.Need-shared-slice-read-hash-of Inv-loop μ-loop
-shared-slice-read-hash-of c = omega arith
+shared-slice-read-item-word : tie.Need-shared-slice-read-item-word Inv-loop μ-loop
+shared-slice-read-item-word c = omega arith
 
-hash-of-requires : tie.Need-hash-of-requires Inv-loop μ-loop
-hash-of-requires c κs = let s = c .before .before .before .before .before .before in known-at (s .args .words .now) (s .args .run .now) (s .pre .0) (c .before .before .loop .k) (omega (arith, c .before .loop-test .taken))
+item-word-requires : tie.Need-item-word-requires Inv-loop μ-loop
+item-word-requires c κs =
+    let s = c .before .before .before .before .before .before in
+    let known = known-at (s .args .words .now) (s .args .run .now) (s .pre .0) (c .before .before .loop .k) (omega (arith, c .before .loop-test .taken)) in
+    (known .0, known .1, omega arith)
 
 mul-hashes : tie.Need-mul-hashes Inv-loop μ-loop
 mul-hashes c = omega (arith, c .before .before .before .before .before .before .before .pre, c .before .before .before .before .before .before .before .good, c .before .before .before .loop .inv, c .before .before .loop-test .taken)
@@ -50,7 +53,7 @@ loop-again c =
     let l = c .before .before .before .loop in (
       omega (arith, c .before .before .loop-test .taken),
       simp length-set (l .inv .1),
-      rw (l .inv .2) (made-turn (hashAt (a .words .now)) (a .run .now) (a .hashes .now) (l .k) (c .before .before .loop-test .taken) (c .hash-of .ensures)),
+      rw (l .inv .2) (made-turn (itemHash (a .words .now)) (a .run .now) (a .hashes .now) (l .k) (c .before .before .loop-test .taken) (c .item-word .ensures)),
     )
 
 same-length : tie.Need-same-length Inv-loop μ-loop
@@ -60,7 +63,7 @@ returns : tie.Need-returns Inv-loop μ-loop
 unfolding hashesIn
 returns c =
     let a = c .before .before .before .before .before .args in
-    c .before .loop .inv .2 ∙ made-end (hashAt (a .words .now)) (a .run .now) (a .hashes .now) (c .before .loop .k) (omega (arith, c .loop-test .left))
+    c .before .loop .inv .2 ∙ made-end (itemHash (a .words .now)) (a .run .now) (a .hashes .now) (c .before .loop .k) (omega (arith, c .loop-test .left))
 
 pub hash-all-spec : {M : Type 1} → statement M
 hash-all-spec =
@@ -69,9 +72,9 @@ hash-all-spec =
     Inv-loop
     μ-loop
     loop-holds
-    mul-hash-of
-    shared-slice-read-hash-of
-    hash-of-requires
+    mul-item-word
+    shared-slice-read-item-word
+    item-word-requires
     mul-hashes
     slice-write-hashes
     add-k

@@ -9,7 +9,7 @@ use lib.ListN.{length, take, drop, getD, set, length-set, length-append, length-
 use lib.Seq.{length-take-le, getD-take}
 use Rattle.words.specs.Store.{putAt}
 use Rattle.words.proofs.StoreLaws.{put-none, put-snoc}
-use Rattle.write_order.specs.Key.{keyAt}
+use Rattle.build_memory.specs.Memory.{keyOf}
 use Rattle.write_order.specs.Merge.{rightFirst, merged}
 use Rattle.write_order.proofs.MergeLaws.{right-some, left-some, step-right, step-left, merged-none}
 use Rattle.write_order.proofs.sort.merge.Statement.{statement}
@@ -76,18 +76,18 @@ module _ {key : ℕ → List ℕ} {run : List ℕ} {mid : ℕ} {out₀ out : Lis
       s .out-is ∙ ap (putAt out₀ 0) (sym (s .whole ∙ rw none (append-nil (s .done))))
 
 abbrev Inv-loop : tie.InvT-loop
-Inv-loop words arena run mid out₀ i₀ j₀ k₀ out i j k = Merging (keyAt words arena) run mid out₀ out i j k
+Inv-loop words arena run mid out₀ i₀ j₀ k₀ out i j k = Merging (keyOf words arena) run mid out₀ out i j k
 
 abbrev μ-loop : tie.MeasureT-loop
 μ-loop words arena run mid out₀ i₀ j₀ k₀ out i j k = length run - k
 
 -- where the next item is the right run's, and where it is the left run's
 right-side : (c : tie.Then1 Inv-loop μ-loop) → let s = c .before .before .before .before .before .before .before .before in let l = c .before .before .before .loop in
-    rightFirst (keyAt (s .args .words .now) (s .args .arena .now)) (drop (l .i) (take (s .args .mid) (s .args .run .now))) (drop (l .j) (s .args .run .now)) ≡ true
+    rightFirst (keyOf (s .args .words .now) (s .args .arena .now)) (drop (l .i) (take (s .args .mid) (s .args .run .now))) (drop (l .j) (s .args .run .now)) ≡ true
 right-side c = sym (c .before .right-first .ensures) ∙ c .if1 .taken
 
 left-side : (c : tie.Else1 Inv-loop μ-loop) → let s = c .before .before .before .before .before .before .before .before in let l = c .before .before .before .loop in
-    rightFirst (keyAt (s .args .words .now) (s .args .arena .now)) (drop (l .i) (take (s .args .mid) (s .args .run .now))) (drop (l .j) (s .args .run .now)) ≡ false
+    rightFirst (keyOf (s .args .words .now) (s .args .arena .now)) (drop (l .i) (take (s .args .mid) (s .args .run .now))) (drop (l .j) (s .args .run .now)) ≡ false
 left-side c = sym (c .before .right-first .ensures) ∙ c .if1 .left
 
 -- the indices that a turn reads and writes

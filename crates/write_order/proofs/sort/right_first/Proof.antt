@@ -4,7 +4,7 @@ use Prim.Native.Nat.{_<_}
 use native.Mathlib.Omega.{arith}
 use lib.ListN.{length, take}
 use lib.Seq.{length-take-le, getD-take}
-use Rattle.write_order.specs.Key.{keyAt}
+use Rattle.build_memory.specs.Memory.{keyOf}
 use Rattle.write_order.proofs.KeyLaws.{known-at}
 use Rattle.write_order.proofs.MergeLaws.{right-ended, left-ended, neither-ended}
 use borrow.Author.Needs.{needs}
@@ -16,10 +16,10 @@ left-long : (s : tie.Start) → length (take (s .args .mid) (s .args .run .now))
 left-long s = length-take-le (s .args .mid) (s .args .run .now) (s .pre .1 .0)
 
 returns : tie.Need-returns
-returns c = let s = c .before .before .before .before in sym (right-ended (keyAt (s .args .words .now) (s .args .arena .now)) (take (s .args .mid) (s .args .run .now)) (s .args .run .now) (s .args .i) (s .args .j) (omega (arith, c .if1 .taken)))
+returns c = let s = c .before .before .before .before in sym (right-ended (keyOf (s .args .words .now) (s .args .arena .now)) (take (s .args .mid) (s .args .run .now)) (s .args .run .now) (s .args .i) (s .args .j) (omega (arith, c .if1 .taken)))
 
 returns-2 : tie.Need-returns-2
-returns-2 c = let s = c .before .before .before .before .before in sym (left-ended (keyAt (s .args .words .now) (s .args .arena .now)) (take (s .args .mid) (s .args .run .now)) (s .args .run .now) (s .args .i) (s .args .j) (omega (arith, left-long s, c .if2 .taken)) (omega (arith, s .pre, c .before .if1 .left)))
+returns-2 c = let s = c .before .before .before .before .before in sym (left-ended (keyOf (s .args .words .now) (s .args .arena .now)) (take (s .args .mid) (s .args .run .now)) (s .args .run .now) (s .args .i) (s .args .j) (omega (arith, left-long s, c .if2 .taken)) (omega (arith, s .pre, c .before .if1 .left)))
 
 mul-comes-before : tie.Need-mul-comes-before
 mul-comes-before c = search needs
@@ -36,14 +36,16 @@ shared-slice-read-comes-before-2 c = search needs
 comes-before-requires : tie.Need-comes-before-requires
 comes-before-requires c κs =
     let s = c .before .before .before .before .before .before .before in
-    (known-at (s .args .words .now) (s .args .run .now) (s .pre .0) (s .args .j) (omega (arith, s .pre .1, c .before .before .before .if1 .left)), known-at (s .args .words .now) (s .args .run .now) (s .pre .0) (s .args .i) (omega (arith, s .pre .1, c .before .before .if2 .left)))
+    let right = known-at (s .args .words .now) (s .args .run .now) (s .pre .0) (s .args .j) (omega (arith, s .pre .1, c .before .before .before .if1 .left)) in
+    let left = known-at (s .args .words .now) (s .args .run .now) (s .pre .0) (s .args .i) (omega (arith, s .pre .1, c .before .before .if2 .left)) in
+    (right .0, right .1, left .1)
 
 returns-3 : tie.Need-returns-3
 returns-3 c =
     let s = c .before .before .before .before .before .before .before .before in
     let i-in : s .args .i < s .args .mid = omega (arith, s .pre .1, c .before .before .before .if2 .left) in
     c .comes-before .ensures
-    ∙ sym (neither-ended (keyAt (s .args .words .now) (s .args .arena .now)) (take (s .args .mid) (s .args .run .now)) (s .args .run .now) (s .args .i) (s .args .j) (omega (arith, left-long s)) (omega (arith, s .pre .1, c .before .before .before .before .if1 .left))
+    ∙ sym (neither-ended (keyOf (s .args .words .now) (s .args .arena .now)) (take (s .args .mid) (s .args .run .now)) (s .args .run .now) (s .args .i) (s .args .j) (omega (arith, left-long s)) (omega (arith, s .pre .1, c .before .before .before .before .if1 .left))
     ∙ rw (getD-take (s .args .mid) (s .args .run .now) (s .args .i) 0))
 
 pub right-first-spec : {M : Type 1} → statement M

@@ -1,0 +1,183 @@
+-- Demand 3: every table in every image that is laid passes; the check passes exactly the sound tables, and names the first item and rule broken.
+use Prim.Native.Nat.{ℕ, zero, suc, _<_}
+use mathlib.Core.Path.{_≡_, refl, sym, ap, _∙_, subst}
+use mathlib.Core.Bool.{Bool, true, false}
+use mathlib.Core.List.{List}
+use native.Mathlib.Omega.{arith}
+use lib.ListN.{length, take}
+use Rattle.layout.specs.Limits.{deepest}
+use Rattle.layout.specs.Sizes.{headerSize}
+use Rattle.words.specs.Choice.{pick}
+use Rattle.words.specs.Hash.{plain}
+use Rattle.words.proofs.ChoiceLaws.{pick-with}
+use Rattle.text.specs.Utf8.{isUtf8}
+use Rattle.layout.specs.declared.refusal.Refusal.{Refusal}
+use Rattle.layout.specs.declared.refusal.Refusal.the-variants.{CheckBroken}
+use Rattle.layout.specs.declared.pointer.Pointed.{Pointed}
+use Rattle.layout.specs.declared.table.Opened.{Opened}
+use Rattle.layout.specs.Answer.{openedNumber}
+use Rattle.layout.specs.Refusal.{number}
+use Rattle.layout.specs.Pointer.{openPointer}
+use Rattle.layout.specs.Table.{whereInside, tableOf, tableIn, openTable}
+use Rattle.read.specs.declared.lookup.Looked.{Looked}
+use Rattle.read.specs.Lookup.{lookupTable}
+use Rattle.read.specs.Answer.{lookedNumber}
+use Rattle.check_table.specs.declared.check.Checked.{Checked}
+use Rattle.check_table.specs.Rules.{checkTable}
+use Rattle.check_table.specs.Answer.{checkedNumber, checkedRule, checkedItem}
+use Rattle.check_table.specs.Broken.{BrokenAt}
+use Rattle.check_table.proofs.SoundLaws as sound
+use Rattle.check_table.proofs.BrokenLaws as broken
+use Rattle.model.specs.Table.{Content}
+use Rattle.build_memory.specs.Meaning.{meaning}
+use Rattle.laid.specs.Back.{endOf}
+use Rattle.laid.specs.Told.{TableBack, AllBack}
+use Rattle.laid.specs.Passing as laid
+use Rattle.write_numbers.specs.Roster.{stateOf}
+use Rattle.write.specs.Write.{imageAfter}
+use Rattle.gvdb.specs.declared.reading.GvdbOpened.{GvdbOpened}
+use Rattle.gvdb.specs.declared.reading.GvdbPlace.{GvdbPlace}
+use Rattle.gvdb.specs.declared.checking.GvdbCheck.{GvdbCheck}
+use Rattle.gvdb.specs.Reading.{openedAnswer}
+use Rattle.gvdb.specs.Checking.{checkedAnswer}
+use Rattle.demands.specs.Last.{Held}
+use Rattle.demands.specs.Demand3.{AllPass, EveryImagePasses, PassesExactlyTheSound, NamesTheFirst, OpensFirst}
+use Rattle.demands.proofs.Contracts.{opening-is, checking-is}
+use Rattle.demands.proofs.Told.{refused-some, told-pointer}
+use Rattle.demands.proofs.HeldLaws.{heldIn}
+use Rattle.demands.proofs.Rows.{ItemOf, item-of, no-item}
+use Rattle.demands.proofs.Write.{success, success-back, success-passes}
+use Rattle.demands.proofs.Demands.{image-is}
+
+-- ---- the check's numbers
+
+-- 0 is said of a table that passes alone
+sound-by : (c : Checked) → checkedNumber c ≡ 0 → c ≡ Checked.Sound
+unfolding checkedNumber
+sound-by Checked.Sound e = refl
+sound-by (Checked.Broken rule item) e = absurd (refused-some CheckBroken e)
+sound-by (Checked.Refused why) e = absurd (refused-some why e)
+
+pub passes-exactly-the-sound : PassesExactlyTheSound
+unfolding checkedAnswer checkedNumber
+passes-exactly-the-sound file start end r c =
+    let said = ap (λ (x : GvdbCheck). x .number) (checking-is file start end r c) in
+    let exactly = sound.passes-exactly-the-sound plain file start end in
+    (λ e. exactly .0 (sound-by _ (sym said ∙ e)), λ s. said ∙ ap checkedNumber (exactly .1 s))
+
+-- opening refuses with low numbers
+record Low (o : Opened) : Type 0 where
+  pub low : (why : Refusal) → o ≡ Opened.Refused why → number why < 40
+
+no-low : (x : Refusal) → number x < 40 → Low (Opened.Refused x)
+no-low x l = record { low = λ why e. let z : x ≡ why = cc in subst (λ (w : Refusal). number w < 40) z l }
+
+low-by : (b : Bool) (x y : Opened) → Low x → Low y → Low (pick b x y)
+low-by b x y p q = pick-with Low b x y (λ _. p) (λ _. q)
+
+table-low : (file : List ℕ) (start end : ℕ) → Low (tableIn file start end)
+unfolding tableIn tableOf
+table-low file start end =
+    low-by _ _ _ (no-low _ (omega arith))
+    (low-by _ _ _ (no-low _ (omega arith)) (low-by _ _ _ (no-low _ (omega arith)) (low-by _ _ _ (record { low = λ why e. absurd (let z : _≡_ {A = ℕ} 0 1 = cc in omega arith) }) (no-low _ (omega arith)))))
+
+pointer-low : (size start end : ℕ) (o : Opened) → Low o → Low (whereInside (openPointer size start end 4) o)
+unfolding openPointer
+pointer-low size start end o l =
+    pick-with (λ (p : Pointed). Low (whereInside p o)) _ _ _ (λ _. no-low _ (omega arith))
+    (λ _. pick-with (λ (p : Pointed). Low (whereInside p o)) _ _ _
+    (λ _. pick-with (λ (p : Pointed). Low (whereInside p o)) _ _ _ (λ _. no-low _ (omega arith)) (λ _. l)) (λ _. no-low _ (omega arith)))
+
+open-low : (file : List ℕ) (start end : ℕ) → Low (openTable file start end)
+unfolding openTable
+open-low file start end = low-by _ _ _ (no-low _ (omega arith)) (pointer-low (length file) start end _ (table-low file start end))
+
+pub names-the-first : NamesTheFirst
+unfolding checkedAnswer checkedNumber checkedRule checkedItem
+names-the-first file start end r c e =
+    let is = checking-is file start end r c in
+    by (checkTable plain file start end) refl is (sym (ap (λ (x : GvdbCheck). x .number) is) ∙ e)
+  where
+    by : (a : Checked) → checkTable plain file start end ≡ a → r ≡ checkedAnswer a → checkedNumber a ≡ 40 → BrokenAt plain file start end (r .rule) (r .item)
+    by Checked.Sound said is n = absurd (omega arith)
+    by (Checked.Broken rule item) said is n =
+        subst (λ (x : GvdbCheck). BrokenAt plain file start end (x .rule) (x .item)) (sym is) (broken.names-the-first plain file start end rule item .0 said)
+    by (Checked.Refused why) said is n = absurd (omega (arith, open-low file start end .low why (broken.refused-as-opening plain file start end why .0 said)))
+
+pub opens-first : OpensFirst
+unfolding openedAnswer openedNumber checkedAnswer checkedNumber
+opens-first file start end o r opened checked shut =
+    let is = opening-is file start end o opened in
+    by (openTable file start end) refl is
+  where
+    by : (a : Opened) → openTable file start end ≡ a → o ≡ openedAnswer a → r .number ≡ o .number
+    by (Opened.Table t) said is = absurd (shut (ap (λ (x : GvdbOpened). x .number) is))
+    by (Opened.Refused why) said is =
+        ap (λ (x : GvdbCheck). x .number) (checking-is file start end r checked) ∙ ap checkedNumber (broken.refused-as-opening plain file start end why .1 said)
+        ∙ ap (λ (x : GvdbOpened). x .number) (sym is)
+
+-- ---- every image passes
+
+-- an answer with a pointer has no refusal's number
+placed-none : (l : Looked) (from to n : ℕ) → l ≡ Looked.Pointer from to → lookedNumber l ≡ suc n → ⊥
+unfolding lookedNumber
+placed-none l from to n is e = let z : _≡_ {A = ℕ} 0 (suc n) = sym (ap lookedNumber is) ∙ e in omega arith
+
+same-place : (l : Looked) (a b c d : ℕ) → l ≡ Looked.Pointer a b → l ≡ Looked.Pointer c d → (a ≡ c) × (b ≡ d)
+same-place l a b c d p q = (cc, cc)
+
+module _ (file ws ar : List ℕ) where
+  -- a key that answers a nested table is the key of an item that holds one
+  record Nests (t : ℕ) (key : List ℕ) : Type 0 where
+    pub guest : ℕ
+    pub item : ItemOf ws ar t key (Content.nested guest)
+
+  nests : (t at : ℕ) → TableBack plain file (stateOf ws ar) t at → (key : List ℕ) (from to : ℕ) → lookupTable plain file at (endOf (stateOf ws ar) t at) key ≡ Looked.Pointer from to → Nests t key
+  nests t at back key from to is = by-text (isUtf8 key) refl
+    where
+      by-held : (h : Held) → isUtf8 key ≡ true → heldIn (meaning ws ar .items) t key ≡ h → Nests t key
+      by-held Held.nothing text e = absurd (placed-none _ from to 11 is (back .absent key text (no-item ws ar t key e) .table))
+      by-held (Held.holds (Content.bytes value)) text e =
+          let x = item-of ws ar t key (Content.bytes value) e in
+          absurd (placed-none _ from to 12 is (subst (λ (k : List ℕ). lookedNumber (lookupTable plain file at (endOf (stateOf ws ar) t at) k) ≡ 13) (x .key) (back .no-table (x .item) value (x .has) (x .content))))
+      by-held (Held.holds (Content.nested u)) text e = record { guest = u; item = item-of ws ar t key (Content.nested u) e }
+      by-held (Held.holds Content.container) text e =
+          let x = item-of ws ar t key Content.container e in
+          absurd (placed-none _ from to 12 is (subst (λ (k : List ℕ). lookedNumber (lookupTable plain file at (endOf (stateOf ws ar) t at) k) ≡ 13) (x .key) (back .containers (x .item) (x .has) (x .content) .table)))
+
+      by-text : (b : Bool) → isUtf8 key ≡ b → Nests t key
+      by-text true e = by-held (heldIn (meaning ws ar .items) t key) e refl
+      by-text false e = absurd (placed-none _ from to 7 is (back .not-text key e .table))
+
+  all-pass : (d t at : ℕ) → AllBack plain file (stateOf ws ar) d t at → laid.AllPass plain file (stateOf ws ar) d t at → AllPass file d at (endOf (stateOf ws ar) t at)
+  unfolding AllBack laid.AllPass AllPass checkedAnswer checkedNumber
+  all-pass zero t at back pass = pass
+  all-pass (suc d) t at back pass = (
+    λ r c. ap (λ (x : GvdbCheck). x .number) (checking-is file at (endOf (stateOf ws ar) t at) r c) ∙ ap checkedNumber (pass .0),
+    λ key r g e.
+        let is = told-pointer file at (endOf (stateOf ws ar) t at) key r g e in
+        let n = nests t at (back .0) key (r .start) (r .end) is in
+        let x = n .item in
+        let u = n .guest in
+        let b = back .1 (x .item) u (x .has) (x .content) in
+        let p = pass .1 (x .item) u (x .has) (x .content) in
+        let here : lookupTable plain file at (endOf (stateOf ws ar) t at) (stateOf ws ar t .key (x .item)) ≡ Looked.Pointer (r .start) (r .end) =
+        ap (lookupTable plain file at (endOf (stateOf ws ar) t at)) (x .key) ∙ is in
+        let pb = same-place _ (b .0) (endOf (stateOf ws ar) u (b .0)) (p .0) (endOf (stateOf ws ar) u (p .0)) (b .1) (p .1) in
+        let pp = same-place _ (p .0) (endOf (stateOf ws ar) u (p .0)) (r .start) (r .end) (p .1) here in
+        subst (λ (f : ℕ). AllPass file d f (r .end)) (pp .0)
+        (subst (AllPass file d (p .0)) (pp .1)
+        (all-pass d u (p .0) (subst (AllBack plain file (stateOf ws ar) d u) (pb .0) (b .2)) (p .2))),
+  )
+
+pub every-image-passes : EveryImagePasses
+every-image-passes m t buffer start end size after left d =
+    let (is, laid-is) = image-is m t buffer start end size after left d in
+    let ws = m .words in
+    let ar = m .arena in
+    let s = success ws ar t (length buffer) start end size is in
+    let file = take size (imageAfter ws ar t buffer) in
+    subst (λ (bytes : List ℕ). AllPass (take size bytes) deepest start end) (sym laid-is)
+    (subst (λ (at : ℕ). AllPass file deepest at end) (sym (s .starts))
+    (subst (AllPass file deepest headerSize) (sym (s .ends))
+    (all-pass file ws ar deepest t headerSize (success-back ws ar buffer t start end size is) (success-passes ws ar buffer t start end size is))))

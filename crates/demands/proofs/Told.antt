@@ -1,0 +1,90 @@
+-- What the contracts of the readers tell of an answer that the definitions give.
+use Prim.Native.Nat.{ℕ, zero, suc, _-_, _<_}
+use mathlib.Core.Path.{_≡_, refl, sym, ap, _∙_}
+use mathlib.Core.List.{List}
+use native.Mathlib.Omega.{arith}
+use Rattle.words.specs.Hash.{plain}
+use Rattle.words.specs.Store.{part}
+use Rattle.layout.specs.declared.refusal.Refusal.{Refusal}
+use Rattle.layout.specs.declared.refusal.Refusal.the-variants.{FileTooLong, PointerOutside, Misaligned, TableTooShort, BloomTooLong, BucketsTooLong, ItemsUneven, KeyNotUtf8, FragmentNotUtf8, ParentOutside, ParentsEndless, KeyNotFound, OtherKind, BufferTooShort, PastTheLast, KeyTooLong, NotContainer, TooManyItems, ArenaFull, TableUnknown, TableInItself, NestedTooDeep, TooManyTables, SeparatorOutside, MemoryBroken, EmptyKey, ImageTooLong, CheckBroken}
+use Rattle.layout.specs.Refusal.{number}
+use Rattle.read.specs.declared.lookup.Looked.{Looked}
+use Rattle.read.specs.Lookup.{lookupValue, lookupTable}
+use Rattle.read.specs.Answer.{lookedNumber, lookedPointer}
+use Rattle.laid.specs.Told as laid
+use Rattle.gvdb.specs.declared.reading.GvdbPlace.{GvdbPlace}
+use Rattle.gvdb.specs.Reading.{lookedAnswer}
+use Rattle.demands.specs.Readers.{Getting, GettingTable}
+use Rattle.demands.specs.Demand2.{Both}
+use Rattle.demands.proofs.Contracts.{getting-is, getting-table-is}
+
+-- no refusal has the number 0
+pub refused-some : (why : Refusal) → number why ≡ 0 → ⊥
+refused-some FileTooLong e = omega arith
+refused-some PointerOutside e = omega arith
+refused-some Misaligned e = omega arith
+refused-some TableTooShort e = omega arith
+refused-some BloomTooLong e = omega arith
+refused-some BucketsTooLong e = omega arith
+refused-some ItemsUneven e = omega arith
+refused-some KeyNotUtf8 e = omega arith
+refused-some FragmentNotUtf8 e = omega arith
+refused-some ParentOutside e = omega arith
+refused-some ParentsEndless e = omega arith
+refused-some KeyNotFound e = omega arith
+refused-some OtherKind e = omega arith
+refused-some BufferTooShort e = omega arith
+refused-some PastTheLast e = omega arith
+refused-some KeyTooLong e = omega arith
+refused-some NotContainer e = omega arith
+refused-some TooManyItems e = omega arith
+refused-some ArenaFull e = omega arith
+refused-some TableUnknown e = omega arith
+refused-some TableInItself e = omega arith
+refused-some NestedTooDeep e = omega arith
+refused-some TooManyTables e = omega arith
+refused-some SeparatorOutside e = omega arith
+refused-some MemoryBroken e = omega arith
+refused-some EmptyKey e = omega arith
+refused-some ImageTooLong e = omega arith
+refused-some CheckBroken e = omega arith
+
+-- a lookup's answer with 0 has a pointer
+pointer-of : (l : Looked) → lookedAnswer l .number ≡ 0 → l ≡ Looked.Pointer (lookedAnswer l .start) (lookedAnswer l .end)
+unfolding lookedAnswer lookedNumber lookedPointer
+pointer-of (Looked.Pointer start end) e = refl
+pointer-of (Looked.Refused why) e = absurd (refused-some why e)
+
+module _ (file : List ℕ) (start end : ℕ) (key : List ℕ) where
+  -- a number
+  pub value-told : (n : ℕ) → lookedNumber (lookupValue plain file start end key) ≡ n → (r : GvdbPlace) → Getting file start end key r → r .number ≡ n
+  unfolding lookedAnswer
+  value-told n is r g = ap (λ (x : GvdbPlace). x .number) (getting-is file start end key r g) ∙ is
+
+  pub table-told : (n : ℕ) → lookedNumber (lookupTable plain file start end key) ≡ n → (r : GvdbPlace) → GettingTable file start end key r → r .number ≡ n
+  unfolding lookedAnswer
+  table-told n is r g = ap (λ (x : GvdbPlace). x .number) (getting-table-is file start end key r g) ∙ is
+
+  pub both-told : (n : ℕ) → laid.Both plain file start end key n → Both file start end key n
+  both-told n both = record { value = value-told n (both .value); table = table-told n (both .table) }
+
+  -- a value's bytes
+  pub bytes-told : (value : List ℕ) → laid.Views file (lookupValue plain file start end key) value
+      → (r : GvdbPlace) → Getting file start end key r → (r .number ≡ 0) × (part file (r .start) (r .end - r .start) ≡ value)
+  unfolding lookedAnswer lookedNumber lookedPointer
+  bytes-told value views r g =
+      let is = getting-is file start end key r g ∙ ap lookedAnswer (views .place) in
+      (ap (λ (x : GvdbPlace). x .number) is, ap (λ (x : GvdbPlace). part file (x .start) (x .end - x .start)) is ∙ views .view)
+
+  -- a nested table's pointer, and back
+  pub pointer-told : (from to : ℕ) → lookupTable plain file start end key ≡ Looked.Pointer from to → (r : GvdbPlace) → GettingTable file start end key r
+      → (r .number ≡ 0) × (r .start ≡ from) × (r .end ≡ to)
+  unfolding lookedAnswer lookedNumber lookedPointer
+  pointer-told from to at r g =
+      let is = getting-table-is file start end key r g ∙ ap lookedAnswer at in
+      (ap (λ (x : GvdbPlace). x .number) is, ap (λ (x : GvdbPlace). x .start) is, ap (λ (x : GvdbPlace). x .end) is)
+
+  pub told-pointer : (r : GvdbPlace) → GettingTable file start end key r → r .number ≡ 0 → lookupTable plain file start end key ≡ Looked.Pointer (r .start) (r .end)
+  told-pointer r g e =
+      let is = getting-table-is file start end key r g in
+      rw is (pointer-of (lookupTable plain file start end key) (ap (λ (x : GvdbPlace). x .number) (sym is) ∙ e))

@@ -1,0 +1,40 @@
+-- Calls of the readers and of the check, as their contracts say what they do: the file, the pointer, and what else is given; then the answer.
+use Prim.Native.Nat.{ℕ}
+use mathlib.Core.List.{List}
+use denote.Ref.{now}
+use Rattle.gvdb.specs.declared.reading.GvdbOpened.{GvdbOpened}
+use Rattle.gvdb.specs.declared.reading.GvdbPlace.{GvdbPlace}
+use Rattle.gvdb.specs.declared.reading.GvdbKey.{GvdbKey}
+use Rattle.gvdb.specs.declared.checking.GvdbCheck.{GvdbCheck}
+use Rattle.gvdb.proofs.reading.gvdb_open.Kinds as open-kinds
+use Rattle.gvdb.proofs.reading.gvdb_open.Reads as open-reads
+use Rattle.gvdb.proofs.reading.gvdb_get.Kinds as get-kinds
+use Rattle.gvdb.proofs.reading.gvdb_get.Reads as get-reads
+use Rattle.gvdb.proofs.reading.gvdb_get_table.Kinds as get-table-kinds
+use Rattle.gvdb.proofs.reading.gvdb_get_table.Reads as get-table-reads
+use Rattle.gvdb.proofs.reading.gvdb_next_key.Kinds as next-key-kinds
+use Rattle.gvdb.proofs.reading.gvdb_next_key.Reads as next-key-reads
+use Rattle.gvdb.proofs.checking.gvdb_check.Kinds as check-kinds
+use Rattle.gvdb.proofs.checking.gvdb_check.Reads as check-reads
+use Rattle.demands.specs.Calls.{Met}
+
+-- opening the table at a pointer of a file
+pub data Opening : List ℕ → ℕ → ℕ → GvdbOpened → Type 0 where
+  opening : (c : Met open-kinds.ps open-kinds.r open-reads.Post) → Opening (now (c .given .0)) (c .given .1 .0) (c .given .1 .1 .0) (c .answer)
+
+-- looking a key up there, as a value and as a nested table
+pub data Getting : List ℕ → ℕ → ℕ → List ℕ → GvdbPlace → Type 0 where
+  getting : (c : Met get-kinds.ps get-kinds.r get-reads.Post) → Getting (now (c .given .0)) (c .given .1 .0) (c .given .1 .1 .0) (now (c .given .1 .1 .1 .0)) (c .answer)
+
+pub data GettingTable : List ℕ → ℕ → ℕ → List ℕ → GvdbPlace → Type 0 where
+  getting-table : (c : Met get-table-kinds.ps get-table-kinds.r get-table-reads.Post)
+      → GettingTable (now (c .given .0)) (c .given .1 .0) (c .given .1 .1 .0) (now (c .given .1 .1 .1 .0)) (c .answer)
+
+-- listing the key at a position into a lent buffer: what it held, the answer, and what it holds then
+pub data Listing : List ℕ → ℕ → ℕ → ℕ → List ℕ → GvdbKey → List ℕ → Type 0 where
+  listing : (c : Met next-key-kinds.ps next-key-kinds.r next-key-reads.Post)
+      → Listing (now (c .given .0)) (c .given .1 .0) (c .given .1 .1 .0) (c .given .1 .1 .1 .0) (now (c .given .1 .1 .1 .1 .0)) (c .answer) (now (c .left .1 .1 .1 .1 .0))
+
+-- checking the table
+pub data Checking : List ℕ → ℕ → ℕ → GvdbCheck → Type 0 where
+  checking : (c : Met check-kinds.ps check-kinds.r check-reads.Post) → Checking (now (c .given .0)) (c .given .1 .0) (c .given .1 .1 .0) (c .answer)

@@ -1,0 +1,16 @@
+// The limits of document 01.
+
+// The bytes of a file.
+pub const LONGEST_FILE: usize = 16_777_216;
+
+// The bytes of a key that is inserted.
+pub const LONGEST_KEY: usize = 1024;
+
+// The items of all tables of a builder.
+pub const MOST_ITEMS: usize = 1024;
+
+// The tables of a builder.
+pub const MOST_TABLES: usize = 64;
+
+// The height of a table that holds others.
+pub const DEEPEST: usize = 8;

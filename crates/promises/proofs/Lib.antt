@@ -1,0 +1,6 @@
+pub mod Same
+pub mod Words
+pub mod Reading
+pub mod Building
+pub mod Outside
+pub mod Views
