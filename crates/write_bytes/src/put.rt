@@ -29,7 +29,7 @@ ghost use Rattle.write_bytes.specs.Numbered.{slotWord, childWord, number
 ghost use Rattle.write_bytes.specs.Slot.{headBytes, slotRecord, slotKey, plainValue, SlotIn, CoverFits, RecordFits};
 
 // The first word of every table: a shift of 5, and no bloom words.
-const MARK: u32 = 0x2800_0000;
+const FIRST_WORD: u32 = 0x2800_0000;
 
 // gvdb-rs: HashHeader::new.
 // Lays a table's first word and its count of buckets.
@@ -37,7 +37,7 @@ fn lay_head(image: &mut [u8], count: usize, at: usize)
     requires { ⌜ (at + headSize ≤ length (now image)) × (count < 2 ^ 32) ⌝ }
     ensures { λ _. ⌜ now (image .exit) ≡ putAt (now (image .entry)) at (headBytes count) ⌝ }
 {
-    put_word(image, at, MARK);
+    put_word(image, at, FIRST_WORD);
     put_word(image, at + 4, count as u32);
 }
 
