@@ -9,8 +9,8 @@ use Rattle.read.proofs.FindLaws.{FoundBelow, found-below}
 use Rattle.read.proofs.lookup.lookup_in.Statement.{statement}
 use Rattle.read.proofs.lookup.lookup_in.Tie as tie
 
-is-utf8-requires : tie.Need-is-utf8-requires
-is-utf8-requires c κs = search needs
+is-key-requires : tie.Need-is-key-requires
+is-key-requires c κs = search needs
 
 find-item-requires : tie.Need-find-item-requires
 find-item-requires c κs = search needs
@@ -27,23 +27,23 @@ item-at-requires c κs = (c .before .before .before .before .before .before .bef
 
 returns : tie.Need-returns
 unfolding lookupIn atFound pick
-returns c = simp (sym (c .before .before .before .before .is-utf8 .ensures) ∙ c .before .before .before .if1 .taken, sym (c .before .before .find-item .ensures) ∙ c .enum-told .given .1)
+returns c = simp (sym (c .before .before .before .before .is-key .ensures) ∙ c .before .before .before .if1 .taken, sym (c .before .before .find-item .ensures) ∙ c .enum-told .given .1)
 
 returns-2 : tie.Need-returns-2
 unfolding lookupIn atFound pick
 returns-2 c =
-    simp (sym (c .before .before .before .before .before .before .is-utf8 .ensures) ∙ c .before .before .before .before .before .if1 .taken, sym (c .before .before .before .before .find-item .ensures) ∙ c .before .before .index .given .1)
+    simp (sym (c .before .before .before .before .before .before .is-key .ensures) ∙ c .before .before .before .before .before .if1 .taken, sym (c .before .before .before .before .find-item .ensures) ∙ c .before .before .index .given .1)
     (ap Sought.Item (c .item-at .ensures))
 
 returns-3 : tie.Need-returns-3
 unfolding lookupIn pick
-returns-3 c = simp (sym (c .before .is-utf8 .ensures) ∙ c .if1 .left)
+returns-3 c = simp (sym (c .before .is-key .ensures) ∙ c .if1 .left)
 
 pub lookup-in-spec : {M : Type 1} → statement M
 lookup-in-spec =
     tie.close
     (tie.spec
-    is-utf8-requires
+    is-key-requires
     find-item-requires
     enum-told
     enum-known-index
