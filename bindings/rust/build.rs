@@ -1,4 +1,4 @@
-//! Finds libgvdb.a: in the folder GVDB_LIB_DIR, or where `rt staticlib gvdb` writes it.
+//! Finds libgvdb.a: in the folder GVDB_LIB_DIR, or where tools/staticlib writes it.
 use std::path::PathBuf;
 use std::{env, process};
 
@@ -11,7 +11,7 @@ fn main() {
     let library = folder.join("libgvdb.a");
     println!("cargo:rerun-if-changed={}", library.display());
     if !library.is_file() {
-        eprintln!("libgvdb.a is not in {}: run `rt staticlib gvdb` in the root, or set GVDB_LIB_DIR to its folder", folder.display());
+        eprintln!("libgvdb.a is not in {}: run tools/staticlib in the root, or set GVDB_LIB_DIR to its folder", folder.display());
         process::exit(1);
     }
     println!("cargo:rustc-link-search=native={}", folder.display());

@@ -20,8 +20,8 @@ printf '#!/bin/sh\\necho \"ran $*\"\\nexit 7\\n' > target/cargo/release/gvdb
 chmod +x target/cargo/release/gvdb
 ";
 /// All that the script may call.
-const TOOLS: [&str; 17] =
-    ["sh", "git", "find", "sed", "cat", "dirname", "readlink", "touch", "sha256sum", "xargs", "tail", "mkdir", "chmod", "rm", "env", "grep", "echo"];
+const TOOLS: [&str; 18] =
+    ["sh", "git", "find", "sed", "cat", "dirname", "readlink", "touch", "sha256sum", "xargs", "tail", "mkdir", "chmod", "rm", "env", "grep", "echo", "uname"];
 const PROVED: &str = "rt check words\nrt check text\nrt staticlib gvdb\n";
 
 struct Place {
@@ -45,7 +45,10 @@ impl Place {
             place.write(path, text);
             dated(&place.root.join(path), SystemTime::now() - Duration::from_secs(60));
         }
-        fs::copy(root().join("gvdb"), place.root.join("gvdb")).unwrap();
+        fs::create_dir_all(place.root.join("tools")).unwrap();
+        for script in ["gvdb", "tools/staticlib"] {
+            fs::copy(root().join(script), place.root.join(script)).unwrap();
+        }
         for tool in TOOLS {
             let found = shell(&place.root, &format!("command -v {tool}"));
             match found.text().trim_end() {

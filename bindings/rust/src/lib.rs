@@ -36,11 +36,11 @@
 //!
 //! # Building
 //!
-//! The build looks for `libgvdb.a` in the folder `GVDB_LIB_DIR`, or in `target/staticlib` of the root, where `rt staticlib gvdb` writes it.
+//! The build looks for `libgvdb.a` in the folder `GVDB_LIB_DIR`, or in `target/staticlib` of the root, where `tools/staticlib` writes it.
 #![deny(unsafe_code, missing_docs)]
 
-#[cfg(not(all(target_arch = "x86_64", target_os = "linux")))]
-compile_error!("libgvdb.a is made for x86-64 Linux");
+#[cfg(not(all(any(target_arch = "x86_64", target_arch = "aarch64"), target_os = "linux")))]
+compile_error!("libgvdb.a is made for Linux on x86-64 or Arm");
 
 mod builder;
 mod ffi;
