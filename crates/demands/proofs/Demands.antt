@@ -54,7 +54,8 @@ use Rattle.demands.proofs.HeldLaws.{heldIn}
 use Rattle.demands.proofs.Rows.{item-of, no-item}
 use Rattle.demands.proofs.Writable.{holds-guest}
 use Rattle.demands.proofs.Write.{success, success-back}
-use Rattle.demands.proofs.Models.{meant, stands}
+use Rattle.demands.specs.Means.{meant}
+use Rattle.demands.proofs.Models.{stands, memory-means-the-builder}
 use Rattle.demands.proofs.Histories.{held-is}
 
 -- ---- a write that succeeds, as its contract tells it
@@ -135,7 +136,7 @@ module _ (room : ℕ) (events : List Event) (m : Memory) (h : History room event
 
   -- what the items hold is what the calls say
   holds : (t : ℕ) (key : List ℕ) → heldIn (meant m .items) t key ≡ held t key events
-  holds t key = ap (λ (b : Builder). heldIn (b .items) t key) (stands room events m h .means) ∙ held-is t key room events m h
+  holds t key = ap (λ (b : Builder). heldIn (b .items) t key) (memory-means-the-builder room events m h) ∙ held-is t key room events m h
 
   reads : fullyValid (m .words) (m .arena) ≡ true → (d t at : ℕ) → t < tableTotal (m .words) → AllBack plain file state d t at → Answers events m file d t at (endOf state t at)
   unfolding AllBack Answers

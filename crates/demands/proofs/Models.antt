@@ -15,7 +15,6 @@ use Rattle.layout.specs.declared.refusal.Refusal.the-variants.{MemoryBroken, Ta
 use Rattle.model.specs.Builder.{Builder}
 use Rattle.build_memory.specs.Memory.{Memory, memory, leastWords, freshWords, freshStart}
 use Rattle.build_memory.specs.Answer.{startedNumber}
-use Rattle.build_memory.specs.Meaning.{meaning}
 use Rattle.build_tables.specs.Table as tables
 use Rattle.write_numbers.specs.Roster.{stateOf}
 use Rattle.write.specs.declared.Written.{Written}
@@ -28,11 +27,8 @@ use Rattle.history.proofs.ModelCalls.{free-standing-same, value-alike, table-al
 use Rattle.history.proofs.ModelNesting.{nest-alike}
 use Rattle.demands.specs.Calls.{Call, Does, Starts, Event, History}
 use Rattle.demands.specs.Model.{tablesOf, imageIn, write, added, inserted, counted, written, says, makes, lays, built, CallsAreTheModels}
+use Rattle.demands.specs.Means.{meant, MemoryMeansTheBuilder}
 use Rattle.demands.proofs.Contracts.{answers, leaves, leavesLent, does-is, starts-is}
-
--- the builder that a memory means
-abbrev pub meant : Memory → Builder
-meant m = meaning (m .words) (m .arena)
 
 -- ---- one call on honest memory
 
@@ -88,6 +84,7 @@ leaves-reached m (Call.insert-table t key guest) r = Reached.insert-table _ _ r 
 leaves-reached m (Call.item-count t) r = r
 leaves-reached m (Call.write t buffer) r = r
 
+-- what a history leaves: memory that calls reach, and that means the builder
 pub record Stands (room : ℕ) (events : List Event) (m : Memory) : Type 0 where
   pub reached : Reached (m .words) (m .arena)
   pub means : meant m ≡ built room events
@@ -110,6 +107,9 @@ stands room events m (History.then r earlier before h call said after left d) =
       reached = leaves-reached before call (was .reached);
       means = makes-same before (reached-honest _ _ (was .reached)) call ∙ ap (λ (b : Builder). makes b call) (was .means);
     })
+
+pub memory-means-the-builder : MemoryMeansTheBuilder
+memory-means-the-builder room events m h = stands room events m h .means
 
 pub calls-are-the-models : CallsAreTheModels
 calls-are-the-models room events m h call said after left d =

@@ -2,6 +2,7 @@ pub mod Calls
 pub mod Readers
 pub mod Last
 pub mod Model
+pub mod Means
 pub mod Demand1
 pub mod Demand2
 pub mod Demand3

@@ -1,5 +1,6 @@
 -- CALLS ARE THE MODEL'S. The model (crate `model`) is what document 01 says of a builder: tables and items in order, no memory. On every history each call answers the numbers
 -- that the model's call answers, and leaves what the model's call leaves: so does every call after it. An image that is laid is that of the model's table.
+-- `Means.antt` says it of memory: after every history the words mean the builder that the model's calls built.
 use Prim.Native.Nat.{ℕ, _+_}
 use mathlib.Core.Path.{_≡_}
 use mathlib.Core.List.{List, [], _∷_}
