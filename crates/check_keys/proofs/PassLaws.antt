@@ -2,7 +2,7 @@
 use Prim.Native.Nat.{ℕ, _+_, _-_, _≤_, _<_}
 use mathlib.Core.Path.{_≡_, refl, sym, ap, _∙_, subst}
 use mathlib.Core.List.{List, _++_}
-use mathlib.Core.Bool.{true, false}
+use mathlib.Core.Bool.{Bool, true, false}
 use native.Mathlib.Omega.{arith}
 use lib.ListN.{length, take}
 use lib.Seq.{take-take}
@@ -61,25 +61,24 @@ module _ (file : List ℕ) (t : Table) {p : Front} (from end : ℕ) where
           within = omega (arith, fitting .within);
         }
 
-    pub some-passed : 0 < n → n ≤ end - from → sameBytes (part (frontBytes file t p) (p .size - n) n) (part file (end - n) n) ≡ true
-        → StretchPassed file t p from end (Passed.Over back)
-    unfolding StretchPassed frontBytes
-    some-passed some room e =
-        let passed : p .size - (p .size - n) ≡ n = omega (arith, fitting .within) in (
-          record {
-            fitting = back-fitting;
-            fewer = omega arith;
-            nearer = omega (arith, fitting .within);
-            front = sym (take-take (p .size - n) (p .size) _ (omega arith));
-            same = rw passed (same-equal _ _ e);
-          },
-          omega (arith, passed),
-        )
+    module _ {told : Bool} (is : told ≡ sameBytes (part (frontBytes file t p) (p .size - n) n) (part file (end - n) n)) (room : n ≤ end - from) where
+      pub some-passed : 0 < n → told ≡ true → StretchPassed file t p from end (Passed.Over back)
+      unfolding StretchPassed frontBytes
+      some-passed some e =
+          let passed : p .size - (p .size - n) ≡ n = omega (arith, fitting .within) in (
+            record {
+              fitting = back-fitting;
+              fewer = omega arith;
+              nearer = omega (arith, fitting .within);
+              front = sym (take-take (p .size - n) (p .size) _ (omega arith));
+              same = rw passed (same-equal _ _ (sym is ∙ e));
+            },
+            omega (arith, passed),
+          )
 
-    pub some-differs : n ≤ end - from → sameBytes (part (frontBytes file t p) (p .size - n) n) (part file (end - n) n) ≡ false
-        → StretchPassed file t p from end Passed.Differs
-    unfolding StretchPassed
-    some-differs room e = (n, room, e)
+      pub some-differs : told ≡ false → StretchPassed file t p from end Passed.Differs
+      unfolding StretchPassed
+      some-differs e = (n, room, sym is ∙ e)
 
 -- the counts of a turn: the front has d bytes fewer, and so has what is left of the stretch
 low-turn : (d from end : ℕ) → d ≤ end - from → from ≤ end → (d ≤ end) × (from ≤ end - d)

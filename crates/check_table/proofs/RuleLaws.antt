@@ -199,9 +199,10 @@ module _ (file : List ℕ) (t : Table) (index : ℕ) (item : Item) where
   unfolding childrenGood pick
   children-other n = rw (ne-eqb _ _ n)
 
-  pub children-all : item .kind ≡ 76 → {from n : ℕ} → from ≡ item .from → n ≡ childCount item → allBelow (childGood file t index from) n ≡ childrenGood file t index item
+  pub children-all : item .kind ≡ 76 → {from n : ℕ} → from ≡ item .from → n ≡ childCount item → {told : Bool} → told ≡ allBelow (childGood file t index from) n
+      → told ≡ childrenGood file t index item
   unfolding childrenGood pick
-  children-all is start same = rw (eq-eqb _ _ is, start, same)
+  children-all is start same e = e ∙ rw (eq-eqb _ _ is, start, same)
 
   pub parent-keeps : {s : Step} → parentOf (t .count) (item .parent) ≡ s → parentKeeps file t index s ≡ parentGood file t index item
   unfolding parentGood

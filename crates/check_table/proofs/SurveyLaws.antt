@@ -52,20 +52,20 @@ module _ (file : List ℕ) (t : Table) where
         let same : at ≡ t .count = omega arith in
         record { room = s .room; within = omega arith; sound = λ i k. s .sound i (omega arith); broken = λ k. absurd (omega arith); below = λ c k p. s .below c k (omega arith) }
 
-    module _ {item : Item} (is : item ≡ itemAt file t at) {after : List ℕ} where
-      pub survey-stop : at < t .count → fiveOrShut file t at item ≡ false → Surveying file t at (λ c. listsIt file c item) bits after false → Survey file t at after
+    module _ {item : Item} (is : item ≡ itemAt file t at) {told : Bool} (five : told ≡ fiveOrShut file t at item) {after : List ℕ} where
+      pub survey-stop : at < t .count → told ≡ false → Surveying file t at (λ c. listsIt file c item) bits after told → Survey file t at after
       survey-stop h bad m = record {
         room = m .room;
         within = omega arith;
         sound = s .sound;
-        broken = λ _. rw is at bad;
+        broken = λ _. rw is at (sym five ∙ bad);
         below = λ c l p. m .others c l (λ e. omega arith) ∙ s .below c l p;
       }
 
-      pub survey-turn : fiveOrShut file t at item ≡ true → Surveying file t at (λ c. listsIt file c item) bits after true → Surveyed file t (at + 1) after
+      pub survey-turn : told ≡ true → Surveying file t at (λ c. listsIt file c item) bits after told → Surveyed file t (at + 1) after
       survey-turn good m = record {
         room = m .room;
-        sound = below-more (λ i. fiveOrShut file t i (itemAt file t i) ≡ true) at (s .sound) (rw is at good);
+        sound = below-more (λ i. fiveOrShut file t i (itemAt file t i) ≡ true) at (s .sound) (rw is at (sym five ∙ good));
         below = λ c l p. below-turn c l p (eqb (itemAt file t c .parent) at) refl;
         above = λ c l p. m .others c l (λ e. omega arith) ∙ s .above c l (omega arith);
       }
@@ -74,7 +74,7 @@ module _ (file : List ℕ) (t : Table) where
               → hasBit after c ≡ listsIt file c (itemAt file t (itemAt file t c .parent))
           below-turn c l p true e =
               let here : itemAt file t c .parent ≡ at = eqb-true _ _ e in
-              m .own refl c l here ∙ ap (listsIt file c) (is ∙ ap (itemAt file t) (sym here))
+              m .own good c l here ∙ ap (listsIt file c) (is ∙ ap (itemAt file t) (sym here))
           below-turn c l p false e =
               let ne : itemAt file t c .parent ≡ at → ⊥ = eqb-false _ _ e in
               m .others c l ne ∙ s .below c l (omega arith)

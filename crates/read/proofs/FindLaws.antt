@@ -6,7 +6,7 @@ use mathlib.Core.List.{List}
 use mathlib.Core.Bool.{Bool, true, false}
 use native.Mathlib.Omega.{arith}
 use lib.Dec.{leb, eqb}
-use borrow.Author.Tests.{leb-true, leb-false, eqb-true, eqb-false, eq-eqb, ne-eqb}
+use borrow.Author.Tests.{leb-true, leb-false, le-leb, lt-leb, eqb-true, eqb-false, eq-eqb, ne-eqb}
 use Rattle.words.specs.Choice.{pick}
 use Rattle.words.specs.Field.{wordAt}
 use Rattle.words.specs.Bits.{bitSet}
@@ -54,25 +54,35 @@ module _ (rule : ℕ → ℕ) (file : List ℕ) (t : Table) (key : List ℕ) whe
       find-filtered e = rw (ne-eqb _ _ some, ne-eqb _ _ items, ← hashed, e)
 
       pub find-in-run : bloomPasses file t hash ≡ true → {wide : ℕ} → wide ≡ hash → {run : Run} → run ≡ runOf file t (wide % t .buckets)
-          → firstOf rule file t key run ≡ findItem rule file t key
+          → {found : Found} → found ≡ firstOf rule file t key run → found ≡ findItem rule file t key
       unfolding findItem pick
-      find-in-run e wide is = rw (ne-eqb _ _ some, ne-eqb _ _ items, ← hashed, e, is, wide)
+      find-in-run e wide is first = first ∙ rw (ne-eqb _ _ some, ne-eqb _ _ items, ← hashed, e, is, wide)
 
 -- ---- the search of a run
 
--- one position, and the end
-pub first-turn : (test : ℕ → Bool) (count last at : ℕ) → at < last
-    → firstFrom test count (last - at) at ≡ pick (leb count at) Found.Nothing (pick (test at) (Found.At at) (firstFrom test count (last - (at + 1)) (at + 1)))
-unfolding firstFrom
-first-turn test count last at h =
-    let e : last - at ≡ suc (last - (at + 1)) = omega arith in
-    rw e
+-- one turn of a search that has g to say, by what the test answers at its position, and its end
+module _ (test : ℕ → Bool) (count last at : ℕ) {g : Found} (inv : firstFrom test count (last - at) at ≡ g) where
+  module _ (here : at < last) where
+    turn : pick (leb count at) Found.Nothing (pick (test at) (Found.At at) (firstFrom test count (last - (at + 1)) (at + 1))) ≡ g
+    unfolding firstFrom
+    turn = let e : last - at ≡ suc (last - (at + 1)) = omega arith in rw e at inv
 
-pub first-over : (test : ℕ → Bool) (count last at : ℕ) → last ≤ at → firstFrom test count (last - at) at ≡ Found.Nothing
-unfolding firstFrom
-first-over test count last at h =
-    let e : last - at ≡ 0 = omega arith in
-    rw e
+    pub first-past : count ≤ at → Found.Nothing ≡ g
+    unfolding pick
+    first-past h = rw (le-leb _ _ h) at turn
+
+    module _ (item : at < count) {told : Bool} (is : told ≡ test at) where
+      pub first-hit : told ≡ true → Found.At at ≡ g
+      unfolding pick
+      first-hit e = rw (lt-leb _ _ item, ← is, e) at turn
+
+      pub first-on : told ≡ false → firstFrom test count (last - (at + 1)) (at + 1) ≡ g
+      unfolding pick
+      first-on e = rw (lt-leb _ _ item, ← is, e) at turn
+
+  pub first-over : last ≤ at → Found.Nothing ≡ g
+  unfolding firstFrom
+  first-over h = let e : last - at ≡ 0 = omega arith in rw e at inv
 
 -- what is found passes the test and is the first that does; where nothing is, none of the positions that are items passes it
 unfoldable pub FirstSays : (ℕ → Bool) → ℕ → ℕ → ℕ → Found → Type 0

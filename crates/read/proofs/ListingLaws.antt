@@ -16,11 +16,13 @@ use Rattle.layout.specs.declared.refusal.Refusal.the-variants.{PastTheLast, Buf
 use Rattle.layout.specs.declared.table.Table.{Table}
 use Rattle.layout.specs.declared.item.Item.{Item}
 use Rattle.layout.specs.Item.{itemAt}
+use Rattle.layout.specs.declared.pointer.Pointed.{Pointed}
+use Rattle.layout.specs.Pointer.{openPointer}
 use Rattle.read.specs.declared.listing.Cursor.{Cursor}
 use Rattle.read.specs.declared.listing.Measured.{Measured}
 use Rattle.read.specs.declared.listing.Listed.{Listed}
 use Rattle.read.specs.Chain.{Joined, keyOf}
-use Rattle.read.specs.Listing.{measure, keyIn, listed, written, nextOf, nextValue}
+use Rattle.read.specs.Listing.{measure, keyIn, listed, written, nextOf, nextValue, valueOpened, valueFrom}
 use Rattle.read.proofs.WriteLaws.{size-is}
 
 -- ---- a key
@@ -159,3 +161,9 @@ next-of-says file t (suc more) at h =
 pub next-says : (file : List ℕ) (t : Table) (at : ℕ) → NextSays file t at (nextValue file t at)
 unfolding nextValue
 next-says file t at = next-of-says file t (t .count - at) at (omega arith)
+
+-- the value of the item at an index, once its pointer is judged
+pub value-judged : (file : List ℕ) (t : Table) (index : ℕ) → index < t .count → {item : Item} → item ≡ itemAt file t index
+    → {p : Pointed} → p ≡ openPointer (length file) (item .from) (item .to) 8 → {told : Pointed} → p ≡ told → valueOpened told index item ≡ valueFrom file t index
+unfolding valueFrom pick
+value-judged file t index h is judged e = rw (lt-leb _ _ h, ← is, ← judged, e)

@@ -180,29 +180,30 @@ module _ (file : List ℕ) (t : Table) (index : ℕ) (key : List ℕ) where
   start h = record { below = h; within = omega arith; same = rw take-length }
 
   module _ {at end left : ℕ} (i : Climbing file t index key at end left) where
-    turn : 0 < left → {m : Matched} → matchItem file t at (take end key) ≡ m → afterMatch file t (left - 1) (take end key) m ≡ names (keyOf file t (t .count) index) key
+    turn : 0 < left → {m : Matched} → m ≡ matchItem file t at (take end key) → afterMatch file t (left - 1) (take end key) m ≡ names (keyOf file t (t .count) index) key
     turn h e =
         let one : left ≡ suc (left - 1) = omega arith in
-        ap (afterMatch file t (left - 1) (take end key)) (sym e)
+        ap (afterMatch file t (left - 1) (take end key)) e
         ∙ sym (ap (λ (n : ℕ). names (keyOf file t n at) (take end key)) one ∙ match-law file t (left - 1) at (take end key))
         ∙ i .same
 
-    pub ended : 0 < left → {answer : Bool} → matchItem file t at (take end key) ≡ Matched.Ended answer
+    pub ended : 0 < left → {m : Matched} → m ≡ matchItem file t at (take end key) → {answer : Bool} → m ≡ Matched.Ended answer
         → answer ≡ names (keyOf file t (t .count) index) key
     unfolding afterMatch
-    ended h e = turn h e
+    ended h is e = rw e at (turn h is)
 
-    pub up : 0 < left → {parent size : ℕ} → matchItem file t at (take end key) ≡ Matched.Rest parent size
+    pub up : 0 < left → {m : Matched} → m ≡ matchItem file t at (take end key) → {parent size : ℕ} → m ≡ Matched.Rest parent size
         → Climbing file t index key parent size (left - 1)
     unfolding afterMatch MatchFits
-    up h {parent} {size} e =
+    up h is {parent} {size} told =
+        let e : matchItem file t at (take end key) ≡ Matched.Rest parent size = sym is ∙ told in
         let fits : (parent < t .count) × (size ≤ length (take end key)) = subst (MatchFits (t .count) (length (take end key))) e (match-fits file t at (take end key)) in
         let shorter : length (take end key) ≡ end = length-take-le end key (i .within) in
         let le : size ≤ end = omega arith in
         record {
           below = fits .0;
           within = omega (arith, i .within);
-          same = ap (names (keyOf file t (left - 1) parent)) (sym (take-take size end key le)) ∙ turn h e;
+          same = ap (names (keyOf file t (left - 1) parent)) (sym (take-take size end key le)) ∙ turn h (sym e);
         }
 
     pub over : left ≤ 0 → false ≡ names (keyOf file t (t .count) index) key

@@ -34,13 +34,13 @@ returns-2 : tie.Need-returns-2
 returns-2 c =
     let start = c .before .before .before .before .before .before in
     let fits = smaller-fits _ _ (c .before .before .before .shorter .ensures) in
-    some-passed _ _ _ _ (start .pre .0 .1) _ (fits .0) (fits .2 (omega (arith, c .before .before .before .before .if1 .left)) (omega (arith, start .pre .1 .0))) (fits .1) (sym (c .before .before .same-stretch .ensures) ∙ c .before .if2 .taken)
+    some-passed _ _ _ _ (start .pre .0 .1) _ (fits .0) (c .before .before .same-stretch .ensures) (fits .1) (fits .2 (omega (arith, c .before .before .before .before .if1 .left)) (omega (arith, start .pre .1 .0))) (c .before .if2 .taken)
 
 returns-3 : tie.Need-returns-3
 returns-3 c =
     let start = c .before .before .before .before .before in
     let fits = smaller-fits _ _ (c .before .before .shorter .ensures) in
-    some-differs _ _ _ _ (start .pre .0 .1) _ (fits .0) (fits .1) (sym (c .before .same-stretch .ensures) ∙ c .if2 .left)
+    some-differs _ _ _ _ (start .pre .0 .1) _ (fits .0) (c .before .same-stretch .ensures) (fits .1) (c .if2 .left)
 
 pub pass-some-spec : {M : Type 1} → statement M
 pass-some-spec =

@@ -32,8 +32,7 @@ first-same-requires c κs = search needs
 
 returns-2 : tie.Need-returns-2
 returns-2 c =
-    c .first-same .ensures
-    ∙ find-in-run plain _ _ _ (c .before .before .before .before .before .if1 .left) (λ e. omega (arith, c .before .before .before .before .before .before .before .pre .0 .below)) (c .before .before .before .before .before .before .before .pre .1) (sym (c .before .before .before .before .bloom-passes .ensures) ∙ c .before .before .before .if2 .taken) (c .before .before .word-size .ensures .0) (c .before .run-of .ensures)
+    find-in-run plain _ _ _ (c .before .before .before .before .before .if1 .left) (λ e. omega (arith, c .before .before .before .before .before .before .before .pre .0 .below)) (c .before .before .before .before .before .before .before .pre .1) (sym (c .before .before .before .before .bloom-passes .ensures) ∙ c .before .before .before .if2 .taken) (c .before .before .word-size .ensures .0) (c .before .run-of .ensures) (c .first-same .ensures)
 
 returns-3 : tie.Need-returns-3
 returns-3 c = find-filtered plain _ _ _ (c .before .before .if1 .left) (λ e. omega (arith, c .before .before .before .before .pre .0 .below)) (c .before .before .before .before .pre .1) (sym (c .before .bloom-passes .ensures) ∙ c .if2 .left)

@@ -1,10 +1,9 @@
 -- `check_table::survey::survey_all` meets its contract: the invariant is `Surveyed`.
-use mathlib.Core.Path.{_≡_, refl, sym, _∙_, subst}
+use mathlib.Core.Path.{_≡_, refl}
 use native.Mathlib.Omega.{arith}
 use Prim.Native.Nat.{_≤_, _-_}
 use lib.ListN.{length}
 use borrow.Author.Tests.{not-true, not-false}
-use Rattle.check_table.specs.Survey.{Surveying}
 use Rattle.check_table.proofs.SurveyLaws.{Surveyed, survey-start, survey-fresh, survey-over, survey-stop, survey-turn}
 use borrow.Author.Needs.{needs}
 use Rattle.check_table.proofs.survey.survey_all.Statement.{statement}
@@ -30,9 +29,8 @@ same-length c = search needs
 
 returns : tie.Need-returns Inv-loop μ-loop
 returns c =
-    let stopped = not-true _ (c .if1 .taken) in
-    survey-stop _ _ (c .before .before .before .before .before .before .before .loop .inv .2) (c .before .before .before .before .before .item-at .ensures) (c .before .before .before .before .before .before .loop-test .taken) (sym (c .before .before .before .survey-container .ensures .0) ∙ stopped)
-    (subst (Surveying _ _ _ _ _ _) stopped (c .before .before .before .survey-container .ensures .1))
+    let did = c .before .before .before .survey-container .ensures in
+    survey-stop _ _ (c .before .before .before .before .before .before .before .loop .inv .2) (c .before .before .before .before .before .item-at .ensures) (did .0) (c .before .before .before .before .before .before .loop-test .taken) (not-true _ (c .if1 .taken)) (did .1)
 
 add-at : tie.Need-add-at Inv-loop μ-loop
 add-at c = search needs
@@ -42,11 +40,10 @@ loop-less c = search needs
 
 loop-again : tie.Need-loop-again Inv-loop μ-loop
 loop-again c =
-    let well = not-false _ (c .if1 .left) in (
+    let did = c .before .before .before .survey-container .ensures in (
       omega arith,
       omega arith,
-      survey-turn _ _ (c .before .before .before .before .before .before .before .loop .inv .2) (c .before .before .before .before .before .item-at .ensures) (sym (c .before .before .before .survey-container .ensures .0) ∙ well)
-          (subst (Surveying _ _ _ _ _ _) well (c .before .before .before .survey-container .ensures .1)),
+      survey-turn _ _ (c .before .before .before .before .before .before .before .loop .inv .2) (c .before .before .before .before .before .item-at .ensures) (did .0) (not-false _ (c .if1 .left)) (did .1),
     )
 
 same-length-2 : tie.Need-same-length-2 Inv-loop μ-loop

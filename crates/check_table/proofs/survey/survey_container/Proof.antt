@@ -39,7 +39,7 @@ returns-3 c =
     let list = c .before .before .before .before .before .before .before .before .if1 .left in
     let start = c .before .before .before .before .before .word-size .ensures .0 in
     let count = c .before .before .before .before .child-count .ensures in (
-      c .before .before .survey-children .ensures .0 ∙ children-all _ _ _ _ list start count ∙ five-open _ _ _ _ opens,
+      children-all _ _ _ _ list start count (c .before .before .survey-children .ensures .0) ∙ five-open _ _ _ _ opens,
       as-listed _ _ _ _ _ _ (λ i. lists-open _ i _ list opens start count) (c .before .before .survey-children .ensures .1),
     )
 

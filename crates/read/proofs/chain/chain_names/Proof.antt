@@ -35,7 +35,7 @@ returns : tie.Need-returns Inv-loop μ-loop
 returns c =
     let at-match = c .before .before .before in
     let at-test = at-match .before .before in
-    ended _ _ _ _ (at-test .before .loop .inv) (at-test .loop-test .taken) (sym (at-match .match-item .ensures) ∙ c .before .answer .given .1)
+    ended _ _ _ _ (at-test .before .loop .inv) (at-test .loop-test .taken) (at-match .match-item .ensures) (c .before .answer .given .1)
 
 enum-known-parent : tie.Need-enum-known-parent Inv-loop μ-loop
 enum-known-parent c = search needs
@@ -50,7 +50,7 @@ loop-again : tie.Need-loop-again Inv-loop μ-loop
 loop-again c =
     let at-match = c .before .before .before in
     let at-test = at-match .before .before in
-    up _ _ _ _ (at-test .before .loop .inv) (at-test .loop-test .taken) (sym (at-match .match-item .ensures) ∙ c .before .parent .given .1)
+    up _ _ _ _ (at-test .before .loop .inv) (at-test .loop-test .taken) (at-match .match-item .ensures) (c .before .parent .given .1)
 
 returns-2 : tie.Need-returns-2 Inv-loop μ-loop
 returns-2 c = over _ _ _ _ (c .before .loop .inv) (c .loop-test .left)

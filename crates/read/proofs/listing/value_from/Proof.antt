@@ -1,9 +1,9 @@
 -- `read::listing::value_from` meets its contract: each return is a case of the definition.
-use mathlib.Core.Path.{sym, _∙_}
 use borrow.Author.Needs.{needs}
-use borrow.Author.Tests.{le-leb, lt-leb}
+use borrow.Author.Tests.{le-leb}
 use Rattle.words.specs.Choice.{pick}
 use Rattle.read.specs.Listing.{valueFrom, valueOpened}
+use Rattle.read.proofs.ListingLaws.{value-judged}
 use Rattle.read.proofs.listing.value_from.Statement.{statement}
 use Rattle.read.proofs.listing.value_from.Tie as tie
 
@@ -27,16 +27,12 @@ enum-told : tie.Need-enum-told
 enum-told c = search needs
 
 returns-2 : tie.Need-returns-2
-unfolding valueFrom valueOpened pick
-returns-2 c =
-    let at-open = c .before .before .before in
-    simp (lt-leb _ _ (at-open .before .before .if1 .left), ← (at-open .before .item-at .ensures), sym (at-open .open-value .ensures) ∙ c .before .why .given .1)
+unfolding valueOpened
+returns-2 c = let judged = c .before .before .before in value-judged _ _ _ (judged .before .before .if1 .left) (judged .before .item-at .ensures) (judged .open-value .ensures) (c .before .why .given .1)
 
 returns-3 : tie.Need-returns-3
-unfolding valueFrom valueOpened pick
-returns-3 c =
-    let at-open = c .before .before in
-    simp (lt-leb _ _ (at-open .before .before .if1 .left), ← (at-open .before .item-at .ensures), sym (at-open .open-value .ensures) ∙ c .enum-told .given .1)
+unfolding valueOpened
+returns-3 c = let judged = c .before .before in value-judged _ _ _ (judged .before .before .if1 .left) (judged .before .item-at .ensures) (judged .open-value .ensures) (c .enum-told .given .1)
 
 pub value-from-spec : {M : Type 1} → statement M
 value-from-spec =

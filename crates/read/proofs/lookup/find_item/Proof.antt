@@ -39,8 +39,7 @@ first-of-requires c κs = (c .before .before .before .before .before .before .be
 returns-3 : tie.Need-returns-3
 returns-3 c =
     let at-hash = c .before .before .before .before .before in
-    c .first-of .ensures
-    ∙ find-in-run plain _ _ _ (at-hash .before .before .before .if1 .left) (at-hash .before .if2 .left) (at-hash .djb-hash .ensures) (sym (c .before .before .before .before .bloom-passes .ensures) ∙ c .before .before .before .if3 .taken) (c .before .before .word-size .ensures .0) (c .before .run-of .ensures)
+    find-in-run plain _ _ _ (at-hash .before .before .before .if1 .left) (at-hash .before .if2 .left) (at-hash .djb-hash .ensures) (sym (c .before .before .before .before .bloom-passes .ensures) ∙ c .before .before .before .if3 .taken) (c .before .before .word-size .ensures .0) (c .before .run-of .ensures) (c .first-of .ensures)
 
 returns-4 : tie.Need-returns-4
 returns-4 c =

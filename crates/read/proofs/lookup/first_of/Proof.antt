@@ -1,12 +1,10 @@
 -- `read::lookup::first_of` meets its contract: what the search has still to say from here is what it had to say from the start.
 use Prim.Native.Nat.{_-_}
-use mathlib.Core.Path.{_≡_, sym, _∙_}
+use mathlib.Core.Path.{_≡_}
 use borrow.Author.Needs.{needs}
-use borrow.Author.Tests.{le-leb, lt-leb}
-use Rattle.words.specs.Choice.{pick}
 use Rattle.words.specs.Hash.{plain}
 use Rattle.read.specs.Find.{firstFrom, firstOf, itemMatches}
-use Rattle.read.proofs.FindLaws.{first-turn, first-over}
+use Rattle.read.proofs.FindLaws.{first-past, first-hit, first-on, first-over}
 use Rattle.read.proofs.lookup.first_of.Statement.{statement}
 use Rattle.read.proofs.lookup.first_of.Tie as tie
 
@@ -20,18 +18,15 @@ loop-holds : tie.Need-loop-holds Inv-loop μ-loop
 loop-holds c = search needs
 
 returns : tie.Need-returns Inv-loop μ-loop
-unfolding firstOf pick
-returns c = sym (first-turn _ _ _ _ (c .before .loop-test .taken) ∙ simp (le-leb _ _ (c .if1 .taken))) ∙ c .before .before .loop .inv
+unfolding firstOf
+returns c = first-past _ _ _ _ (c .before .before .loop .inv) (c .before .loop-test .taken) (c .if1 .taken)
 
 item-matches-requires : tie.Need-item-matches-requires Inv-loop μ-loop
 item-matches-requires c κs = search needs
 
 returns-2 : tie.Need-returns-2 Inv-loop μ-loop
-unfolding firstOf pick
-returns-2 c =
-    let at-if1 = c .before .before in
-    sym (first-turn _ _ _ _ (at-if1 .before .loop-test .taken) ∙ simp (lt-leb _ _ (at-if1 .if1 .left), sym (c .before .item-matches .ensures) ∙ c .if2 .taken))
-    ∙ at-if1 .before .before .loop .inv
+unfolding firstOf
+returns-2 c = let if1 = c .before .before in first-hit _ _ _ _ (if1 .before .before .loop .inv) (if1 .before .loop-test .taken) (if1 .if1 .left) (c .before .item-matches .ensures) (c .if2 .taken)
 
 add-at : tie.Need-add-at Inv-loop μ-loop
 add-at c = search needs
@@ -40,15 +35,11 @@ loop-less : tie.Need-loop-less Inv-loop μ-loop
 loop-less c = search needs
 
 loop-again : tie.Need-loop-again Inv-loop μ-loop
-unfolding pick
-loop-again c =
-    let at-if1 = c .before .before in
-    sym (first-turn _ _ _ _ (at-if1 .before .loop-test .taken) ∙ simp (lt-leb _ _ (at-if1 .if1 .left), sym (c .before .item-matches .ensures) ∙ c .if2 .left))
-    ∙ at-if1 .before .before .loop .inv
+loop-again c = let if1 = c .before .before in first-on _ _ _ _ (if1 .before .before .loop .inv) (if1 .before .loop-test .taken) (if1 .if1 .left) (c .before .item-matches .ensures) (c .if2 .left)
 
 returns-3 : tie.Need-returns-3 Inv-loop μ-loop
 unfolding firstOf
-returns-3 c = sym (first-over _ _ _ _ (c .loop-test .left)) ∙ c .before .loop .inv
+returns-3 c = first-over _ _ _ _ (c .before .loop .inv) (c .loop-test .left)
 
 pub first-of-spec : {M : Type 1} → statement M
 first-of-spec =
