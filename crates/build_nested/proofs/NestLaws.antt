@@ -138,6 +138,7 @@ module _ (ws ar : List ℕ) (t : ℕ) (key : List ℕ) (guest : ℕ) where
   unfolding insertTable pick
   table-invalid h = simp h
 
-  pub nest-at-key : valid ws (length ar) ≡ true → nestAtKey ws ar t key guest ≡ insertTable ws ar t key guest
+  pub nest-at-key : valid ws (length ar) ≡ true → {n : ℕ} → n ≡ t → {g : ℕ} → g ≡ guest → {told : Outcome Inserted} → told ≡ nestAtKey ws ar n key g
+      → told ≡ insertTable ws ar t key guest
   unfolding insertTable pick
-  nest-at-key h = simp h
+  nest-at-key h is held e = e ∙ simp (h, is, held)

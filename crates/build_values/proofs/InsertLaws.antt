@@ -21,11 +21,6 @@ use Rattle.build_tables.specs.Table.{freeStanding}
 use Rattle.build_values.specs.Walk.{descend, wayOf, sum}
 use Rattle.build_values.specs.Insert.{refused, Extended, extended, containers, added, insertNew, overwrite, insertOrReplace, insertBelowPath, keyed, insertAtKey, insertValue}
 
-pub way-is : (ws ar : List ℕ) (t : ℕ) (key : List ℕ) (w : Way) (sep : ℕ) → sep ≡ tableSeparator ws t → w ≡ descend ws ar t key (endsPast sep key 0) 0 0
-    → w ≡ wayOf ws ar t key
-unfolding wayOf
-way-is ws ar t key w sep is e = e ∙ ap (λ (s : ℕ). descend ws ar t key (endsPast s key 0) 0 0) is
-
 module _ (ws ar : List ℕ) (t : ℕ) (key : List ℕ) (c : Stored) where
   module _ (from parent : ℕ) where
     -- a new item
@@ -56,7 +51,11 @@ module _ (ws ar : List ℕ) (t : ℕ) (key : List ℕ) (c : Stored) where
       along-new h = simp (← is, le-ltb _ _ h)
 
   -- the way
-  module _ (deep : Bool) (w : Way) (is : w ≡ wayOf ws ar t key) where
+  module _ (deep : Bool) {sep : ℕ} (sep-is : sep ≡ tableSeparator ws t) {w : Way} (way : w ≡ descend ws ar t key (endsPast sep key 0) 0 0) where
+    is : w ≡ wayOf ws ar t key
+    unfolding wayOf
+    is = way ∙ ap (λ (s : ℕ). descend ws ar t key (endsPast s key 0) 0 0) sep-is
+
     pub way-blocked : w .clear ≡ false → refused NotContainer ws ar ≡ insertBelowPath ws ar t key c deep
     unfolding insertBelowPath pick
     way-blocked h = simp (← is, h)
@@ -66,9 +65,9 @@ module _ (ws ar : List ℕ) (t : ℕ) (key : List ℕ) (c : Stored) where
       unfolding insertBelowPath pick
       way-deep h = simp (← is, clear, h)
 
-      pub way-along : deep ≡ false → insertOrReplace ws ar t key c (w .from) (w .parent) ≡ insertBelowPath ws ar t key c deep
+      pub way-along : deep ≡ false → {told : Outcome Inserted} → told ≡ insertOrReplace ws ar t key c (w .from) (w .parent) → told ≡ insertBelowPath ws ar t key c deep
       unfolding insertBelowPath pick
-      way-along h = simp (← is, clear, h)
+      way-along h e = e ∙ simp (← is, clear, h)
 
 -- an item that is there
 pub old-full : (ws ar : List ℕ) (i : ℕ) (c : Stored) → length ar < roomUsed ws + length (c .value) → refused ArenaFull ws ar ≡ overwrite ws ar i c
@@ -119,6 +118,6 @@ module _ (ws ar : List ℕ) (t : ℕ) (key value : List ℕ) where
   unfolding insertValue pick
   value-invalid h = simp h
 
-  pub value-valid : valid ws (length ar) ≡ true → insertAtKey ws ar t key value ≡ insertValue ws ar t key value
+  pub value-valid : valid ws (length ar) ≡ true → {n : ℕ} → n ≡ t → {told : Outcome Inserted} → told ≡ insertAtKey ws ar n key value → told ≡ insertValue ws ar t key value
   unfolding insertValue pick
-  value-valid h = simp h
+  value-valid h is e = e ∙ simp (h, is)

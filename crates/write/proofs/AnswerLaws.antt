@@ -108,18 +108,18 @@ module _ (ws ar before : List ℕ) (t : ℕ) where
   abbrev pub FromTable : Written → List ℕ → Type 0
   FromTable r after = Given (tableAnswer ws ar t (length before)) r (imageFor ws ar t) before after
 
-  pub table-empty : hasEmpty (stateOf ws ar) deepest t ≡ true → FromTable (Written.Refused EmptyKey) before
+  pub table-empty : {told : Bool} → told ≡ hasEmpty (stateOf ws ar) deepest t → told ≡ true → FromTable (Written.Refused EmptyKey) before
   unfolding tableAnswer
-  table-empty e = refused _ (imageFor ws ar t) before (Written.Refused EmptyKey) (sym (pick-true (Written.Refused EmptyKey) (sizeAnswer (length before) (length (stateOf ws ar t .members)) (length (imageFor ws ar t))) e)) (nothing-empty (imageFor ws ar t) before)
+  table-empty is e = refused _ (imageFor ws ar t) before (Written.Refused EmptyKey) (sym (pick-true (Written.Refused EmptyKey) (sizeAnswer (length before) (length (stateOf ws ar t .members)) (length (imageFor ws ar t))) (sym is ∙ e))) (nothing-empty (imageFor ws ar t) before)
 
-  pub table-indexed : hasEmpty (stateOf ws ar) deepest t ≡ false → (numbered after : List ℕ) (r : Written) → NumberedAs ws ar numbered → t < 64
+  pub table-indexed : {told : Bool} → told ≡ hasEmpty (stateOf ws ar) deepest t → told ≡ false → (numbered after : List ℕ) (r : Written) → NumberedAs ws ar numbered → t < 64
       → r ≡ fitAnswer numbered ar t (length before) → after ≡ laidBy (fitAnswer numbered ar t (length before)) (numberedImage numbered ar t) before → FromTable r after
   unfolding tableAnswer fitAnswer
-  table-indexed none numbered after r s l e f =
+  table-indexed is none numbered after r s l e f =
       let image : numberedImage numbered ar t ≡ imageFor ws ar t = numbered-image ws ar numbered s t l in
       let same : sizeAnswer (length before) (slotCount numbered t) (length (numberedImage numbered ar t)) ≡ pick (hasEmpty (stateOf ws ar) deepest t) (Written.Refused EmptyKey) (sizeAnswer (length before) (length (stateOf ws ar t .members)) (length (imageFor ws ar t))) =
       ap (λ (n : ℕ). sizeAnswer (length before) n (length (numberedImage numbered ar t))) (numbered-count ws ar numbered s t l) ∙ ap (λ (x : List ℕ). sizeAnswer (length before) (length (stateOf ws ar t .members)) (length x)) image
-      ∙ sym (pick-false (Written.Refused EmptyKey) (sizeAnswer (length before) (length (stateOf ws ar t .members)) (length (imageFor ws ar t))) none) in
+      ∙ sym (pick-false (Written.Refused EmptyKey) (sizeAnswer (length before) (length (stateOf ws ar t .members)) (length (imageFor ws ar t))) (sym is ∙ none)) in
       record { answers = e ∙ same; lays = f ∙ ap (λ (a : Written). laidBy a (numberedImage numbered ar t) before) same ∙ ap (λ (x : List ℕ). laidBy (pick (hasEmpty (stateOf ws ar) deepest t) (Written.Refused EmptyKey) (sizeAnswer (length before) (length (stateOf ws ar t .members)) (length (imageFor ws ar t)))) x before) image }
 
   -- ---- the whole answer

@@ -54,10 +54,10 @@ front-length : (ws roster : List ℕ) (i : ℕ) → length (frontWords ws roster
 unfolding frontWords
 front-length ws roster i = refl
 
-pub halves-put : (ws roster firsts l : List ℕ) (i at : ℕ)
-    → putAt (putAt l at (frontWords ws roster i)) (at + 4) (backWords ws roster firsts i) ≡ putAt l at (slotWords ws roster firsts i)
+pub halves-put : (ws roster firsts l : List ℕ) (i : ℕ) {s slot : ℕ} → s ≡ slot → {front : List ℕ} → front ≡ putAt l (128 + 8 * s) (frontWords ws roster i)
+    → {all : List ℕ} → all ≡ putAt front (128 + 8 * s + 4) (backWords ws roster firsts i) → all ≡ putAt l (128 + 8 * slot) (slotWords ws roster firsts i)
 unfolding slotWords
-halves-put ws roster firsts l i at = sym (put-append l at (frontWords ws roster i) (backWords ws roster firsts i) ∙ ap (λ (n : ℕ). putAt (putAt l at (frontWords ws roster i)) (at + n) (backWords ws roster firsts i)) (front-length ws roster i))
+halves-put ws roster firsts l i same e f = f ∙ rw (e, same, put-append, front-length)
 
 module _ (l vs : List ℕ) (long : length l ≡ 9344) (eight : length vs ≡ 8) (s : ℕ) (low : s < 1024) where
   put-own : (which : ℕ) → which < 8 → slotWord (putAt l (128 + 8 * s) vs) s which ≡ getD vs which 0

@@ -19,12 +19,12 @@ unfolding measured pick
 beyond n h = rw (lt-ltb longestFile n h)
 
 -- an end that is measured is the end, and within bounds
-pub end-is : (n e : ℕ) → Measured.End e ≡ measured n → (e ≡ n) × (e ≤ longestFile)
-end-is n e p =
+pub end-is : (n : ℕ) {m : Measured} → m ≡ measured n → {e : ℕ} → m ≡ Measured.End e → (e ≡ n) × (e ≤ longestFile)
+end-is n is {e} p =
     ⊎-elim
     (λ h. let z : _≡_ {A = ℕ} 0 1 = cc (beyond n h) in absurd (omega arith))
     (λ h. let q : e ≡ n = cc (within n h) in (q, omega arith))
     (lt-or-ge longestFile n)
 
-pub long-is : (n : ℕ) → Measured.TooLong ≡ measured n → longestFile < n
-long-is n p = ⊎-elim (λ h. h) (λ h. let z : _≡_ {A = ℕ} 0 1 = cc (within n h) in absurd (omega arith)) (lt-or-ge longestFile n)
+pub long-is : (n : ℕ) {m : Measured} → m ≡ measured n → m ≡ Measured.TooLong → longestFile < n
+long-is n is p = ⊎-elim (λ h. h) (λ h. let z : _≡_ {A = ℕ} 0 1 = cc (within n h) in absurd (omega arith)) (lt-or-ge longestFile n)

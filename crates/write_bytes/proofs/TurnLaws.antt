@@ -11,9 +11,12 @@ use Rattle.image.specs.Plan.{Plan, wordsOf, itemBytes, place}
 use Rattle.image.specs.Laid.{Laid}
 use Rattle.image.proofs.LaidLaws.{laid-none, laid-as}
 use Rattle.image.proofs.PlanLaws.{offset-zero, offset-rises, plan-end}
-use Rattle.layout.specs.Limits.{mostTables, mostItems}
+use Rattle.layout.specs.Limits.{mostTables, mostItems, longestFile}
 use Rattle.write_bytes.specs.Numbered.{firstSlot, slotCount, slotWord, numberedPlan, numberedBytes, NumberedFits}
+use Rattle.write_bytes.specs.declared.Measured.{Measured}
+use Rattle.write_bytes.specs.Measure.{measured}
 use Rattle.write_bytes.specs.Slot.{headBytes, slotStart, slotRecord, slotItem}
+use Rattle.write_bytes.proofs.MeasureLaws.{end-is, long-is}
 use Rattle.write_bytes.proofs.TableLaws.{Half, half-none, half-more, half-all, offset-more, plan-count, plan-first, plan-start, plan-item, plan-record, table-none, table-plan}
 
 -- table t where the depth left is d, and where its fragments and values start
@@ -78,15 +81,24 @@ module _ {numbered arena : List ℕ} {t at d first count : ℕ} (g : AtTable num
     item-is = rw (g .first-is) (plan-item (numberedBytes numbered arena (d - 1)) numbered arena t (g .fits) (g .known) k (omega arith) end)
 
     -- where item k ends, the next one starts
-    pub next-is : end + length (slotItem (numberedBytes numbered arena (d - 1)) numbered arena (first + k) end) ≡ place (planAt numbered arena d t) (baseAt numbered arena d t at) (k + 1)
+    next-is : end + length (slotItem (numberedBytes numbered arena (d - 1)) numbered arena (first + k) end) ≡ place (planAt numbered arena d t) (baseAt numbered arena d t at) (k + 1)
     next-is = rw (← item-is, e) (sym (offset-more (planAt numbered arena d t) (baseAt numbered arena d t at) k))
 
     -- and that lies in the table
-    pub next-within : end + length (slotItem (numberedBytes numbered arena (d - 1)) numbered arena (first + k) end) ≤ at + length (numberedBytes numbered arena d t at)
+    next-within : end + length (slotItem (numberedBytes numbered arena (d - 1)) numbered arena (first + k) end) ≤ at + length (numberedBytes numbered arena d t at)
     next-within =
         let p = planAt numbered arena d t in
         let base = baseAt numbered arena d t at in
         omega (arith, next-is, table-ends, offset-rises p base (k + 1) count (omega arith))
+
+    -- what measuring it answers
+    pub item-over : {m : Measured} → m ≡ measured (end + length (slotItem (numberedBytes numbered arena (d - 1)) numbered arena (first + k) end)) → m ≡ Measured.TooLong
+        → longestFile < at + length (numberedBytes numbered arena d t at)
+    item-over is p = omega (arith, long-is _ is p, next-within)
+
+    pub item-ends : {m : Measured} → m ≡ measured (end + length (slotItem (numberedBytes numbered arena (d - 1)) numbered arena (first + k) end)) → {stop : ℕ} → m ≡ Measured.End stop
+        → (stop ≤ longestFile) × (stop ≡ place (planAt numbered arena d t) (baseAt numbered arena d t at) (k + 1))
+    item-ends is p = let e = end-is _ is p in (e .1, e .0 ∙ next-is)
 
     pub turn : (room : ℕ) → at + length (numberedBytes numbered arena d t at) ≤ room → Turn numbered arena d (first + k) (at + 8 + 4 * count + 24 * k) end room
     turn room h =

@@ -79,9 +79,10 @@ module _ (key : ℕ → List ℕ) where
     unfolding rightFirst
     left-ended h k = rw (drop-of-length-le l h, drop-cons r j 0 k)
 
-    pub neither-ended : i < length l → j < length r → rightFirst key (drop i l) (drop j r) ≡ precedes (key (getD r j 0)) (key (getD l i 0))
+    pub neither-ended : i < length l → j < length r → {left : ℕ} → getD l i 0 ≡ left → {told : Bool} → told ≡ precedes (key (getD r j 0)) (key left)
+        → told ≡ rightFirst key (drop i l) (drop j r)
     unfolding rightFirst
-    neither-ended h k = rw (drop-cons r j 0 k, drop-cons l i 0 h)
+    neither-ended h k is e = e ∙ rw (drop-cons r j 0 k, drop-cons l i 0 h, is)
 
 -- ---- two sorted lists, merged
 

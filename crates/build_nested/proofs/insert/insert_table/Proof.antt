@@ -1,10 +1,8 @@
 -- `build_nested::insert::insert_table` meets its contract: 29, or what valid memory gives.
 use Rattle.build_nested.proofs.NestLaws.{table-invalid, nest-at-key}
-use Rattle.build_nested.specs.Nest.{nestAtKey}
 use Rattle.build_memory.proofs.MemoryLaws.{valid-facts}
 use borrow.Author.Tests.{not-true, not-false}
-use Prim.Native.Nat.{ℕ}
-use mathlib.Core.Path.{sym, ap, _∙_}
+use mathlib.Core.Path.{sym, _∙_}
 use borrow.Author.Needs.{needs}
 use Rattle.build_nested.proofs.insert.insert_table.Statement.{statement}
 use Rattle.build_nested.proofs.insert.insert_table.Tie as tie
@@ -37,11 +35,8 @@ same-length-4 : tie.Need-same-length-4
 same-length-4 c = search needs
 
 returns-2 : tie.Need-returns-2
-returns-2 c = let a = c .before .before .before .before .before .before .before .before .before .before .before .before .before .before .before .before .args in
-    c .before .before .before .before .nest-at-key .ensures
-    ∙ ap (λ (t : ℕ). nestAtKey (a .words .now) (a .arena .now) t (a .key .now) (c .before .before .before .before .before .before .before .word-size2 .result)) (c .before .before .before .before .before .before .before .before .word-size .ensures .0)
-    ∙ ap (λ (g : ℕ). nestAtKey (a .words .now) (a .arena .now) (a .table) (a .key .now) g) (c .before .before .before .before .before .before .before .word-size2 .ensures .0)
-    ∙ nest-at-key _ _ _ _ _ (sym (c .before .before .before .before .before .before .before .before .before .before .judge .ensures) ∙ not-false _ (c .before .before .before .before .before .before .before .before .before .if1 .left))
+returns-2 c = nest-at-key _ _ _ _ _ (sym (c .before .before .before .before .before .before .before .before .before .before .judge .ensures) ∙ not-false _ (c .before .before .before .before .before .before .before .before .before .if1 .left))
+    (c .before .before .before .before .before .before .before .before .word-size .ensures .0) (c .before .before .before .before .before .before .before .word-size2 .ensures .0) (c .before .before .before .before .nest-at-key .ensures)
 
 pub insert-table-spec : {M : Type 1} → statement M
 insert-table-spec =

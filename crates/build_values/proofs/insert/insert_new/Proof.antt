@@ -1,5 +1,6 @@
 -- `build_values::insert::insert_new` meets its contract: 22, 23, or what is missing is made.
 use Rattle.build_values.proofs.InsertLaws.{new-many, new-full, new-made}
+use Rattle.build_memory.specs.Item.{stored}
 use native.Mathlib.Omega.{arith}
 use borrow.Author.Needs.{needs}
 use Rattle.build_values.proofs.insert.insert_new.Statement.{statement}
@@ -65,7 +66,7 @@ returns-4 c = let a = c .before .before .before .before .before .before .before 
     let l1 = c .before .before .before .before .before .before .before .before .before .before .before .before .if1 .left in
     let l2 = c .before .before .before .before .before .before .before .before .before .if2 .left in
     let l3 = c .before .before .before .before .before .before .before .if3 .left in
-    new-made (a .words .now) (a .arena .now) (a .job .table) (a .key .now) _ (a .walked .way .from) (a .walked .way .parent) _ _ _ (c .before .before .before .before .before .before .before .before .before .before .before .before .before .before .before .before .before .table-word .ensures) (c .before .before .before .before .before .before .before .before .before .before .before .before .before .before .before .cost-of .ensures .0)
+    new-made (a .words .now) (a .arena .now) (a .job .table) (a .key .now) (stored (a .job .kind) (a .value .now) (a .job .guest)) (a .walked .way .from) (a .walked .way .parent) _ _ _ (c .before .before .before .before .before .before .before .before .before .before .before .before .before .before .before .before .before .table-word .ensures) (c .before .before .before .before .before .before .before .before .before .before .before .before .before .before .before .cost-of .ensures .0)
     (c .before .before .before .before .before .before .before .before .before .before .before .before .before .before .before .cost-of .ensures .1) (omega arith) (omega arith) _ (c .before .before .before .before .build-new .ensures)
 
 pub insert-new-spec : {M : Type 1} → statement M

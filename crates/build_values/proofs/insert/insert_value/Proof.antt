@@ -1,10 +1,8 @@
 -- `build_values::insert::insert_value` meets its contract: 29, or what valid memory gives.
 use Rattle.build_values.proofs.InsertLaws.{value-invalid, value-valid}
-use Rattle.build_values.specs.Insert.{insertAtKey}
 use Rattle.build_memory.proofs.MemoryLaws.{valid-facts}
 use borrow.Author.Tests.{not-true, not-false}
-use Prim.Native.Nat.{ℕ}
-use mathlib.Core.Path.{sym, ap, _∙_}
+use mathlib.Core.Path.{sym, _∙_}
 use borrow.Author.Needs.{needs}
 use Rattle.build_values.proofs.insert.insert_value.Statement.{statement}
 use Rattle.build_values.proofs.insert.insert_value.Tie as tie
@@ -34,10 +32,8 @@ same-length-4 : tie.Need-same-length-4
 same-length-4 c = search needs
 
 returns-2 : tie.Need-returns-2
-returns-2 c = let a = c .before .before .before .before .before .before .before .before .before .before .before .before .before .before .before .before .args in
-    c .before .before .before .before .insert-at-key .ensures
-    ∙ ap (λ (t : ℕ). insertAtKey (a .words .now) (a .arena .now) t (a .key .now) (a .value .now)) (c .before .before .before .before .before .before .before .word-size .ensures .0)
-    ∙ value-valid _ _ _ _ _ (sym (c .before .before .before .before .before .before .before .before .before .judge .ensures) ∙ not-false _ (c .before .before .before .before .before .before .before .before .if1 .left))
+returns-2 c = value-valid _ _ _ _ _ (sym (c .before .before .before .before .before .before .before .before .before .judge .ensures) ∙ not-false _ (c .before .before .before .before .before .before .before .before .if1 .left))
+    (c .before .before .before .before .before .before .before .word-size .ensures .0) (c .before .before .before .before .insert-at-key .ensures)
 
 pub insert-value-spec : {M : Type 1} → statement M
 insert-value-spec =

@@ -1,10 +1,5 @@
 -- `write::slot::put_slot` meets its contract: four words and four more.
-use mathlib.Core.Path.{ap, _∙_}
-use Prim.Native.Nat.{ℕ, _+_, _*_}
 use native.Mathlib.Omega.{arith}
-use mathlib.Core.List.{List}
-use Rattle.words.specs.Store.{putAt}
-use Rattle.write.specs.NumberedAs.{backWords, slotWords}
 use Rattle.write.proofs.TurnLaws.{halves-put}
 use borrow.Author.Needs.{needs}
 use Rattle.write.proofs.slot.put_slot.Statement.{statement}
@@ -34,9 +29,7 @@ same-length c = search needs
 returns : tie.Need-returns
 returns c =
     let a = c .before .before .before .before .before .before .before .before .before .before .before .before .before .args in
-    c .before .before .put-back .ensures ∙ ap (λ (l : List ℕ). putAt l (128 + 8 * c .before .before .before .before .before .before .before .before .slot-of .result + 4) (backWords (a .words .now) (a .roster .now) (a .firsts .now) (a .i))) (c .before .before .before .before .before .before .put-front .ensures)
-    ∙ halves-put (a .words .now) (a .roster .now) (a .firsts .now) (a .numbered .now) (a .i) (128 + 8 * c .before .before .before .before .before .before .before .before .slot-of .result)
-    ∙ ap (λ (s : ℕ). putAt (a .numbered .now) (128 + 8 * s) (slotWords (a .words .now) (a .roster .now) (a .firsts .now) (a .i))) (c .before .before .before .before .before .before .before .before .slot-of .ensures .0)
+    halves-put (a .words .now) (a .roster .now) (a .firsts .now) (a .numbered .now) (a .i) (c .before .before .before .before .before .before .before .before .slot-of .ensures .0) (c .before .before .before .before .before .before .put-front .ensures) (c .before .before .put-back .ensures)
 
 pub put-slot-spec : {M : Type 1} → statement M
 put-slot-spec =

@@ -1,5 +1,4 @@
 -- `write::write::write_if_fits` meets its contract, answer by answer.
-use mathlib.Core.Path.{sym, _∙_}
 use native.Mathlib.Omega.{arith}
 use Rattle.write_bytes.proofs.MeasureLaws.{end-is, long-is}
 use Rattle.write.proofs.AnswerLaws.{numbered-long, numbered-wide, numbered-laid}
@@ -20,14 +19,14 @@ returns : tie.Need-returns
 returns c =
     let a = c .before .before .before .before .before .before .args in
     let p = c .before .before .before .before .before .before .pre in
-    let g = numbered-long (a .numbered .now) (a .arena .now) (a .image .now) (a .table) (long-is _ (sym (c .enum-told .given .1) ∙ c .before .before .measure .ensures)) in
+    let g = numbered-long (a .numbered .now) (a .arena .now) (a .image .now) (a .table) (long-is _ (c .before .before .measure .ensures) (c .enum-told .given .1)) in
     (g .answers, g .lays)
 
 returns-2 : tie.Need-returns-2
 returns-2 c =
     let a = c .before .before .before .before .before .before .before .before .args in
     let p = c .before .before .before .before .before .before .before .before .pre in
-    let e = end-is _ _ (sym (c .before .before .size .given .1) ∙ c .before .before .before .before .measure .ensures) in
+    let e = end-is _ (c .before .before .before .before .measure .ensures) (c .before .before .size .given .1) in
     let g = numbered-wide (a .numbered .now) (a .arena .now) (a .image .now) (a .table) (omega (arith, e .0, c .if1 .taken)) in
     (g .answers, g .lays)
 
@@ -35,7 +34,7 @@ lay-into-requires : tie.Need-lay-into-requires
 lay-into-requires c κs =
     let a = c .before .before .before .before .before .before .before .before .before .args in
     let p = c .before .before .before .before .before .before .before .before .before .pre in
-    let e = end-is _ _ (sym (c .before .before .before .size .given .1) ∙ c .before .before .before .before .before .measure .ensures) in
+    let e = end-is _ (c .before .before .before .before .before .measure .ensures) (c .before .before .before .size .given .1) in
     (p .0, ((p .1, e .0), (omega (arith, c .before .if1 .left), e .1)))
 
 add-end : tie.Need-add-end
@@ -69,7 +68,7 @@ cast-t19 : tie.Need-cast-t19
 cast-t19 c =
     let a = c .before .before .before .before .before .before .before .before .before .before .before .before .before .args in
     let p = c .before .before .before .before .before .before .before .before .before .before .before .before .before .pre in
-    let e = end-is _ _ (sym (c .before .before .before .before .before .before .before .size .given .1) ∙ c .before .before .before .before .before .before .before .before .before .measure .ensures) in
+    let e = end-is _ (c .before .before .before .before .before .before .before .before .before .measure .ensures) (c .before .before .before .before .before .before .before .size .given .1) in
     omega (arith, e .1)
 
 same-length : tie.Need-same-length
@@ -79,7 +78,7 @@ returns-3 : tie.Need-returns-3
 returns-3 c =
     let a = c .before .before .before .before .before .before .before .before .before .before .before .before .before .args in
     let p = c .before .before .before .before .before .before .before .before .before .before .before .before .before .pre in
-    let e = end-is _ _ (sym (c .before .before .before .before .before .before .before .size .given .1) ∙ c .before .before .before .before .before .before .before .before .before .measure .ensures) in
+    let e = end-is _ (c .before .before .before .before .before .before .before .before .before .measure .ensures) (c .before .before .before .before .before .before .before .size .given .1) in
     let g = numbered-laid (a .numbered .now) (a .arena .now) (a .image .now) (a .table) _ _ _ (e .0) (e .1) (omega (arith, c .before .before .before .before .before .if1 .left)) (c .slot-count .ensures) (c .before .before .before .lay-into .ensures) in
     (g .answers, g .lays)
 

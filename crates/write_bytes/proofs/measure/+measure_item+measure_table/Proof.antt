@@ -14,8 +14,8 @@ use Rattle.write_bytes.specs.Numbered.{slotWord, numberedBytes}
 use Rattle.write_bytes.specs.Slot.{slotItem}
 use Rattle.write_bytes.specs.Measure.{measured}
 use Rattle.write_bytes.proofs.ItemLaws.{AtSlot, slot-in, slot-fits, cover-fits, item-end, table-item, plain-item}
-use Rattle.write_bytes.proofs.TurnLaws.{AtTable, planAt, baseAt, nothing-long, first-offset, table-ends, table-least, few, next-is, next-within}
-use Rattle.write_bytes.proofs.MeasureLaws.{within, beyond, end-is, long-is}
+use Rattle.write_bytes.proofs.TurnLaws.{AtTable, planAt, baseAt, nothing-long, first-offset, table-ends, table-least, few, item-over, item-ends}
+use Rattle.write_bytes.proofs.MeasureLaws.{within, beyond}
 use Rattle.write_bytes.proofs.measure.measure_item.Reads as measure-item
 use Rattle.write_bytes.proofs.measure.measure_item.Kinds as measure-item-kinds
 use Rattle.write_bytes.proofs.measure.+measure_item+measure_table.Lts-measure_item as measure-item-lts
@@ -112,7 +112,7 @@ measure-item-returns-2 t c =
     let inner = numberedBytes numbered arena (s .args .depth) in
     let kind = sym (c .before .before .before .slot-word .ensures) ∙ c .before .before .if2 .taken in
     let ends = table-item g inner (s .args .at) kind (c .before .slot-word2 .ensures) (c .before .before .before .before .before .value-start .ensures) in
-    c .measure-table .ensures ∙ ap measured (sym ends)
+    rw ends (c .measure-table .ensures)
 
 measure-item-cover-requires : (t : ℕ) → measure-item-lts.Need-cover-requires (measure-item-claims t) (measure-item-at t) measure-item.Post
 measure-item-cover-requires t c κs =
@@ -233,9 +233,7 @@ measure-table-returns-3 : (t : ℕ) → measure-table-lts.Need-returns-3 (measur
 measure-table-returns-3 t c =
     let g = measure-table-given t (c .before .before .before .before .before .before) in
     let at = c .before .before .before .before .loop in
-    let over = long-is _ (sym (c .enum-told .given .1) ∙ c .before .before .measure-item .ensures) in
-    let next = next-within g (at .k) (c .before .before .before .loop-test .taken) (at .inv .2) in
-    sym (beyond _ (omega (arith, over, next)))
+    sym (beyond _ (item-over g (at .k) (c .before .before .before .loop-test .taken) (at .inv .2) (c .before .before .measure-item .ensures) (c .enum-told .given .1)))
 
 measure-table-add-k : (t : ℕ) → measure-table-lts.Need-add-k (measure-table-claims t) (measure-table-at t) measure-table.Post measure-table-Inv-loop measure-table-μ-loop
 measure-table-add-k t c =
@@ -249,11 +247,9 @@ measure-table-loop-again : (t : ℕ) → measure-table-lts.Need-loop-again (meas
 measure-table-loop-again t c =
     let g = measure-table-given t (c .before .before .before .before .before .before .before) in
     let at = c .before .before .before .before .before .loop in
-    let stop = end-is _ _ (sym (c .before .stop .given .1) ∙ c .before .before .before .measure-item .ensures) in (
-      omega (arith, c .before .before .before .before .loop-test .taken),
-      stop .1,
-      stop .0 ∙ next-is g (at .k) (c .before .before .before .before .loop-test .taken) (at .inv .2),
-    )
+    let less = c .before .before .before .before .loop-test .taken in
+    let ends = item-ends g (at .k) less (at .inv .2) (c .before .before .before .measure-item .ensures) (c .before .stop .given .1) in
+    (omega (arith, less), ends .0, ends .1)
 
 measure-table-returns-4 : (t : ℕ) → measure-table-lts.Need-returns-4 (measure-table-claims t) (measure-table-at t) measure-table.Post measure-table-Inv-loop measure-table-μ-loop
 measure-table-returns-4 t c =

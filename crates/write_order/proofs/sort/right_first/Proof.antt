@@ -1,5 +1,5 @@
 -- `write_order::sort::right_first` meets its contract: the right run has ended, the left one has, or both have an item.
-use mathlib.Core.Path.{_≡_, sym, _∙_}
+use mathlib.Core.Path.{_≡_, sym}
 use Prim.Native.Nat.{_<_}
 use native.Mathlib.Omega.{arith}
 use lib.ListN.{length, take}
@@ -44,9 +44,8 @@ returns-3 : tie.Need-returns-3
 returns-3 c =
     let s = c .before .before .before .before .before .before .before .before in
     let i-in : s .args .i < s .args .mid = omega (arith, s .pre .1, c .before .before .before .if2 .left) in
-    c .comes-before .ensures
-    ∙ sym (neither-ended (keyOf (s .args .words .now) (s .args .arena .now)) (take (s .args .mid) (s .args .run .now)) (s .args .run .now) (s .args .i) (s .args .j) (omega (arith, left-long s)) (omega (arith, s .pre .1, c .before .before .before .before .if1 .left))
-    ∙ rw (getD-take (s .args .mid) (s .args .run .now) (s .args .i) 0))
+    neither-ended (keyOf (s .args .words .now) (s .args .arena .now)) (take (s .args .mid) (s .args .run .now)) (s .args .run .now) (s .args .i) (s .args .j) (omega (arith, left-long s)) (omega (arith, s .pre .1, c .before .before .before .before .if1 .left))
+    (getD-take (s .args .mid) (s .args .run .now) (s .args .i) 0 i-in) (c .comes-before .ensures)
 
 pub right-first-spec : {M : Type 1} → statement M
 right-first-spec =
