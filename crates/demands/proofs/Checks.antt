@@ -7,6 +7,7 @@ use native.Mathlib.Omega.{arith}
 use lib.ListN.{length, take}
 use Rattle.layout.specs.Limits.{deepest}
 use Rattle.layout.specs.Sizes.{headerSize}
+use Rattle.layout.proofs.RefusalLaws.{refused-some}
 use Rattle.words.specs.Choice.{pick}
 use Rattle.words.specs.Hash.{plain}
 use Rattle.words.proofs.ChoiceLaws.{pick-with}
@@ -43,7 +44,7 @@ use Rattle.gvdb.specs.Checking.{checkedAnswer}
 use Rattle.demands.specs.Last.{Held}
 use Rattle.demands.specs.Demand3.{AllPass, EveryImagePasses, PassesExactlyTheSound, NamesTheFirst, OpensFirst}
 use Rattle.demands.proofs.Contracts.{opening-is, checking-is}
-use Rattle.demands.proofs.Told.{refused-some, told-pointer}
+use Rattle.demands.proofs.Told.{told-pointer}
 use Rattle.demands.proofs.HeldLaws.{heldIn}
 use Rattle.demands.proofs.Rows.{ItemOf, item-of, no-item}
 use Rattle.demands.proofs.Write.{success, success-back, success-passes}
@@ -149,7 +150,7 @@ module _ (file ws ar : List ℕ) where
       by-text true e = by-held (heldIn (meaning ws ar .items) t key) e refl
       by-text false e = absurd (placed-none _ from to 7 is (back .not-text key e .table))
 
-  all-pass : (d t at : ℕ) → AllBack plain file (stateOf ws ar) d t at → laid.AllPass plain file (stateOf ws ar) d t at → AllPass file d at (endOf (stateOf ws ar) t at)
+  pub all-pass : (d t at : ℕ) → AllBack plain file (stateOf ws ar) d t at → laid.AllPass plain file (stateOf ws ar) d t at → AllPass file d at (endOf (stateOf ws ar) t at)
   unfolding AllBack laid.AllPass AllPass checkedAnswer checkedNumber
   all-pass zero t at back pass = pass
   all-pass (suc d) t at back pass = (

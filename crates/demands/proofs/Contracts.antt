@@ -6,6 +6,8 @@ use mathlib.Core.List.{List, [], _∷_}
 use denote.Ref.{now}
 use lib.ListN.{length}
 use Rattle.words.specs.Hash.{plain}
+use Rattle.layout.specs.Answer.{headerLaidNumber}
+use Rattle.layout.specs.Header.{readHeader, headerLaid, withHeader}
 use Rattle.layout.specs.Table.{openTable}
 use Rattle.read.specs.Lookup.{lookupValue, lookupTable}
 use Rattle.read.specs.Listing.{keyAt, listed, written}
@@ -20,16 +22,18 @@ use Rattle.gvdb.specs.declared.building.GvdbTable.{GvdbTable}
 use Rattle.gvdb.specs.declared.building.GvdbInserted.{GvdbInserted}
 use Rattle.gvdb.specs.declared.building.GvdbCount.{GvdbCount}
 use Rattle.gvdb.specs.declared.writing.GvdbImage.{GvdbImage}
+use Rattle.gvdb.specs.declared.header.GvdbHeader.{GvdbHeader}
 use Rattle.gvdb.specs.declared.reading.GvdbOpened.{GvdbOpened}
 use Rattle.gvdb.specs.declared.reading.GvdbPlace.{GvdbPlace}
 use Rattle.gvdb.specs.declared.reading.GvdbKey.{GvdbKey}
 use Rattle.gvdb.specs.declared.checking.GvdbCheck.{GvdbCheck}
+use Rattle.gvdb.specs.Header.{orderOf, headedAnswer}
 use Rattle.gvdb.specs.Building.{told, addedAnswer, insertedAnswer, countedAnswer}
 use Rattle.gvdb.specs.Reading.{openedAnswer, lookedAnswer, listedAnswer}
 use Rattle.gvdb.specs.Checking.{checkedAnswer}
 use Rattle.gvdb.specs.Writing.{writtenAnswer}
 use Rattle.demands.specs.Calls.{Call, Does, Starts}
-use Rattle.demands.specs.Readers.{Opening, Getting, GettingTable, Listing, Checking}
+use Rattle.demands.specs.Readers.{ReadingHeader, LayingHeader, Opening, Getting, GettingTable, Listing, Checking}
 use Rattle.demands.specs.Model as model
 
 -- ---- the builder's calls
@@ -92,7 +96,14 @@ pub starts-is : (m : Memory) (said : ℕ) (after : Memory) → Starts m said aft
 unfolding told
 starts-is m said after (Starts.fresh c) = (ap (λ (o : Outcome ℕ). o .answer) (c .meets), ap (λ (o : Outcome ℕ). o .after) (c .meets))
 
--- ---- the readers and the check
+-- ---- the header, the readers and the check
+
+pub reading-header-is : (file : List ℕ) (r : GvdbHeader) → ReadingHeader file r → r ≡ headedAnswer (readHeader file)
+reading-header-is file r (ReadingHeader.reading-header c) = c .meets
+
+pub laying-header-is : (target : List ℕ) (big start end number : ℕ) (left : List ℕ) → LayingHeader target big start end number left
+    → (number ≡ headerLaidNumber (headerLaid (length target))) × (left ≡ withHeader target (orderOf big) start end)
+laying-header-is target big start end number left (LayingHeader.laying-header c) = c .meets
 
 pub opening-is : (file : List ℕ) (start end : ℕ) (r : GvdbOpened) → Opening file start end r → r ≡ openedAnswer (openTable file start end)
 opening-is file start end r (Opening.opening c) = c .meets

@@ -13,6 +13,7 @@ use Rattle.text.specs.Utf8.{isUtf8}
 use Rattle.layout.specs.Answer.{openedNumber}
 use Rattle.layout.specs.Table.{openTable}
 use Rattle.layout.specs.declared.table.Opened.{Opened}
+use Rattle.layout.proofs.RefusalLaws.{refused-some}
 use Rattle.read.specs.declared.lookup.Looked.{Looked}
 use Rattle.read.specs.Lookup.{lookupTable}
 use Rattle.model.specs.declared.Counted.{Counted}
@@ -49,7 +50,7 @@ use Rattle.demands.specs.Last.{Held, held}
 use Rattle.demands.specs.Model.{counted, written}
 use Rattle.demands.specs.Demand2.{Tells, Opens, Answers, Demand2}
 use Rattle.demands.proofs.Contracts.{answers, leavesLent, does-is, opening-is}
-use Rattle.demands.proofs.Told.{refused-some, value-told, table-told, both-told, bytes-told, pointer-told}
+use Rattle.demands.proofs.Told.{value-told, table-told, both-told, bytes-told, pointer-told}
 use Rattle.demands.proofs.HeldLaws.{heldIn}
 use Rattle.demands.proofs.Rows.{item-of, no-item}
 use Rattle.demands.proofs.Writable.{holds-guest}
@@ -138,7 +139,7 @@ module _ (room : ℕ) (events : List Event) (m : Memory) (h : History room event
   holds : (t : ℕ) (key : List ℕ) → heldIn (meant m .items) t key ≡ held t key events
   holds t key = ap (λ (b : Builder). heldIn (b .items) t key) (memory-means-the-builder room events m h) ∙ held-is t key room events m h
 
-  reads : fullyValid (m .words) (m .arena) ≡ true → (d t at : ℕ) → t < tableTotal (m .words) → AllBack plain file state d t at → Answers events m file d t at (endOf state t at)
+  pub reads : fullyValid (m .words) (m .arena) ≡ true → (d t at : ℕ) → t < tableTotal (m .words) → AllBack plain file state d t at → Answers events m file d t at (endOf state t at)
   unfolding AllBack Answers
   reads whole zero t at known back = back
   reads whole (suc d) t at known back = (

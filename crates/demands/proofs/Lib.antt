@@ -14,5 +14,6 @@ pub mod Told
 pub mod Rows
 pub mod Demands
 pub mod Checks
+pub mod Files
 pub mod Answered
 pub mod Inhabited

@@ -10,6 +10,9 @@ use Rattle.words.specs.Store.{putAt}
 use Rattle.words.proofs.ChoiceLaws.{pick-with}
 use Rattle.layout.specs.declared.refusal.Refusal.{Refusal}
 use Rattle.layout.specs.declared.refusal.Refusal.the-variants.{SeparatorOutside, TooManyTables, MemoryBroken, BufferTooShort}
+use Rattle.layout.specs.declared.header.HeaderLaid.{HeaderLaid}
+use Rattle.layout.specs.Answer.{headerLaidNumber}
+use Rattle.layout.specs.Header.{headerBytes, headerLaid, whenLaid, withHeader}
 use Rattle.read.specs.declared.listing.Listed.{Listed}
 use Rattle.read.specs.Chain.{Joined}
 use Rattle.read.specs.Listing.{keyAt, listed, written}
@@ -28,11 +31,12 @@ use Rattle.build_nested.proofs.AnswerLaws.{table-still}
 use Rattle.write.specs.declared.Written.{Written}
 use Rattle.write.specs.Write.{writeAnswer, writtenNumber, imageFor, laidBy, imageAfter}
 use Rattle.gvdb.specs.declared.reading.GvdbKey.{GvdbKey}
+use Rattle.gvdb.specs.Header.{orderOf}
 use Rattle.gvdb.specs.Reading.{listedAnswer}
 use Rattle.demands.specs.Calls.{Call, lent, accepted}
 use Rattle.demands.specs.Model as model
-use Rattle.demands.specs.Demand1.{RefusalChangesNothing, RefusedStartChangesNothing, RefusedListingWritesNothing}
-use Rattle.demands.proofs.Contracts.{answers, leaves, leavesLent, does-is, starts-is, listing-is}
+use Rattle.demands.specs.Demand1.{RefusalChangesNothing, RefusedStartChangesNothing, RefusedListingWritesNothing, RefusedHeaderWritesNothing}
+use Rattle.demands.proofs.Contracts.{answers, leaves, leavesLent, does-is, starts-is, listing-is, laying-header-is}
 
 -- ---- inserts
 
@@ -110,3 +114,16 @@ unfolding listedAnswer
 refused-listing-writes-nothing file start end position out r left l n =
     let is = listing-is file start end position out r left l in
     is .1 ∙ listed-still (keyAt file start end position) out position (λ e. n (ap (λ (k : GvdbKey). k .number) (is .0) ∙ e))
+
+-- ---- laying a header
+
+header-still : (a : HeaderLaid) (laid target : List ℕ) → (headerLaidNumber a ≡ 0 → ⊥) → whenLaid a laid target ≡ target
+unfolding whenLaid headerLaidNumber
+header-still HeaderLaid.Laid laid target n = absurd (n refl)
+header-still (HeaderLaid.Refused why) laid target n = refl
+
+pub refused-header-writes-nothing : RefusedHeaderWritesNothing
+unfolding withHeader
+refused-header-writes-nothing target big start end number left l n =
+    let is = laying-header-is target big start end number left l in
+    is .1 ∙ header-still (headerLaid (length target)) (putAt target 0 (headerBytes (orderOf big) start end)) target (λ e. n (is .0 ∙ e))

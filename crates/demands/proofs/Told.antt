@@ -1,13 +1,10 @@
 -- What the contracts of the readers tell of an answer that the definitions give.
-use Prim.Native.Nat.{ℕ, zero, suc, _-_, _<_}
+use Prim.Native.Nat.{ℕ, _-_}
 use mathlib.Core.Path.{_≡_, refl, sym, ap, _∙_}
 use mathlib.Core.List.{List}
-use native.Mathlib.Omega.{arith}
 use Rattle.words.specs.Hash.{plain}
 use Rattle.words.specs.Store.{part}
-use Rattle.layout.specs.declared.refusal.Refusal.{Refusal}
-use Rattle.layout.specs.declared.refusal.Refusal.the-variants.{FileTooLong, PointerOutside, Misaligned, TableTooShort, BloomTooLong, BucketsTooLong, ItemsUneven, KeyNotUtf8, FragmentNotUtf8, ParentOutside, ParentsEndless, KeyNotFound, OtherKind, BufferTooShort, PastTheLast, KeyTooLong, NotContainer, TooManyItems, ArenaFull, TableUnknown, TableInItself, NestedTooDeep, TooManyTables, SeparatorOutside, MemoryBroken, EmptyKey, ImageTooLong, CheckBroken}
-use Rattle.layout.specs.Refusal.{number}
+use Rattle.layout.proofs.RefusalLaws.{refused-some}
 use Rattle.read.specs.declared.lookup.Looked.{Looked}
 use Rattle.read.specs.Lookup.{lookupValue, lookupTable}
 use Rattle.read.specs.Answer.{lookedNumber, lookedPointer}
@@ -17,37 +14,6 @@ use Rattle.gvdb.specs.Reading.{lookedAnswer}
 use Rattle.demands.specs.Readers.{Getting, GettingTable}
 use Rattle.demands.specs.Demand2.{Both}
 use Rattle.demands.proofs.Contracts.{getting-is, getting-table-is}
-
--- no refusal has the number 0
-pub refused-some : (why : Refusal) → number why ≡ 0 → ⊥
-refused-some FileTooLong e = omega arith
-refused-some PointerOutside e = omega arith
-refused-some Misaligned e = omega arith
-refused-some TableTooShort e = omega arith
-refused-some BloomTooLong e = omega arith
-refused-some BucketsTooLong e = omega arith
-refused-some ItemsUneven e = omega arith
-refused-some KeyNotUtf8 e = omega arith
-refused-some FragmentNotUtf8 e = omega arith
-refused-some ParentOutside e = omega arith
-refused-some ParentsEndless e = omega arith
-refused-some KeyNotFound e = omega arith
-refused-some OtherKind e = omega arith
-refused-some BufferTooShort e = omega arith
-refused-some PastTheLast e = omega arith
-refused-some KeyTooLong e = omega arith
-refused-some NotContainer e = omega arith
-refused-some TooManyItems e = omega arith
-refused-some ArenaFull e = omega arith
-refused-some TableUnknown e = omega arith
-refused-some TableInItself e = omega arith
-refused-some NestedTooDeep e = omega arith
-refused-some TooManyTables e = omega arith
-refused-some SeparatorOutside e = omega arith
-refused-some MemoryBroken e = omega arith
-refused-some EmptyKey e = omega arith
-refused-some ImageTooLong e = omega arith
-refused-some CheckBroken e = omega arith
 
 -- a lookup's answer with 0 has a pointer
 pointer-of : (l : Looked) → lookedAnswer l .number ≡ 0 → l ≡ Looked.Pointer (lookedAnswer l .start) (lookedAnswer l .end)

@@ -91,14 +91,14 @@ module _ (ws ar buffer : List ℕ) (t start end size : ℕ) (e : writeAnswer ws 
   made : Success ws ar t (length buffer) start end size
   made = success ws ar t (length buffer) start end size e
 
-  writable : Writable (stateOf ws ar) deepest t
+  pub writable : Writable (stateOf ws ar) deepest t
   writable = free-standing-writable ws ar (made .whole) t (made .root)
 
-  short-image : length (imageOf plain (stateOf ws ar) t) ≤ longestFile
+  pub short-image : length (imageOf plain (stateOf ws ar) t) ≤ longestFile
   unfolding imageFor
   short-image = omega (arith, made .long, made .short)
 
-  file-is : take size (imageAfter ws ar t buffer) ≡ imageOf plain (stateOf ws ar) t
+  pub file-is : take size (imageAfter ws ar t buffer) ≡ imageOf plain (stateOf ws ar) t
   unfolding imageFor
   file-is = success-lays ws ar buffer t start end size e
 

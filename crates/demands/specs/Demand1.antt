@@ -7,7 +7,7 @@ use mathlib.Core.List.{List}
 use Rattle.build_memory.specs.Memory.{Memory}
 use Rattle.gvdb.specs.declared.reading.GvdbKey.{GvdbKey}
 use Rattle.demands.specs.Calls.{Call, Does, Starts, lent, number, accepted, Event, History}
-use Rattle.demands.specs.Readers.{Listing}
+use Rattle.demands.specs.Readers.{Listing, LayingHeader}
 
 -- the builder's calls
 abbrev pub RefusalChangesNothing : Type 0
@@ -24,6 +24,11 @@ abbrev pub RefusedListingWritesNothing : Type 0
 RefusedListingWritesNothing =
     (file : List ℕ) (start end position : ℕ) (out : List ℕ) (r : GvdbKey) (left : List ℕ) → Listing file start end position out r left
     → (r .number ≡ 0 → ⊥) → left ≡ out
+
+-- laying a header
+abbrev pub RefusedHeaderWritesNothing : Type 0
+RefusedHeaderWritesNothing =
+    (target : List ℕ) (big start end number : ℕ) (left : List ℕ) → LayingHeader target big start end number left → (number ≡ 0 → ⊥) → left ≡ target
 
 -- after any history, no call is refused with 29
 abbrev pub Never29 : Type 0

@@ -6,5 +6,6 @@ pub mod Means
 pub mod Demand1
 pub mod Demand2
 pub mod Demand3
+pub mod File
 pub mod Success
 pub mod Inhabited

@@ -2,10 +2,15 @@
 use Prim.Native.Nat.{ℕ}
 use mathlib.Core.List.{List}
 use denote.Ref.{now}
+use Rattle.gvdb.specs.declared.header.GvdbHeader.{GvdbHeader}
 use Rattle.gvdb.specs.declared.reading.GvdbOpened.{GvdbOpened}
 use Rattle.gvdb.specs.declared.reading.GvdbPlace.{GvdbPlace}
 use Rattle.gvdb.specs.declared.reading.GvdbKey.{GvdbKey}
 use Rattle.gvdb.specs.declared.checking.GvdbCheck.{GvdbCheck}
+use Rattle.gvdb.proofs.header.gvdb_read_header.Kinds as read-header-kinds
+use Rattle.gvdb.proofs.header.gvdb_read_header.Reads as read-header-reads
+use Rattle.gvdb.proofs.header.gvdb_lay_header.Kinds as lay-header-kinds
+use Rattle.gvdb.proofs.header.gvdb_lay_header.Reads as lay-header-reads
 use Rattle.gvdb.proofs.reading.gvdb_open.Kinds as open-kinds
 use Rattle.gvdb.proofs.reading.gvdb_open.Reads as open-reads
 use Rattle.gvdb.proofs.reading.gvdb_get.Kinds as get-kinds
@@ -17,6 +22,15 @@ use Rattle.gvdb.proofs.reading.gvdb_next_key.Reads as next-key-reads
 use Rattle.gvdb.proofs.checking.gvdb_check.Kinds as check-kinds
 use Rattle.gvdb.proofs.checking.gvdb_check.Reads as check-reads
 use Rattle.demands.specs.Calls.{Met}
+
+-- reading the header of a file
+pub data ReadingHeader : List ℕ → GvdbHeader → Type 0 where
+  reading-header : (c : Met read-header-kinds.ps read-header-kinds.r read-header-reads.Post) → ReadingHeader (now (c .given .0)) (c .answer)
+
+-- laying one into a lent target, by a byte order (0 is little, every other number big) and a root pointer: what the target held, the answer, and what it holds then
+pub data LayingHeader : List ℕ → ℕ → ℕ → ℕ → ℕ → List ℕ → Type 0 where
+  laying-header : (c : Met lay-header-kinds.ps lay-header-kinds.r lay-header-reads.Post)
+      → LayingHeader (now (c .given .0)) (c .given .1 .0) (c .given .1 .1 .0) (c .given .1 .1 .1 .0) (c .answer) (now (c .left .0))
 
 -- opening the table at a pointer of a file
 pub data Opening : List ℕ → ℕ → ℕ → GvdbOpened → Type 0 where

@@ -3,3 +3,4 @@ pub mod Checking
 pub mod Building
 pub mod Writing
 pub mod Worked
+pub mod Header

@@ -2,5 +2,6 @@
 // numbers: the document's number, 0 for a success, and the values beside it, 0 on a refusal unless said otherwise.
 pub mod building;
 pub mod checking;
+pub mod header;
 pub mod reading;
 pub mod writing;

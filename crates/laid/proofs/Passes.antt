@@ -5,8 +5,8 @@ use Prim.Native.Nat.{ℕ, zero, suc, _%_, _≤_}
 use native.Mathlib.Omega.{arith}
 use lib.ListN.{length}
 use lib.Seq.{take-length}
-use Rattle.words.specs.Store.{putAt, zeros}
-use Rattle.words.proofs.StoreLaws.{length-zeros, length-put}
+use Rattle.words.specs.Store.{putAt}
+use Rattle.words.proofs.StoreLaws.{length-put}
 use Rattle.layout.specs.Limits.{longestFile, deepest}
 use Rattle.check_table.specs.Sound.{SoundTable}
 use Rattle.check_table.proofs.SoundLaws.{passes-exactly-the-sound}
@@ -15,11 +15,12 @@ use Rattle.layout.specs.Sizes.{headerSize}
 use Rattle.image.specs.Image.{tableBytes, imageOf}
 use Rattle.image.specs.WellFormed.{Writable}
 use Rattle.image.specs.Laid.{Holds}
-use Rattle.image.proofs.LaidLaws.{holds-put, holds-next}
+use Rattle.image.proofs.LaidLaws.{holds-put}
 use Rattle.laid.specs.Back.{endOf, tableOpened, valueOffset}
 use Rattle.laid.proofs.ReadBack.{opens-back, table-looked, nested-back}
 use Rattle.laid.specs.Passing.{AllPass, LaidTablePasses, LaidTablesAllPass, ImagePasses}
 use Rattle.laid.proofs.LaidLaws.{laid-sound}
+use Rattle.laid.proofs.ImageBack.{root-held}
 
 -- a laid table is sound
 pub table-sound : (rule : ℕ → ℕ) (file : List ℕ) (state : State) (d t at : ℕ) → Holds file at (tableBytes rule state (suc d) t at) → length file ≤ longestFile → at % 4 ≡ 0
@@ -47,12 +48,13 @@ all-pass rule file state (suc d) t at held short even good = (
 )
 
 module _ (rule : ℕ → ℕ) (state : State) (root : ℕ) (good : Writable state deepest root) where
+  -- any file that holds the root table behind the header's 24 bytes
+  pub root-passes : (file : List ℕ) → length file ≤ longestFile → Holds file headerSize (tableBytes rule state deepest root headerSize) → AllPass rule file state deepest root headerSize
+  root-passes file short held = all-pass rule file state deepest root headerSize held short refl good
+
   -- any file that starts with the image, whatever stands behind it
   pub front-passes : (file : List ℕ) → length file ≤ longestFile → Holds file 0 (imageOf rule state root) → AllPass rule file state deepest root headerSize
-  unfolding imageOf
-  front-passes file short held =
-      all-pass rule file state deepest root headerSize
-      (holds-next file 0 (zeros headerSize) (tableBytes rule state deepest root headerSize) headerSize (omega (arith, length-zeros headerSize)) held) short refl good
+  front-passes file short held = root-passes file short (root-held rule state root file held)
 
   -- the image by itself
   pub alone-passes : length (imageOf rule state root) ≤ longestFile → AllPass rule (imageOf rule state root) state deepest root headerSize

@@ -1,10 +1,11 @@
--- No two refusals have the same number.
+-- No two refusals have the same number, and none has 0.
 use Prim.Native.Nat.{ℕ}
 use mathlib.Core.Path.{_≡_, refl, sym, ap, _∙_}
+use native.Mathlib.Omega.{arith}
 use lib.Dec.{eqb}
 use Rattle.words.specs.Choice.{pick}
 use Rattle.layout.specs.declared.refusal.Refusal.{Refusal}
-use Rattle.layout.specs.declared.refusal.Refusal.the-variants.{FileTooLong, PointerOutside, Misaligned, TableTooShort, BloomTooLong, BucketsTooLong, ItemsUneven, KeyNotUtf8, FragmentNotUtf8, ParentOutside, ParentsEndless, KeyNotFound, OtherKind, BufferTooShort, PastTheLast, KeyTooLong, NotContainer, TooManyItems, ArenaFull, TableUnknown, TableInItself, NestedTooDeep, TooManyTables, SeparatorOutside, MemoryBroken, EmptyKey, ImageTooLong, CheckBroken}
+use Rattle.layout.specs.declared.refusal.Refusal.the-variants.{FileTooLong, PointerOutside, Misaligned, TableTooShort, BloomTooLong, BucketsTooLong, ItemsUneven, KeyNotUtf8, FragmentNotUtf8, ParentOutside, ParentsEndless, KeyNotFound, OtherKind, BufferTooShort, PastTheLast, HeaderTooShort, SignatureUnknown, ListBroken, VersionUnknown, KeyTooLong, NotContainer, TooManyItems, ArenaFull, TableUnknown, TableInItself, NestedTooDeep, TooManyTables, SeparatorOutside, MemoryBroken, EmptyKey, ImageTooLong, HeadsTooFew, TooManyFilterWords, ReportTooShort, CheckBroken}
 use Rattle.layout.specs.Refusal.{number}
 
 -- the refusal of a number; the last where it has none
@@ -25,6 +26,10 @@ refusal n =
     pick (eqb n 13) OtherKind (
     pick (eqb n 14) BufferTooShort (
     pick (eqb n 15) PastTheLast (
+    pick (eqb n 16) HeaderTooShort (
+    pick (eqb n 17) SignatureUnknown (
+    pick (eqb n 18) ListBroken (
+    pick (eqb n 19) VersionUnknown (
     pick (eqb n 20) KeyTooLong (
     pick (eqb n 21) NotContainer (
     pick (eqb n 22) TooManyItems (
@@ -37,7 +42,10 @@ refusal n =
     pick (eqb n 29) MemoryBroken (
     pick (eqb n 30) EmptyKey (
     pick (eqb n 31) ImageTooLong (
-    CheckBroken)))))))))))))))))))))))))))
+    pick (eqb n 32) HeadsTooFew (
+    pick (eqb n 33) TooManyFilterWords (
+    pick (eqb n 34) ReportTooShort (
+    CheckBroken))))))))))))))))))))))))))))))))))
 
 back : (why : Refusal) → refusal (number why) ≡ why
 unfolding pick refusal
@@ -56,6 +64,10 @@ back KeyNotFound = refl
 back OtherKind = refl
 back BufferTooShort = refl
 back PastTheLast = refl
+back HeaderTooShort = refl
+back SignatureUnknown = refl
+back ListBroken = refl
+back VersionUnknown = refl
 back KeyTooLong = refl
 back NotContainer = refl
 back TooManyItems = refl
@@ -68,7 +80,15 @@ back SeparatorOutside = refl
 back MemoryBroken = refl
 back EmptyKey = refl
 back ImageTooLong = refl
+back HeadsTooFew = refl
+back TooManyFilterWords = refl
+back ReportTooShort = refl
 back CheckBroken = refl
 
 pub number-injective : (a b : Refusal) → number a ≡ number b → a ≡ b
 number-injective a b e = sym (back a) ∙ ap refusal e ∙ back b
+
+-- no refusal has the number 0: it would be the last one, whose number is 40
+pub refused-some : (why : Refusal) → number why ≡ 0 → ⊥
+unfolding refusal pick
+refused-some why e = let z : _≡_ {A = ℕ} 0 40 = sym e ∙ ap number (sym (back why) ∙ ap refusal e) in omega arith

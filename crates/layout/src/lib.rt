@@ -1,4 +1,5 @@
-// How a file is laid out: limits and sizes, refusals and their numbers, kinds, pointers, items, tables.
+// How a file is laid out: limits and sizes, the header, refusals and their numbers, kinds, pointers, items, tables.
+pub mod header;
 pub mod item;
 pub mod kind;
 pub mod limits;

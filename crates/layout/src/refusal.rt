@@ -18,6 +18,10 @@ pub enum Refusal {
     OtherKind,
     BufferTooShort,
     PastTheLast,
+    HeaderTooShort,
+    SignatureUnknown,
+    ListBroken,
+    VersionUnknown,
     KeyTooLong,
     NotContainer,
     TooManyItems,
@@ -30,6 +34,9 @@ pub enum Refusal {
     MemoryBroken,
     EmptyKey,
     ImageTooLong,
+    HeadsTooFew,
+    TooManyFilterWords,
+    ReportTooShort,
     CheckBroken,
 }
 
@@ -53,6 +60,10 @@ pub fn number_of(why: Refusal) -> u32
         Refusal::OtherKind => 13,
         Refusal::BufferTooShort => 14,
         Refusal::PastTheLast => 15,
+        Refusal::HeaderTooShort => 16,
+        Refusal::SignatureUnknown => 17,
+        Refusal::ListBroken => 18,
+        Refusal::VersionUnknown => 19,
         Refusal::KeyTooLong => 20,
         Refusal::NotContainer => 21,
         Refusal::TooManyItems => 22,
@@ -65,6 +76,9 @@ pub fn number_of(why: Refusal) -> u32
         Refusal::MemoryBroken => 29,
         Refusal::EmptyKey => 30,
         Refusal::ImageTooLong => 31,
+        Refusal::HeadsTooFew => 32,
+        Refusal::TooManyFilterWords => 33,
+        Refusal::ReportTooShort => 34,
         Refusal::CheckBroken => 40,
     }
 }

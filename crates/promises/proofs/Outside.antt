@@ -3,6 +3,12 @@ use mathlib.Core.Path.{_≡_, sym, _∙_}
 use denote.Ref.{now}
 use Rattle.promises.specs.One.{One, OneAnswer}
 use Rattle.promises.proofs.Same.{outcomes}
+use Rattle.gvdb.proofs.header.gvdb_abi.Kinds as abi-kinds
+use Rattle.gvdb.proofs.header.gvdb_abi.Reads as abi-reads
+use Rattle.gvdb.proofs.header.gvdb_read_header.Kinds as read-header-kinds
+use Rattle.gvdb.proofs.header.gvdb_read_header.Reads as read-header-reads
+use Rattle.gvdb.proofs.header.gvdb_lay_header.Kinds as lay-header-kinds
+use Rattle.gvdb.proofs.header.gvdb_lay_header.Reads as lay-header-reads
 use Rattle.gvdb.proofs.building.gvdb_memory_words.Kinds as memory-words-kinds
 use Rattle.gvdb.proofs.building.gvdb_memory_words.Reads as memory-words-reads
 use Rattle.gvdb.proofs.building.gvdb_fresh.Kinds as fresh-kinds
@@ -29,6 +35,15 @@ use Rattle.gvdb.proofs.reading.gvdb_next_value.Kinds as next-value-kinds
 use Rattle.gvdb.proofs.reading.gvdb_next_value.Reads as next-value-reads
 use Rattle.gvdb.proofs.writing.gvdb_write.Kinds as write-kinds
 use Rattle.gvdb.proofs.writing.gvdb_write.Reads as write-reads
+
+pub abi-unique : OneAnswer abi-kinds.ps abi-kinds.r abi-reads.Post
+abi-unique κs a s t x y p q = p ∙ sym q
+
+pub read-header-unique : OneAnswer read-header-kinds.ps read-header-kinds.r read-header-reads.Post
+read-header-unique κs a s t x y p q = p ∙ sym q
+
+pub lay-header-unique : One lay-header-kinds.ps lay-header-kinds.r lay-header-reads.Post (λ κs s t x y. (s ≡ t) × (now (x .0) ≡ now (y .0)))
+lay-header-unique κs a s t x y p q = (p .0 ∙ sym (q .0), p .1 ∙ sym (q .1))
 
 pub memory-words-unique : OneAnswer memory-words-kinds.ps memory-words-kinds.r memory-words-reads.Post
 memory-words-unique κs a s t x y p q = p ∙ sym q

@@ -1,6 +1,7 @@
 -- Numbers, texts, pointers and tables: words, text and layout.
-use mathlib.Core.Path.{sym, _∙_}
-use Rattle.promises.specs.One.{OneAnswer}
+use mathlib.Core.Path.{_≡_, sym, _∙_}
+use denote.Ref.{now}
+use Rattle.promises.specs.One.{One, OneAnswer}
 use Rattle.words.proofs.align.bytes_of.Kinds as bytes-of-kinds
 use Rattle.words.proofs.align.bytes_of.Reads as bytes-of-reads
 use Rattle.words.proofs.bits.bloom_count.Kinds as bloom-count-kinds
@@ -37,6 +38,10 @@ use Rattle.text.proofs.utf8.first_bad.Kinds as first-bad-kinds
 use Rattle.text.proofs.utf8.first_bad.Reads as first-bad-reads
 use Rattle.text.proofs.utf8.is_utf8.Kinds as is-utf8-kinds
 use Rattle.text.proofs.utf8.is_utf8.Reads as is-utf8-reads
+use Rattle.layout.proofs.header.read_header.Kinds as read-header-kinds
+use Rattle.layout.proofs.header.read_header.Reads as read-header-reads
+use Rattle.layout.proofs.header.lay_header.Kinds as lay-header-kinds
+use Rattle.layout.proofs.header.lay_header.Reads as lay-header-reads
 use Rattle.layout.proofs.item.open_value.Kinds as open-value-kinds
 use Rattle.layout.proofs.item.open_value.Reads as open-value-reads
 use Rattle.layout.proofs.kind.byte_of.Kinds as byte-of-kinds
@@ -124,6 +129,12 @@ open-pointer-unique κs a s t x y p q = p ∙ sym q
 
 pub number-of-unique : OneAnswer number-of-kinds.ps number-of-kinds.r number-of-reads.Post
 number-of-unique κs a s t x y p q = p ∙ sym q
+
+pub read-header-unique : OneAnswer read-header-kinds.ps read-header-kinds.r read-header-reads.Post
+read-header-unique κs a s t x y p q = p ∙ sym q
+
+pub lay-header-unique : One lay-header-kinds.ps lay-header-kinds.r lay-header-reads.Post (λ κs s t x y. (s ≡ t) × (now (x .0) ≡ now (y .0)))
+lay-header-unique κs a s t x y p q = (p .0 ∙ sym (q .0), p .1 ∙ sym (q .1))
 
 pub open-table-unique : OneAnswer open-table-kinds.ps open-table-kinds.r open-table-reads.Post
 open-table-unique κs a s t x y p q = p ∙ sym q

@@ -91,6 +91,10 @@ put-append l at (v ∷ a) b =
     put-append (set l at v) (suc at) a b
     ∙ ap (λ (k : ℕ). putAt (putAt (set l at v) (suc at) a) k b) (suc-add at (length a) ∙ sym (add-suc at (length a)))
 
+-- a store right behind another is one store of both
+pub put-then : (l : List ℕ) (at : ℕ) (a b : List ℕ) {m n : List ℕ} {mid : ℕ} → mid ≡ at + length a → m ≡ putAt l at a → n ≡ putAt m mid b → n ≡ putAt l at (a ++ b)
+put-then l at a b e p q = q ∙ rw (p, e, put-append)
+
 -- one element more
 pub put-snoc : (l : List ℕ) (at : ℕ) (a : List ℕ) (v : ℕ) → putAt l at (a ++ (v ∷ [])) ≡ set (putAt l at a) (at + length a) v
 put-snoc l at a v = put-append l at a (v ∷ []) ∙ put-one (putAt l at a) (at + length a) v

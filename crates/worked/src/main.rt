@@ -1,5 +1,6 @@
 // Document 01's worked numbers and images as the code answers and lays them, its limits from both sides, and the boundary cases of UTF-8 and of
 // opening. What it writes is held to the file stdout.
+mod header;
 mod laid;
 mod open;
 mod say;
@@ -17,6 +18,7 @@ fn main() {
     utf8::sequences();
     open::pointers();
     open::tables();
+    header::headers();
     tour::files();
     laid::tables();
     seen::files();

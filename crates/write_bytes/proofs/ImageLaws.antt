@@ -10,7 +10,7 @@ use Rattle.layout.specs.Sizes.{headerSize}
 use Rattle.layout.specs.Limits.{deepest}
 use Rattle.image.specs.Laid.{Laid}
 use Rattle.write_bytes.specs.Numbered.{numberedBytes, numberedImage}
-use Rattle.write_bytes.proofs.PutLaws.{put-then}
+use Rattle.words.proofs.StoreLaws.{put-then}
 
 module _ (numbered arena : List ℕ) (root : ℕ) where
   pub length-image : length (numberedImage numbered arena root) ≡ headerSize + length (numberedBytes numbered arena deepest root headerSize)

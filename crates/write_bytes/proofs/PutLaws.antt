@@ -8,7 +8,7 @@ use lib.ListN.{length, length-append}
 use Rattle.words.specs.Choice.{pick}
 use Rattle.words.specs.Store.{part, putAt, zeros}
 use Rattle.words.specs.Field.{spelled}
-use Rattle.words.proofs.StoreLaws.{put-none, put-append, length-part}
+use Rattle.words.proofs.StoreLaws.{put-none, put-append, length-part, put-then}
 use Rattle.words.proofs.FieldLaws.{length-spelled}
 use Rattle.image.specs.Laid.{Laid}
 use Rattle.image.specs.Plan.{word, wordsOf}
@@ -16,10 +16,6 @@ use Rattle.image.proofs.PlanLaws.{length-words, words-more, fourth-word}
 use Rattle.layout.specs.Kind.{valueKind}
 use Rattle.write_bytes.specs.Numbered.{slotWord, childWord, slotCover}
 use Rattle.write_bytes.specs.Slot.{headBytes, slotRecord, slotKey, plainValue}
-
--- a store directly behind another is one store of both
-pub put-then : (l : List ℕ) (at : ℕ) (a b : List ℕ) {m n : List ℕ} {mid : ℕ} → mid ≡ at + length a → m ≡ putAt l at a → n ≡ putAt m mid b → n ≡ putAt l at (a ++ b)
-put-then l at a b e p q = q ∙ rw (p, e, put-append)
 
 -- ---- words
 

@@ -6,7 +6,7 @@ use native.Mathlib.Numerals.{add-one}
 use native.Mathlib.Omega.{arith}
 use lib.ListN.{length, length-append}
 use Rattle.words.specs.Store.{part, putAt}
-use Rattle.words.proofs.StoreLaws.{put-none, put-comm, length-part}
+use Rattle.words.proofs.StoreLaws.{put-none, put-comm, length-part, put-then}
 use Rattle.layout.specs.Sizes.{chunkSize}
 use Rattle.image.specs.Plan.{Plan, wordsOf, valueStart, itemBytes, payload, place, recordBytes, records, planBytes}
 use Rattle.image.specs.Laid.{Laid}
@@ -15,7 +15,7 @@ use Rattle.image.proofs.PlanLaws.{length-words, length-record, length-records, 
 use Rattle.layout.specs.Limits.{mostTables, mostItems}
 use Rattle.write_bytes.specs.Numbered.{firstSlot, slotCount, slotWord, numberedPlan, numberedBytes, NumberedFits, slotCover}
 use Rattle.write_bytes.specs.Slot.{headBytes, slotStart, slotRecord, slotKey, slotItem}
-use Rattle.write_bytes.proofs.PutLaws.{put-then, length-head}
+use Rattle.write_bytes.proofs.PutLaws.{length-head}
 
 -- ---- a plan, and what a loop over its items has laid
 

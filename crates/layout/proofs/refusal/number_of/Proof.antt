@@ -89,6 +89,27 @@ enum-told-27 c = search needs
 enum-told-28 : tie.Need-enum-told-28
 enum-told-28 c = search needs
 
+enum-told-29 : tie.Need-enum-told-29
+enum-told-29 c = search needs
+
+enum-told-30 : tie.Need-enum-told-30
+enum-told-30 c = search needs
+
+enum-told-31 : tie.Need-enum-told-31
+enum-told-31 c = search needs
+
+enum-told-32 : tie.Need-enum-told-32
+enum-told-32 c = search needs
+
+enum-told-33 : tie.Need-enum-told-33
+enum-told-33 c = search needs
+
+enum-told-34 : tie.Need-enum-told-34
+enum-told-34 c = search needs
+
+enum-told-35 : tie.Need-enum-told-35
+enum-told-35 c = search needs
+
 returns : tie.Need-returns
 returns c = sym (ap number (c .enum-told .given .1))
 
@@ -173,6 +194,27 @@ returns-27 c = sym (ap number (c .enum-told27 .given .1))
 returns-28 : tie.Need-returns-28
 returns-28 c = sym (ap number (c .enum-told28 .given .1))
 
+returns-29 : tie.Need-returns-29
+returns-29 c = sym (ap number (c .enum-told29 .given .1))
+
+returns-30 : tie.Need-returns-30
+returns-30 c = sym (ap number (c .enum-told30 .given .1))
+
+returns-31 : tie.Need-returns-31
+returns-31 c = sym (ap number (c .enum-told31 .given .1))
+
+returns-32 : tie.Need-returns-32
+returns-32 c = sym (ap number (c .enum-told32 .given .1))
+
+returns-33 : tie.Need-returns-33
+returns-33 c = sym (ap number (c .enum-told33 .given .1))
+
+returns-34 : tie.Need-returns-34
+returns-34 c = sym (ap number (c .enum-told34 .given .1))
+
+returns-35 : tie.Need-returns-35
+returns-35 c = sym (ap number (c .enum-told35 .given .1))
+
 pub number-of-spec : {M : Type 1} → statement M
 number-of-spec =
     tie.close
@@ -205,6 +247,13 @@ number-of-spec =
     enum-told-26
     enum-told-27
     enum-told-28
+    enum-told-29
+    enum-told-30
+    enum-told-31
+    enum-told-32
+    enum-told-33
+    enum-told-34
+    enum-told-35
     returns
     returns-2
     returns-3
@@ -232,4 +281,11 @@ number-of-spec =
     returns-25
     returns-26
     returns-27
-    returns-28)
+    returns-28
+    returns-29
+    returns-30
+    returns-31
+    returns-32
+    returns-33
+    returns-34
+    returns-35)

@@ -4,7 +4,8 @@ use Prim.Native.Nat.{ℕ, _+_}
 use native.Mathlib.Omega.{arith}
 use borrow.Author.Needs.{needs}
 use Rattle.write_bytes.specs.Slot.{headBytes}
-use Rattle.write_bytes.proofs.PutLaws.{put-then, length-head}
+use Rattle.words.proofs.StoreLaws.{put-then}
+use Rattle.write_bytes.proofs.PutLaws.{length-head}
 use Rattle.write_bytes.proofs.put.lay_front.Statement.{statement}
 use Rattle.write_bytes.proofs.put.lay_front.Tie as tie
 

@@ -1,0 +1,23 @@
+-- The header's answers as they cross to C, and the number of the interface.
+use Prim.Native.Nat.{ℕ}
+use lib.Dec.{eqb}
+use Rattle.words.specs.Choice.{pick}
+use Rattle.layout.specs.declared.header.ByteOrder.{ByteOrder}
+use Rattle.layout.specs.declared.header.Headed.{Headed}
+use Rattle.layout.specs.Answer.{headedNumber, headedOrder, headedPointer}
+use Rattle.gvdb.specs.declared.header.GvdbHeader.{GvdbHeader}
+
+abbrev pub abi : ℕ
+abi = 2
+
+-- 0 is little, every other number big
+unfoldable pub orderOf : ℕ → ByteOrder
+orderOf big = pick (eqb big 0) ByteOrder.Little ByteOrder.Big
+
+unfoldable pub headedAnswer : Headed → GvdbHeader
+headedAnswer headed = record {
+  number = headedNumber headed;
+  big = headedOrder headed;
+  start = headedPointer headed .0;
+  end = headedPointer headed .1;
+}
