@@ -1,5 +1,5 @@
 /*
- * A forest register in memory: two tables are built, laid as one image, read back and checked. Every answer is printed, refusals too.
+ * A forest register in memory: two tables are built, laid as one image with a header in front, read back and checked. Every answer is printed, refusals too.
  * Use: cc -I bindings/c bindings/c/example.c target/staticlib/libgvdb.a
  */
 #include <inttypes.h>
@@ -134,8 +134,36 @@ static void read_back(gvdb_image root)
     check("a pointer that is a byte too short", root);
 }
 
+static void read_header(const char *what, const uint8_t *file, size_t length)
+{
+    gvdb_header header = gvdb_read_header(file, length);
+    printf("header of %s: %" PRIu32 ", big %" PRIu32 ", root %" PRIu32 " to %" PRIu32 "\n", what, header.number, header.big, header.start, header.end);
+}
+
+/* A header laid into 24 bytes that held something else. */
+static void lay_header(uint32_t big)
+{
+    uint8_t header[24];
+    memset(header, 0xAA, sizeof header);
+    printf("lay a header into 23 bytes: %" PRIu32 ", first byte %02X\n", gvdb_lay_header(header, 23, big, 24, 60), (unsigned)header[0]);
+    printf("lay a header, big %" PRIu32 ": %" PRIu32 ",", big, gvdb_lay_header(header, sizeof header, big, 24, 60));
+    for (size_t i = 0; i < sizeof header; i++) {
+        printf(" %02X", (unsigned)header[i]);
+    }
+    printf("\n");
+    read_header("24 bytes", header, sizeof header);
+    read_header("23 bytes", header, 23);
+    header[12] = 0xFF;
+    read_header("a file with an option", header, sizeof header);
+    header[8] = 1;
+    read_header("a file of version 1", header, sizeof header);
+    header[4] ^= 1;
+    read_header("a file with a bit of its signature changed", header, sizeof header);
+}
+
 int main(void)
 {
+    printf("interface: %s\n", gvdb_abi() == GVDB_ABI ? "of the library's number" : "of another number than the library");
     start();
     uint32_t register_table = new_table("/");
     uint32_t owner = new_table("");
@@ -157,6 +185,11 @@ int main(void)
     printf("write into 100 bytes: %" PRIu32 "\n", written.number);
     written = gvdb_write(BUILDER, register_table, image, sizeof image);
     printf("write: %" PRIu32 ", root %" PRIu32 " to %" PRIu32 ", length %" PRIu32 "\n", written.number, written.start, written.end, written.length);
+    read_header("the image", image, written.length);
+    printf("lay its header: %" PRIu32 "\n", gvdb_lay_header(image, written.length, 0, written.start, written.end));
+    read_header("the file", image, written.length);
+    lay_header(0);
+    lay_header(7);
     read_back(written);
     image[written.end - 1] ^= 1;
     check("an image with a bit changed", written);

@@ -1,5 +1,5 @@
 /*
- * GVDB hash tables: read, checked, built and laid. The functions of libgvdb.a.
+ * GVDB files: the header and the hash tables, read, checked, built and laid. The functions of libgvdb.a.
  *
  * Nothing is allocated and nothing is kept between calls: the caller lends every buffer, and what a call answers depends on its arguments and on
  * what the lent buffers hold. No content of a buffer can make a call fail. Every answer has a number: 0 for a success, else a refusal (below). On a
@@ -32,10 +32,20 @@
 extern "C" {
 #endif
 
-/* The numbers of the answers. */
+/*
+ * The number of this interface. It goes up by one with each request that changes a function or a struct; what came with which number:
+ *   1: all that 2 does not name
+ *   2: gvdb_abi, gvdb_read_header with gvdb_header, gvdb_lay_header; the numbers 16, 17 and 19
+ */
+#define GVDB_ABI 2
+
+/* The number of the library that is linked. Another than GVDB_ABI is a library of other structs than those below. */
+uint32_t gvdb_abi(void);
+
+/* The numbers of the answers. 18, 32, 33 and 34 are set aside for calls to come; no call here answers them. */
 enum {
     GVDB_OK = 0,                  /* a success */
-    GVDB_FILE_TOO_LONG = 1,       /* the file has over 16,777,216 bytes */
+    GVDB_FILE_TOO_LONG = 1,       /* the file, or the target of a header, has over 16,777,216 bytes */
     GVDB_POINTER_OUTSIDE = 2,     /* a pointer's start is above its end, or its end past the file */
     GVDB_MISALIGNED = 3,          /* a pointer's start is not a multiple of the alignment asked */
     GVDB_TABLE_TOO_SHORT = 4,     /* the table has under 8 bytes */
@@ -50,6 +60,9 @@ enum {
     GVDB_OTHER_KIND = 13,         /* the item's kind is unknown, or another than asked */
     GVDB_BUFFER_TOO_SHORT = 14,   /* the listed key is longer than the lent buffer */
     GVDB_PAST_THE_LAST = 15,      /* the position is past the last item, or past the last value */
+    GVDB_HEADER_TOO_SHORT = 16,   /* the file, or the target, has under 24 bytes */
+    GVDB_SIGNATURE_UNKNOWN = 17,  /* the file begins neither with "GVariant" nor with "raVGtnai" */
+    GVDB_VERSION_UNKNOWN = 19,    /* the file's version is another than 0 */
     GVDB_KEY_TOO_LONG = 20,       /* the key of an insert has over 1,024 bytes */
     GVDB_NOT_CONTAINER = 21,      /* a parent on the key's path is not a container */
     GVDB_TOO_MANY_ITEMS = 22,     /* there would be over 1,024 items in all tables */
@@ -64,6 +77,14 @@ enum {
     GVDB_IMAGE_TOO_LONG = 31,     /* the image is longer than the lent buffer, or than 16,777,216 bytes */
     GVDB_CHECK_BROKEN = 40        /* an item of the table breaks a rule of the check */
 };
+
+/* What a header says: whether values are big endian, 1, or little endian, 0; and the pointer of the root table. */
+typedef struct gvdb_header {
+    uint32_t number;
+    uint32_t big;
+    uint32_t start;
+    uint32_t end;
+} gvdb_header;
 
 /* What a table opens as: how many items, buckets and bloom words it has. */
 typedef struct gvdb_opened {
@@ -130,7 +151,22 @@ typedef struct gvdb_image {
 } gvdb_image;
 
 /*
- * Reading. A table is named by the file's bytes and the pointer to it, from start up to end; the root pointer of a GVDB file is at its bytes 16 to 23.
+ * The header, a file's first 24 bytes: the signature in bytes 0 to 7, "GVariant", or "raVGtnai" where values are big endian; version 0 and options 0, of
+ * four bytes each; start and end of the root pointer in bytes 16 to 23. Its four numbers are little endian in every file, as all but the values is. The root
+ * pointer is judged in neither call: opening its table does that.
+ */
+
+/* Reads the header of a file. Refuses with 1, 16, 17, 19. Options are not looked at. */
+gvdb_header gvdb_read_header(const uint8_t *file, size_t file_length);
+
+/*
+ * Lays a header into the first 24 bytes of a target; all other bytes stay. big is 0 for values that are little endian, any other number for big. Refuses
+ * with 1, 16, so that what was laid can be read; of a longer buffer, lend the file's part. The answer is the number.
+ */
+uint32_t gvdb_lay_header(uint8_t *target, size_t target_length, uint32_t big, uint32_t start, uint32_t end);
+
+/*
+ * Reading. A table is named by the file's bytes and the pointer to it, from start up to end; that of the root table is gvdb_read_header's answer.
  * Opening refuses with 1, then 2 and 3 of the pointer, then 4 to 7; every call below opens the table first and refuses with the same numbers.
  */
 
@@ -198,8 +234,8 @@ gvdb_inserted gvdb_insert_table(size_t *words, size_t words_length, uint8_t *are
 gvdb_count gvdb_item_count(const size_t *words, size_t words_length, const uint8_t *arena, size_t arena_length, uint32_t table);
 
 /*
- * Lays the image of a table, with those nested in it, into the front of a buffer; bytes past the image stay, and bytes 0 to 23 are zeros, for a file's
- * header. The builder is as it was afterwards and can be used on; its words are borrowed during the call. Refuses with 24, 30, 31.
+ * Lays the image of a table, with those nested in it, into the front of a buffer; bytes past the image stay, and bytes 0 to 23 are zeros, for
+ * gvdb_lay_header. The builder is as it was afterwards and can be used on; its words are borrowed during the call. Refuses with 24, 30, 31.
  */
 gvdb_image gvdb_write(size_t *words, size_t words_length, const uint8_t *arena, size_t arena_length, uint32_t table, uint8_t *image, size_t image_length);
 
