@@ -1,6 +1,7 @@
 //! Building and writing: tables in memory of their own, laid as an image.
 
 use crate::ffi;
+use crate::header::{ByteOrder, Header};
 use crate::limits::{MAX_FILE, MAX_ITEMS, MAX_TABLES};
 use crate::refusal::{accepted, Refusal};
 use crate::table::Pointer;
@@ -41,7 +42,7 @@ impl TableNumber {
     }
 }
 
-/// What a write lays. Bytes 0 to 23 are zero: they are the file header's, with the root pointer in the last eight.
+/// What a write lays. Bytes 0 to 23 are zero: they are the file header's, which [`Header::lay`] lays over them.
 #[derive(Clone, PartialEq, Eq, Debug)]
 pub struct Image {
     /// The whole image.
@@ -140,6 +141,25 @@ impl Builder {
         bytes.truncate(written.length as usize);
         bytes.shrink_to_fit();
         Ok(Image { bytes, root: Pointer { start: written.start, end: written.end } })
+    }
+
+    /// A whole file: [`write`](Builder::write), and over the image the header with its root pointer and the byte order of the values, which are laid as they were
+    /// inserted. Refusals: those of a write.
+    ///
+    /// ```
+    /// # use gvdb::{Builder, ByteOrder, Header, Refusal};
+    /// let mut builder = Builder::new(16);
+    /// let root = builder.new_table(None).unwrap();
+    /// builder.insert(root, "a", [1, 2]).unwrap();
+    /// let file = builder.write_file(root, ByteOrder::Big).unwrap();
+    /// assert_eq!((file.len(), &file[..8]), (66, &b"raVGtnai"[..]));
+    /// assert_eq!(file[24..], builder.write(root).unwrap().bytes[24..]);
+    /// assert_eq!(Header::read(&file).map(|header| header.order), Ok(ByteOrder::Big));
+    /// ```
+    pub fn write_file(&mut self, table: TableNumber, order: ByteOrder) -> Result<Vec<u8>, Refusal> {
+        let Image { mut bytes, root } = self.write(table)?;
+        Header { order, root }.lay(&mut bytes)?;
+        Ok(bytes)
     }
 }
 

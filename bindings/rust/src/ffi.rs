@@ -2,6 +2,17 @@
 //! borrows keep the lent buffers of one call apart.
 #![allow(unsafe_code)]
 
+/// The number of the interface that this crate is written for, `GVDB_ABI` of gvdb.h. The build holds it to that and to the library's.
+pub const ABI: u32 = 2;
+
+#[repr(C)]
+pub struct Headed {
+    pub number: u32,
+    pub big: u32,
+    pub start: u32,
+    pub end: u32,
+}
+
 #[repr(C)]
 pub struct Opened {
     pub number: u32,
@@ -67,6 +78,9 @@ pub struct Written {
 }
 
 extern "C" {
+    fn gvdb_abi() -> u32;
+    fn gvdb_read_header(file: *const u8, size: usize) -> Headed;
+    fn gvdb_lay_header(target: *mut u8, size: usize, big: u32, start: u32, end: u32) -> u32;
     fn gvdb_open(file: *const u8, size: usize, start: u32, end: u32) -> Opened;
     fn gvdb_get(file: *const u8, size: usize, start: u32, end: u32, key: *const u8, length: usize) -> Place;
     fn gvdb_get_table(file: *const u8, size: usize, start: u32, end: u32, key: *const u8, length: usize) -> Place;
@@ -91,6 +105,19 @@ extern "C" {
     fn gvdb_insert_table(words: *mut usize, count: usize, arena: *mut u8, room: usize, table: u32, key: *const u8, length: usize, guest: u32) -> Inserted;
     fn gvdb_item_count(words: *const usize, count: usize, arena: *const u8, room: usize, table: u32) -> Counted;
     fn gvdb_write(words: *mut usize, count: usize, arena: *const u8, room: usize, table: u32, image: *mut u8, size: usize) -> Written;
+}
+
+/// The number of the interface of the library that is linked.
+pub fn abi() -> u32 {
+    unsafe { gvdb_abi() }
+}
+
+pub fn read_header(file: &[u8]) -> Headed {
+    unsafe { gvdb_read_header(file.as_ptr(), file.len()) }
+}
+
+pub fn lay_header(target: &mut [u8], big: u32, start: u32, end: u32) -> u32 {
+    unsafe { gvdb_lay_header(target.as_mut_ptr(), target.len(), big, start, end) }
 }
 
 pub fn open(file: &[u8], start: u32, end: u32) -> Opened {

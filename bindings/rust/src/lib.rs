@@ -1,20 +1,23 @@
-//! GVDB hash tables, read, checked, built and laid by the proved library of Fikelutra (`libgvdb.a`), as safe Rust.
+//! GVDB files, read, checked, built and laid by the proved library of Fikelutra (`libgvdb.a`), as safe Rust.
 //!
+//! - [`Header`] reads and lays a file's first 24 bytes: the byte order of its values, and the pointer to its root table.
 //! - [`Table`] reads: [`get`](Table::get), [`get_table`](Table::get_table), [`keys`](Table::keys), [`values`](Table::values), and the
 //!   [`check`](Table::check).
-//! - [`Builder`] builds and lays: [`insert`](Builder::insert), [`insert_table`](Builder::insert_table), [`write`](Builder::write).
-//! - [`Refusal`] says why a call was refused, by document 01's number. No bytes, pointer, key or order of calls can make a call fail otherwise.
+//! - [`Builder`] builds and lays: [`insert`](Builder::insert), [`insert_table`](Builder::insert_table),
+//!   [`write`](Builder::write), and a whole file by [`write_file`](Builder::write_file).
+//! - [`Refusal`] says why a call was refused, by the number of documents 01 and 02. No bytes, pointer, key or order of calls can make a call fail otherwise.
 //!
 //! ```
-//! use gvdb::{Builder, Inserted, Table};
+//! use gvdb::{Builder, ByteOrder, Header, Inserted, Table};
 //!
 //! # fn main() -> Result<(), gvdb::Refusal> {
 //! let mut builder = Builder::new(4096);
 //! let root = builder.new_table(Some(b'/'))?;
 //! assert_eq!(builder.insert(root, "/parcel/12/year", 2025u32.to_le_bytes())?, Inserted::New);
-//! let image = builder.write(root)?;
+//! let file = builder.write_file(root, ByteOrder::Little)?;
 //!
-//! let table = Table::open(&image.bytes, image.root.start, image.root.end)?;
+//! let root = Header::read(&file)?.root;
+//! let table = Table::open(&file, root.start, root.end)?;
 //! assert_eq!(table.get("/parcel/12/year")?, 2025u32.to_le_bytes());
 //! # Ok(())
 //! # }
@@ -24,7 +27,8 @@
 //!
 //! | gvdb-rs | here | differs in |
 //! |---|---|---|
-//! | `File::hash_table` | [`Table::open`] | the caller reads the file and its 24-byte header and gives the root pointer |
+//! | `File::from_bytes` | [`Header::read`] | the caller reads the file; the answer keeps none of it |
+//! | `File::hash_table` | [`Table::open`] | the caller gives the root pointer, which the header says |
 //! | `HashTable::get`, `get_value` | [`Table::get`] | answers the encoded bytes; GVariant is the caller's |
 //! | `HashTable::get_hash_table` | [`Table::get_hash_table`], [`Table::get_table`] | - |
 //! | `HashTable::keys`, `values` | [`Table::keys`], [`Table::values`] | values are bytes |
@@ -32,11 +36,13 @@
 //! | `HashTableBuilder::insert` and its kin | [`Builder::insert`] | takes encoded bytes, and says what was replaced |
 //! | `HashTableBuilder::insert_table` | [`Builder::insert_table`] | says what was replaced |
 //! | `HashTableBuilder::len` | [`Builder::item_count`] | - |
-//! | `FileWriter::write_to_vec_with_table` | [`Builder::write`] | leaves the builder usable; bytes 0 to 23 are zero |
+//! | `FileWriter::write_to_vec_with_table` | [`Builder::write_file`] | leaves the builder usable |
+//! | `FileWriter::for_big_endian` | [`ByteOrder::Big`] | is said of the values, which are already encoded |
 //!
 //! # Building
 //!
-//! The build looks for `libgvdb.a` in the folder `GVDB_LIB_DIR`, or in `target/staticlib` of the root, where `tools/staticlib` writes it.
+//! The build looks for `libgvdb.a` in the folder `GVDB_LIB_DIR`, or in `target/staticlib` of the root, where `tools/staticlib` writes it. It asks the library for
+//! the number of its interface and refuses one that this crate is not written for.
 #![deny(unsafe_code, missing_docs)]
 
 #[cfg(not(all(any(target_arch = "x86_64", target_arch = "aarch64"), target_os = "linux")))]
@@ -44,11 +50,14 @@ compile_error!("libgvdb.a is made for Linux on x86-64 or Arm");
 
 mod builder;
 mod ffi;
+mod header;
 mod limits;
 mod refusal;
 mod table;
 
 pub use builder::{Builder, Image, Inserted, Kind, TableNumber};
+pub use ffi::{abi, ABI};
+pub use header::{ByteOrder, Header};
 pub use limits::{MAX_FILE, MAX_ITEMS, MAX_KEY, MAX_NESTING, MAX_TABLES};
 pub use refusal::{Refusal, Unsound};
 pub use table::{Entries, Entry, Item, Keys, Pointer, Table, Tables, Values};

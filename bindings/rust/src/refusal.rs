@@ -1,11 +1,12 @@
-//! Why a call is refused: one variant for each number of document 01.
+//! Why a call is refused: one variant for each number of documents 01 and 02.
 
 use std::error::Error;
 use std::fmt;
 
 macro_rules! refusals {
     ($($number:literal $name:ident $sentence:literal)*) => {
-        /// Why a call is refused. The numbers are fixed, and each has one sentence; a refused call has changed nothing.
+        /// Why a call is refused. The numbers are fixed, and each has one sentence; a refused call has changed nothing. 18, 32, 33 and 34 are those of calls
+        /// to come.
         ///
         /// ```
         /// use gvdb::Refusal;
@@ -66,6 +67,10 @@ refusals! {
     13 OtherKind "the item's kind is unknown, or another than was asked for"
     14 BufferTooShort "the listed key is longer than the lent buffer"
     15 PastTheLast "the position is past the last item"
+    16 HeaderTooShort "the file is shorter than a header of 24 bytes"
+    17 SignatureUnknown "the file does not start with the signature of a GVDB file"
+    18 ListBroken "the list is no export of a table, or the numbers given are not as many as its nested tables"
+    19 VersionUnknown "the file's version is another than 0"
     20 KeyTooLong "the key is longer than 1,024 bytes"
     21 NotContainer "a parent on the key's path is not a container"
     22 TooManyItems "the builder would hold more than 1,024 items"
@@ -78,11 +83,14 @@ refusals! {
     29 MemoryBroken "the builder's memory is too short, of another length than at the start, or breaks its rules"
     30 EmptyKey "an item has the empty key, which a table cannot be laid with"
     31 ImageTooLong "the image is longer than the lent buffer or than 16,777,216 bytes"
+    32 HeadsTooFew "the lent head words are too few"
+    33 TooManyFilterWords "more than 1,024 filter words are asked for"
+    34 ReportTooShort "the report has room for fewer entries than the table has items"
     40 CheckBroken "the table is not sound"
 }
 
 impl Refusal {
-    /// The number of document 01.
+    /// The number of documents 01 and 02.
     pub fn number(self) -> u32 {
         self as u32
     }

@@ -118,6 +118,14 @@ fn other_refusals_of_the_builder() {
     }
 }
 
+/// The build has compared them where it could run the library.
+#[test]
+fn one_number_of_the_interface() {
+    let header = include_str!("../../c/gvdb.h");
+    assert!(header.lines().any(|line| line == format!("#define GVDB_ABI {}", gvdb::ABI)));
+    assert_eq!(gvdb::abi(), gvdb::ABI);
+}
+
 #[test]
 fn refusals_are_those_of_the_library() {
     let source = include_str!("../../../crates/layout/src/refusal.rt");
