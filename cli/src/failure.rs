@@ -13,19 +13,6 @@ pub const NO: u8 = 1;
 /// Bad usage, or something that cannot be read or written.
 pub const UNREADABLE: u8 = 2;
 
-/// A number with its sentence: a refusal of the library, or one of the file header.
-#[derive(Clone, Copy, Debug)]
-pub struct Told {
-    pub number: u32,
-    pub sentence: &'static str,
-}
-
-impl From<Refusal> for Told {
-    fn from(refusal: Refusal) -> Told {
-        Told { number: refusal.number(), sentence: refusal.sentence() }
-    }
-}
-
 #[derive(Debug)]
 pub struct Failure {
     pub status: u8,
@@ -45,8 +32,8 @@ impl Failure {
     }
 
     /// A refusal, with what was refused before it.
-    pub fn refused(status: u8, what: &str, told: impl Into<Told>) -> Failure {
-        let Told { number, sentence } = told.into();
+    pub fn refused(status: u8, what: &str, refusal: Refusal) -> Failure {
+        let (number, sentence) = (refusal.number(), refusal.sentence());
         match advice::of(number) {
             "" => Failure::told(status, what, number, sentence),
             advice => Failure::told(status, what, number, &format!("{sentence}; {advice}")),

@@ -2,10 +2,9 @@
 
 use crate::content::{leaves, read, unmade_here, values, Content, Node};
 use crate::failure::{Failure, NO};
-use crate::header::{self, ByteOrder, Header};
 use crate::source::Source;
 use crate::{out, text};
-use gvdb::{Builder, Inserted, Kind, Refusal, TableNumber, MAX_ITEMS, MAX_KEY};
+use gvdb::{Builder, ByteOrder, Inserted, Kind, Refusal, TableNumber, MAX_ITEMS, MAX_KEY};
 
 /// Names an item for a message, by the keys of the tables around it and its own.
 pub type Named<'n> = &'n dyn Fn(&[String], &str) -> String;
@@ -16,9 +15,8 @@ pub fn lay(name: &str, content: &Content, separator: Option<u8>, order: ByteOrde
     out::progress(size, || format!("{name}: laying {} of values", text::count(size, "byte")));
     let mut laying = Laying { builder: Builder::new(size + MAX_ITEMS * MAX_KEY), named, separator, path: Vec::new() };
     let root = laying.table(content)?;
-    let mut image = laying.builder.write(root).map_err(|refusal| unlaid(name, content, named, refusal))?;
-    header::lay(&mut image.bytes, Header { order, root: image.root });
-    let laid = Source::of(name, image.bytes)?;
+    let file = laying.builder.write_file(root, order).map_err(|refusal| unlaid(name, content, named, refusal))?;
+    let laid = Source::of(name, file)?;
     if !compare(content, &read(&laid)?, separator) {
         return Err(Failure::no(format!("{name}: what was laid does not read back as it was meant; it is not written")));
     }

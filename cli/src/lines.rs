@@ -5,7 +5,6 @@
 use crate::args::Args;
 use crate::content::{self, Content, Node, Place};
 use crate::failure::{Failure, NO};
-use crate::header::ByteOrder;
 use crate::input;
 use crate::json::Json;
 use crate::lay::lay;
@@ -14,7 +13,7 @@ use crate::report::{lost_line, told, why_unmade};
 use crate::source::Source;
 use crate::target::{self, Target};
 use crate::{replace, text};
-use gvdb::{Refusal, MAX_NESTING};
+use gvdb::{ByteOrder, Refusal, MAX_NESTING};
 use std::borrow::Cow;
 use std::collections::BTreeMap;
 use std::ffi::OsStr;

@@ -8,7 +8,6 @@ mod content;
 mod decide;
 mod diff;
 mod failure;
-mod header;
 mod help;
 mod hidden;
 mod input;

@@ -2,11 +2,11 @@
 
 use crate::content::{self, Content, Leaf, Place};
 use crate::failure::Failure;
-use crate::header::ByteOrder;
 use crate::report::Report;
 use crate::source::Source;
 use crate::target::Target;
 use crate::text;
+use gvdb::ByteOrder;
 
 /// The file that is at OUT's place, if it is to be written over.
 pub fn old(target: &Target, replace: bool) -> Result<Option<Source>, Failure> {

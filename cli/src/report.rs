@@ -3,10 +3,10 @@
 use crate::both::{leaf_json, leaf_text, line, place_json, Both, Line, Outcome, Room, Side};
 use crate::content::{self, Leaf, Node, Place};
 use crate::failure::in_words;
-use crate::header::ByteOrder;
 use crate::json::Json;
 use crate::out::{Colour, Out};
 use crate::text;
+use gvdb::ByteOrder;
 
 /// Values of so many bytes are printed whole where they stand in OUT; the report's file and JSON have every byte.
 const SHORT: usize = 32;

@@ -1,10 +1,9 @@
 //! Files that are read, and the walk over their tables.
 
 use crate::failure::{name, Failure, NO, UNREADABLE};
-use crate::header::{self, Header};
 use crate::json::Json;
 use crate::{input, out, text};
-use gvdb::{Entry, Refusal, Table, MAX_FILE};
+use gvdb::{Entry, Header, Refusal, Table, MAX_FILE};
 use std::ffi::OsStr;
 use std::path::PathBuf;
 
@@ -34,7 +33,7 @@ impl Source {
 
     /// Bytes that are read as a file of this name.
     pub fn of(name: &str, bytes: Vec<u8>) -> Result<Source, Failure> {
-        let header = header::read(&bytes).map_err(|told| Failure::refused(UNREADABLE, name, told))?;
+        let header = Header::read(&bytes).map_err(|refusal| Failure::refused(UNREADABLE, name, refusal))?;
         Ok(Source { path: PathBuf::new(), name: name.to_string(), bytes, header })
     }
 

@@ -2,14 +2,13 @@
 
 use crate::args::Args;
 use crate::check::Broken;
-use crate::failure::{Failure, Told};
-use crate::header::ByteOrder;
+use crate::failure::Failure;
 use crate::json::Json;
 use crate::list::{item_json, unread};
 use crate::out::{Colour, Out};
 use crate::source::{Source, Walk};
 use crate::text;
-use gvdb::{Entry, Item, Table};
+use gvdb::{ByteOrder, Entry, Item, Table};
 use std::iter::Peekable;
 use std::vec::IntoIter;
 
@@ -173,10 +172,7 @@ impl Branch<'_> {
             Ok(Item::Value(bytes)) => format!("{name}  {}", text::count(bytes.len(), "byte")),
             Ok(Item::Table(nested)) => format!("{}  table, {}{}", out.paint(Colour::Blue, &name), text::count(nested.len(), "item"), self.below.note(out)),
             Ok(Item::Container) => out.paint(Colour::Blue, &name),
-            Err(refusal) => {
-                let Told { number, sentence } = (*refusal).into();
-                name + "  " + &out.paint(Colour::Red, &format!("{sentence} ({number})"))
-            }
+            Err(refusal) => name + "  " + &out.paint(Colour::Red, &format!("{} ({})", refusal.sentence(), refusal.number())),
         }
     }
 
