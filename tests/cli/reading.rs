@@ -37,13 +37,13 @@ fn check_of_real_files() {
     for line in stored.lines() {
         let (name, found) = line.split_once(": ").unwrap();
         let ran = gvdb(["check".as_ref(), real.join(name).as_os_str()]);
-        if found == "no header" {
-            ran.ends(2).says("no GVDB file (1");
+        if let Some(number) = found.strip_prefix("no header, ") {
+            ran.ends(2).says(&format!("no GVDB file ({number})"));
         } else if let Some((_, broken)) = found.split_once("; rule ") {
             let (rule, item) = broken.split_once(" broken by item ").unwrap();
             ran.ends(1).prints(&format!("not sound: item {item}, key ")).prints(&format!("(rule {rule})\n"));
         } else {
-            let tables = found.strip_prefix("tables ").and_then(|found| found.split_once(',')).unwrap().0;
+            let tables = found.split_once(", tables ").and_then(|(_, found)| found.split_once(',')).unwrap().0;
             let ran = ran.ends(0);
             assert_eq!(ran.text().lines().filter(|line| line.contains(": sound, ")).count().to_string(), tables, "{name}");
         }

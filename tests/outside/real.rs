@@ -1,10 +1,10 @@
-//! Walks GVDB files that GLib, dconf and gvdb-rs made, nested tables too, and writes one line for each: what opens, lists and is looked up, and what the
-//! check says.
+//! Walks GVDB files that GLib, dconf and gvdb-rs made, nested tables too, and writes one line for each: what its header says, what opens, lists and is looked
+//! up, and what the check says.
 //! Use: real FOLDER
 
 mod ffi;
 
-use ffi::{check, get, get_table, next_key, next_value, open};
+use ffi::{check, get, get_table, next_key, next_value, open, read_header};
 
 #[derive(Default)]
 struct Sum {
@@ -74,19 +74,20 @@ fn main() {
     for path in paths {
         let name = path.file_name().expect("a name").to_string_lossy().into_owned();
         let file = std::fs::read(&path).expect("the file");
-        if file.len() < 24 || (&file[..8] != b"GVariant" && &file[..8] != b"raVGtnai") {
-            println!("{name}: no header");
+        let header = read_header(&file);
+        if header.number != 0 {
+            println!("{name}: no header, {}", header.number);
             continue;
         }
-        let word = |at: usize| u32::from_le_bytes(file[at..at + 4].try_into().expect("four bytes"));
+        let order = if header.big == 0 { "little" } else { "big" };
         let mut sum = Sum::default();
-        walk(&file, word(16), word(20), &mut sum);
+        walk(&file, header.start, header.end, &mut sum);
         let sound = match sum.broken.first() {
             None => "sound".to_string(),
             Some((rule, item)) => format!("rule {rule} broken by item {item}"),
         };
         println!(
-            "{name}: tables {}, items {}, values {}, found {}, not found {}, refused {}; {sound}",
+            "{name}: {order}, tables {}, items {}, values {}, found {}, not found {}, refused {}; {sound}",
             sum.tables, sum.items, sum.values, sum.found, sum.missed, sum.refused
         );
     }

@@ -3,7 +3,7 @@
 
 mod ffi;
 
-use ffi::{check, get, get_table, memory_words, next_key, next_value, open, Builder};
+use ffi::{abi, check, get, get_table, lay_header, memory_words, next_key, next_value, open, read_header, Builder, ABI};
 use std::process::{Command, Stdio};
 
 const HEADER: &str = include_str!("../../bindings/c/gvdb.h");
@@ -51,7 +51,11 @@ fn make(call: &str, kib: usize) {
     two.new_table(b"/");
     let key = format!("a/b/c/d/{}/7", "k".repeat(500)).into_bytes();
     let call = call.to_string();
+    assert_eq!(lay_header(&mut image, 0, start, end), 0);
     let made = move || match call.as_str() {
+        "gvdb_abi" => u32::from(abi() != ABI),
+        "gvdb_read_header" => read_header(&image).number,
+        "gvdb_lay_header" => lay_header(&mut image, 1, start, end),
         "gvdb_open" => open(&image, start, end).number,
         "gvdb_get" => get(&image, start, end, &key).number,
         "gvdb_get_table" => get_table(&image, start, end, b"t").number,
