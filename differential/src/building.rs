@@ -1,4 +1,4 @@
-//! Histories of builder calls, answered by all three; the images that they write, byte for byte from 24.
+//! Histories of builder calls, answered by all three; the images that they write, with the header of both byte orders, byte for byte from 0.
 
 use crate::dice::Dice;
 use crate::document::build as document;
@@ -225,19 +225,32 @@ impl State {
         if expected == Err(24) || expected == Err(31) {
             return Ok(expected.map(|_| 0));
         }
-        let body = ours.as_ref().map(|(image, _)| image[24..].to_vec()).map_err(|number| *number);
-        tally.same(Who::Rust, "image", &body, &rust.map(|image| image[24..].to_vec()), String::new)?;
         let (image, end) = match ours {
             Ok(written) => written,
-            Err(number) => return Ok(Err(number)),
+            Err(number) => {
+                tally.same(Who::Rust, "file", &Err(number), &rust, String::new)?;
+                return Ok(Err(number));
+            }
         };
         assert!(image[..24].iter().all(|byte| *byte == 0), "the header is not zero");
+        self.files(table, &image, end, [rust, self.rust.write_big(table as usize)], tally)?;
         assert!(self.memory.write(table, room) == Ok((image.clone(), end)), "a second write differs");
         tally.number(31);
         tally.same(Who::Document, "write", &self.memory.write(table, room - 1).map(|_| ()), &Err(31), || "a byte too few".into())?;
         let keys = self.reads_back(&image, 24, end, table as usize, tally)?;
         self.images.push(Case { file: image, start: 24, end, keys });
         Ok(Ok(0))
+    }
+
+    /// The file of an image, little endian and big, beside gvdb-rs's; its header reads back.
+    fn files(&self, table: u32, image: &[u8], end: u32, rust: [Result<Vec<u8>, u32>; 2], tally: &mut Tally) -> Outcome {
+        for (big, theirs) in (0..).zip(rust) {
+            let (number, file) = ours::lay_header(image, big, 24, end);
+            tally.same(Who::Document, "lay header", &number, &0, || format!("table {table}, big {big}"))?;
+            tally.same(Who::Document, "header", &ours::header(&file), &Ok((big, 24, end)), || format!("table {table}, big {big}"))?;
+            tally.same(Who::Rust, "file", &Ok(file), &theirs, || format!("table {table}, big {big}"))?;
+        }
+        Ok(())
     }
 
     /// Each item of a table is found in the image as the builder holds it, nested ones too, and the tables pass the check.

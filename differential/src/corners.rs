@@ -21,10 +21,11 @@ fn opens_there(bytes: &[u8]) -> Result<usize, u32> {
 
 fn file_length() {
     let mut bytes = file(24, 32, &[0; 8]);
-    for (size, ours) in [(MAX_FILE, Ok((0, 0, 0))), (MAX_FILE + 1, Err(1))] {
+    for (size, ours, header) in [(MAX_FILE, Ok((0, 0, 0)), Ok((0, 24, 32))), (MAX_FILE + 1, Err(1), Err(1))] {
         bytes.resize(size, 0);
         let lent = File::new(&bytes);
         assert_eq!((ours::open(lent.bytes(), 24, 32), opens_there(lent.bytes())), (ours, Ok(0)));
+        assert_eq!((ours::header(lent.bytes()), theirs::header(lent.bytes())), (header, Ok((0, 24, 32))));
     }
 }
 
@@ -33,6 +34,12 @@ fn bloom_words_and_buckets() {
         let lent = File::new(&file(24, 32, table));
         assert_eq!((ours::open(lent.bytes(), 24, 32), opens_there(lent.bytes())), (Err(ours), Err(theirs::FIVE_OR_SIX)));
     }
+}
+
+/// A table is opened by its pointer, whatever stands in front; the header is read by a call of its own.
+fn no_header() {
+    assert_eq!((ours::open(&[0; 8], 0, 8), ours::header(&[0; 8]), theirs::header(&[0; 8])), (Ok((0, 0, 0)), Err(16), Err(16)));
+    assert_eq!((ours::open(&[0; 24], 0, 8), ours::header(&[0; 24]), theirs::header(&[0; 24])), (Ok((0, 0, 0)), Err(17), Err(17)));
 }
 
 fn address() {
@@ -99,15 +106,16 @@ fn small_ones() {
     assert_eq!(ours::get(&image, 24, end, b"\xff"), Err(8));
 }
 
-/// The header of an image, a buffer that is too short for it, and a builder that goes on after a write.
+/// The header of an image, which a call of its own lays, a buffer that is too short for it, and a builder that goes on after a write.
 fn headers_and_buffers() {
     let (mut memory, mut rust) = builder(16);
     assert_eq!((memory.insert(0, b"a", b"\x01\x02"), rust.insert(0, "a", b"\x01\x02")), (Ok(0), Ok(1)));
     let there = rust.write(0).expect("an image");
     assert_eq!(memory.write(0, 65), Err(31));
-    let (here, _) = memory.write(0, 66).expect("an image");
+    let (here, end) = memory.write(0, 66).expect("an image");
     assert_eq!((here.len(), there.len(), &here[24..]), (66, 66, &there[24..]));
     assert_eq!((&here[..24], &there[..8]), (&[0; 24][..], &b"GVariant"[..]));
+    assert_eq!(ours::lay_header(&here, 0, 24, end), (0, there));
     assert_eq!((memory.insert(0, b"b", b""), memory.write(0, 999).is_ok()), (Ok(0), true));
 }
 
@@ -122,7 +130,7 @@ fn separators() {
 }
 
 pub fn show(tally: &mut Tally) -> Outcome {
-    let corners: [fn(); 8] = [file_length, bloom_words_and_buckets, address, loops_of_parents, small_ones, headers_and_buffers, separators, || {
+    let corners: [fn(); 9] = [file_length, bloom_words_and_buckets, no_header, address, loops_of_parents, small_ones, headers_and_buffers, separators, || {
         assert_eq!(document::hash("\u{e9}".as_bytes()), 5_866_513)
     }];
     for corner in corners {

@@ -1,6 +1,6 @@
-//! This library, gvdb-rs and a third reading of document 01, asked the same questions in one process.
+//! This library, gvdb-rs and a third reading of the documents, asked the same questions in one process.
 //! Use: differential [--lists FOLDER] [--seeds A..B] [--minutes N]. The lists are the oracle's stored questions. A seed is a history of builder calls with its images and damaged copies of them, tables made by hand and
-//! at random, and a builder on garbage memory. With --minutes it goes on from the last seed for that long.
+//! at random, a header, and a builder on garbage memory. With --minutes it goes on from the last seed for that long.
 
 mod building;
 mod corners;
@@ -9,6 +9,7 @@ mod document;
 #[path = "../../tests/outside/ffi.rs"]
 mod ffi;
 mod garbage;
+mod headers;
 mod lent;
 mod limits;
 mod make;
@@ -156,6 +157,14 @@ impl Run {
         }
     }
 
+    fn header(&mut self, seed: u64, dice: &Dice) {
+        let tally = &mut self.tally;
+        let Err(difference) = caught(|| headers::random(dice, tally)) else { return };
+        if self.counted() {
+            say(seed, &difference, "a header by chance");
+        }
+    }
+
     fn seed(&mut self, seed: u64) {
         let dice = &Dice::new(seed);
         let history = if dice.one_in(15) { History::deep(dice) } else { History::random(dice) };
@@ -181,6 +190,7 @@ impl Run {
         if dice.one_in(12) {
             self.garbage(seed, dice, garbage::slightly);
         }
+        self.header(seed, dice);
     }
 }
 
@@ -215,6 +225,7 @@ fn all(arguments: Arguments) -> Run {
     let mut note = std::env::var("SEED_NOTE").ok().map(|path| std::fs::File::create(path).expect("a file for the seed"));
     run.fixed(corners::show, "a difference of docs/DIFFERENCES.md is not as it stands there");
     run.fixed(limits::show, "a limit is not as it should be");
+    run.fixed(headers::show, "a header is not read or laid as it should be");
     run.fixed(garbage::rules, "a write takes memory that breaks a rule");
     for list in arguments.lists.iter().flat_map(|folder| std::fs::read_dir(folder).expect("the lists")) {
         run.stored(&std::fs::read_to_string(list.expect("a list").path()).expect("a list"));

@@ -1,8 +1,22 @@
 //! The library's answers: a number for a refusal, whose other fields are held to be 0, or the values.
 
+use crate::document::header::Headed;
 use crate::ffi;
 use crate::lent::{buffer, untouched, Memory};
 use crate::tally::Place;
+
+pub fn header(file: &[u8]) -> Headed {
+    let header = ffi::read_header(file);
+    refused(header.number, (header.big, header.start, header.end), (0, 0, 0))
+}
+
+/// The number of laying a header over a copy of a target, and the copy.
+pub fn lay_header(target: &[u8], big: u32, start: u32, end: u32) -> (u32, Vec<u8>) {
+    buffer(target.len(), |lent| {
+        lent.copy_from_slice(target);
+        ffi::lay_header(lent, big, start, end)
+    })
+}
 
 pub fn open(file: &[u8], start: u32, end: u32) -> Result<(u32, u32, u32), u32> {
     let opened = ffi::open(file, start, end);

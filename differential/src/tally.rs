@@ -14,7 +14,7 @@ impl Who {
     pub fn name(self) -> &'static str {
         match self {
             Who::Rust => "gvdb-rs",
-            Who::Document => "document 01",
+            Who::Document => "the documents",
         }
     }
 }

@@ -1,5 +1,6 @@
-//! gvdb-rs's answers, with document 01's numbers for its errors.
+//! gvdb-rs's answers, with the documents' numbers for its errors.
 
+use crate::document::header::Headed;
 use crate::tally::Place;
 use gvdb::read::{oracle as raw, Error, File, HashTable};
 use gvdb::write::{FileWriter, HashTableBuilder};
@@ -14,6 +15,9 @@ fn number(error: &Error) -> u32 {
         Error::DataAlignment => 3,
         Error::Utf8(_) => 9,
         Error::KeyNotFound(_) => 12,
+        Error::Data(text) if text == "Invalid GVDB header" => 16,
+        Error::Data(text) if text.starts_with("Invalid GVDB header. Is this a GVDB file?") => 17,
+        Error::Data(text) if text.starts_with("Unknown GVDB file format version") => 19,
         Error::Data(text) if text.starts_with("Invalid hash table header") => 4,
         Error::Data(text) if text.starts_with("Not enough bytes to fit hash table") => FIVE_OR_SIX,
         Error::Data(text) if text.starts_with("Hash item size invalid") => 7,
@@ -28,6 +32,21 @@ fn number(error: &Error) -> u32 {
 /// Our answer with 5 and 6 as gvdb-rs has them.
 pub fn as_theirs<T>(ours: Result<T, u32>) -> Result<T, u32> {
     ours.map_err(|number| if number == 5 || number == 6 { FIVE_OR_SIX } else { number })
+}
+
+/// What gvdb-rs makes of a header, which it does not hand out: the byte order is what a file prints of itself. A file prints its whole root table too, so this is asked
+/// of a copy of the header that leads to none.
+pub fn header(bytes: &[u8]) -> Headed {
+    let file = File::from_bytes(Cow::Borrowed(bytes)).map_err(|error| number(&error))?;
+    let (start, end) = raw::root(&file);
+    let bare = [&bytes[..16], &[0; 8]].concat();
+    let printed = format!("{:?}", File::from_bytes(Cow::Borrowed(&bare)).expect("the same header"));
+    let big = match printed.strip_prefix("File { endianness: ") {
+        Some(rest) if rest.starts_with("Little,") => 0,
+        Some(rest) if rest.starts_with("Big,") => 1,
+        _ => panic!("a file that prints no byte order: {printed}"),
+    };
+    Ok((big, start, end))
 }
 
 /// Opens the root table of a file, which has a header that gvdb-rs accepts and lies at a multiple of 8.
@@ -123,8 +142,13 @@ impl Builder {
         Ok(table.live.len() as u32)
     }
 
-    /// The image with gvdb-rs's header, or 30.
+    /// The file, or 30.
     pub fn write(&self, table: usize) -> Result<Vec<u8>, u32> {
         FileWriter::new().write_to_vec_with_table(self.again(table)).map_err(consistency)
+    }
+
+    /// The same for values that are big endian.
+    pub fn write_big(&self, table: usize) -> Result<Vec<u8>, u32> {
+        FileWriter::for_big_endian().write_to_vec_with_table(self.again(table)).map_err(consistency)
     }
 }
