@@ -202,6 +202,36 @@ fn both<'a>(ground: &'a Ground) -> (Turn<'a>, Turn<'a>) {
     (turn(ground.keys.len(), ours), turn(ground.keys.len(), theirs))
 }
 
+/// How many headers are read or laid between two looks at the clock, which takes longer than one of them.
+const HEADERS: usize = 1000;
+
+fn read_headers(file: &[u8]) -> (Turn<'_>, Turn<'_>) {
+    let ours = move || timed(|| (0..HEADERS).for_each(|_| assert_eq!(ffi::read_header(black_box(file)).number, 0))).0;
+    let theirs = move || timed(|| (0..HEADERS).for_each(|_| assert!(File::from_bytes(Cow::Borrowed(black_box(file))).is_ok()))).0;
+    (turn(HEADERS, ours), turn(HEADERS, theirs))
+}
+
+/// Ours, little endian and big: gvdb-rs lays a header only with a whole file.
+fn lay_headers() -> (Turn<'static>, Turn<'static>) {
+    let lay = |big: u32| {
+        let mut target = [0xAA; 64];
+        turn(HEADERS, move || timed(|| (0..HEADERS).for_each(|_| assert_eq!(ffi::lay_header(black_box(&mut target), black_box(big), 24, 60), 0))).0)
+    };
+    (lay(0), lay(1))
+}
+
+/// Nanoseconds for a header that are wanted.
+const HEADER_GOAL: f64 = 20.0;
+
+fn print_headers(rounds: usize) {
+    let (read, theirs) = measure(rounds, read_headers(&Ground::new(100).theirs));
+    let (little, big) = measure(rounds, lay_headers());
+    let verdict = if [read, little, big].iter().all(|time| *time < HEADER_GOAL) { "met" } else { "missed" };
+    println!(
+        "nanoseconds for a header: read {read:.1} here, {theirs:.1} by gvdb-rs; laid {little:.1} little endian, {big:.1} big; under {HEADER_GOAL}: {verdict}"
+    );
+}
+
 fn median(mut times: Vec<f64>) -> f64 {
     times.sort_by(f64::total_cmp);
     times[times.len() / 2]
@@ -270,4 +300,5 @@ fn main() {
         let verdict = if ratios.iter().all(|r| r <= goal) { "met" } else { "missed" };
         println!("| {name} | {:.2} | {:.2} | {:.2} | at most {goal}: {verdict} |", ratios[0], ratios[1], ratios[2]);
     }
+    print_headers(rounds);
 }
