@@ -4,7 +4,7 @@ use mathlib.Core.List.{List, [], _∷_, _++_, append-assoc}
 use Prim.Native.Nat.{ℕ, _+_, _*_, _-_, _≤_, _<_}
 use native.Mathlib.Omega.{arith}
 use borrow.Author.Tests.{eq-eqb, ne-eqb}
-use lib.ListN.{length, length-append}
+use lib.ListN.{length, length-append, getD}
 use Rattle.words.specs.Choice.{pick}
 use Rattle.words.specs.Store.{part, putAt, zeros}
 use Rattle.words.specs.Field.{spelled}
@@ -12,9 +12,9 @@ use Rattle.words.proofs.StoreLaws.{put-none, put-append, length-part, put-then}
 use Rattle.words.proofs.FieldLaws.{length-spelled}
 use Rattle.image.specs.Laid.{Laid}
 use Rattle.image.specs.Plan.{word, wordsOf}
-use Rattle.image.proofs.PlanLaws.{length-words, words-more, fourth-word}
+use Rattle.image.proofs.PlanLaws.{length-words, words-more, words-same, fourth-word}
 use Rattle.layout.specs.Kind.{valueKind}
-use Rattle.write_bytes.specs.Numbered.{slotWord, childWord, slotCover}
+use Rattle.write_bytes.specs.Numbered.{slotsFrom, slotSize, childrenFrom, slotWord, childWord, slotCover}
 use Rattle.write_bytes.specs.Slot.{headBytes, slotRecord, slotKey, plainValue}
 
 -- ---- words
@@ -42,6 +42,22 @@ words-laid l at f n b {m} e p = record {
   end-is = ap (λ (k : ℕ). at + k) (sym (length-words f n));
   image-is = p ∙ ap (λ (k : ℕ). putAt l at (wordsOf f k)) e;
 }
+
+-- bucket words and child words as they stand in a numbered table, by the way of one to the next
+pub bucket-is : (numbered : List ℕ) (first b : ℕ) → slotWord numbered (first + b) 7 ≡ getD numbered (slotsFrom + slotSize * first + 7 + slotSize * b) 0
+unfolding slotWord
+bucket-is numbered first b = ap (λ (n : ℕ). getD numbered n 0) (omega arith)
+
+pub child-is : (numbered : List ℕ) (start j : ℕ) → childWord numbered (start + j) ≡ getD numbered (childrenFrom + start + 1 * j) 0
+unfolding childWord
+child-is numbered start j = ap (λ (n : ℕ). getD numbered n 0) (omega arith)
+
+-- a table's bucket words behind its head
+pub front-laid : (numbered l : List ℕ) (first count at : ℕ) {m n : List ℕ} {end : ℕ} → m ≡ putAt l at (headBytes count)
+    → Laid m n (at + 8) (wordsOf (λ b. getD numbered (slotsFrom + slotSize * first + 7 + slotSize * b) 0) count) end
+    → n ≡ putAt l at (headBytes count ++ wordsOf (λ b. slotWord numbered (first + b) 7) count)
+front-laid numbered l first count at p laid =
+    put-then l at (headBytes count) _ (ap (λ (n : ℕ). at + n) (sym (length-head count))) p (rw (words-same _ _ count (λ b _. bucket-is numbered first b)) (laid .image-is))
 
 -- ---- a record
 
@@ -110,5 +126,5 @@ module _ (numbered arena : List ℕ) (s : ℕ) where
   bytes-laid k e f p = rw (plain-bytes k, ← e, ← f) p
 
   pub children-laid : {l m : List ℕ} {at start size end : ℕ} → (slotWord numbered s 4 ≡ valueKind → ⊥) → start ≡ slotWord numbered s 5 → size ≡ slotWord numbered s 6
-      → Laid l m at (wordsOf (λ j. childWord numbered (start + j)) size) end → Laid l m at (plainValue numbered arena s) end
-  children-laid k e f p = rw (plain-children k) (rw (← e, ← f) p)
+      → Laid l m at (wordsOf (λ j. getD numbered (childrenFrom + start + 1 * j) 0) size) end → Laid l m at (plainValue numbered arena s) end
+  children-laid {start = start} {size = size} k e f p = rw (plain-children k) (rw (← e, ← f, words-same _ _ size (λ j _. child-is numbered start j)) p)

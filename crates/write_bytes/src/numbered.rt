@@ -4,7 +4,7 @@ use layout::limits::MOST_TABLES;
 ghost use mathlib.Core.Path.{_≡_};
 ghost use Prim.Native.Nat.{_+_, _*_, _<_};
 ghost use lib.ListN.{length};
-ghost use Rattle.write_bytes.specs.Numbered.{headWords, slotsFrom, slotSize, childrenFrom, firstSlot, slotCount, slotWord, childWord};
+ghost use Rattle.write_bytes.specs.Numbered.{headWords, slotsFrom, slotSize, firstSlot, slotCount, slotWord};
 
 // The tables, and the words of one: the first slot, and the count of items.
 pub const HEAD_WORDS: usize = 2;
@@ -58,12 +58,4 @@ pub fn slot_word(numbered: &[usize], slot: usize, which: usize) -> usize
     ensures { λ r. ⌜ r ≡ slotWord (now (numbered .entry)) slot which ⌝ }
 {
     numbered[SLOTS_FROM + SLOT_SIZE * slot + which]
-}
-
-// A child word: the laid index of a child.
-pub fn child_word(numbered: &[usize], place: usize) -> usize
-    requires { ⌜ childrenFrom + place < length (now numbered) ⌝ }
-    ensures { λ r. ⌜ r ≡ childWord (now (numbered .entry)) place ⌝ }
-{
-    numbered[CHILDREN_FROM + place]
 }

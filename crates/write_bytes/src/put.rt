@@ -1,13 +1,15 @@
 // Bytes laid into an image: a table's head and bucket words, a record, a fragment with its zeros, a value.
 use crate::numbered::BUCKET;
+use crate::numbered::CHILDREN_FROM;
 use crate::numbered::FRAGMENT;
 use crate::numbered::FRAGMENT_SIZE;
 use crate::numbered::HASH;
 use crate::numbered::KIND;
 use crate::numbered::PARENT;
+use crate::numbered::SLOT_SIZE;
+use crate::numbered::SLOTS_FROM;
 use crate::numbered::VALUE;
 use crate::numbered::VALUE_SIZE;
-use crate::numbered::child_word;
 use crate::numbered::slot_word;
 use crate::slot::cover;
 use layout::kind::VALUE_KIND;
@@ -18,14 +20,14 @@ use words::store::put_zeros;
 ghost use mathlib.Core.Path.{_≡_};
 ghost use mathlib.Core.List.{_++_};
 ghost use Prim.Native.Nat.{ℕ, _+_, _*_, _≤_, _<_, _^_};
-ghost use lib.ListN.{length};
+ghost use lib.ListN.{length, getD};
 ghost use Rattle.words.specs.Store.{part, putAt};
 ghost use Rattle.layout.specs.Sizes.{headSize, bucketSize, recordSize};
 ghost use Rattle.image.specs.Laid.{Laid};
 ghost use Rattle.image.specs.Plan.{word, wordsOf};
 ghost use Rattle.layout.specs.Kind.{tableKind};
 ghost use Rattle.layout.specs.Limits.{mostItems};
-ghost use Rattle.write_bytes.specs.Numbered.{slotWord, childWord, numberedSize, NumberedFits, slotCover};
+ghost use Rattle.write_bytes.specs.Numbered.{slotWord, numberedSize, NumberedFits, slotCover};
 ghost use Rattle.write_bytes.specs.Slot.{headBytes, slotRecord, slotKey, plainValue, SlotIn, CoverFits, RecordFits};
 
 // The first word of every table: a shift of 5, and no bloom words.
@@ -41,19 +43,26 @@ fn lay_head(image: &mut [u8], count: usize, at: usize)
     put_word(image, at + 4, count as u32);
 }
 
-// Lays the bucket words of a table, whose slots start with `first`.
-fn lay_buckets(numbered: &[usize], image: &mut [u8], first: usize, count: usize, at: usize)
-    requires { ⌜ (length (now numbered) ≡ numberedSize) × (first + count ≤ mostItems) ⌝ }
-    requires { ⌜ ((b : ℕ) → b < count → slotWord (now numbered) (first + b) 7 < 2 ^ 32) ⌝ }
+// Lays words of a numbered table, each `step` words behind the one before. Answers where they end.
+fn lay_words(
+    numbered: &[usize],
+    image: &mut [u8],
+    from: usize,
+    step: usize,
+    count: usize,
+    at: usize,
+) -> usize
+    requires { ⌜ ((b : ℕ) → b < count → (from + step * b < length (now numbered)) × (getD (now numbered) (from + step * b) 0 < 2 ^ 32)) ⌝ }
     requires { ⌜ at + 4 * count ≤ length (now image) ⌝ }
-    ensures { λ _. ⌜ now (image .exit) ≡ putAt (now (image .entry)) at (wordsOf (λ b. slotWord (now (numbered .entry)) (first + b) 7) count) ⌝ }
+    ensures { λ r. ⌜ Laid (now (image .entry)) (now (image .exit)) at (wordsOf (λ b. getD (now (numbered .entry)) (from + step * b) 0) count) r ⌝ }
 {
     let mut b = 0;
     while b < count {
-        let word = slot_word(numbered, first + b, BUCKET);
+        let word = numbered[from + step * b];
         put_word(image, at + 4 * b, word as u32);
         b += 1;
     }
+    at + 4 * count
 }
 
 // Lays what stands before a table's records: its head and its bucket words.
@@ -64,7 +73,8 @@ pub fn lay_front(numbered: &[usize], image: &mut [u8], first: usize, count: usiz
     ensures { λ _. ⌜ now (image .exit) ≡ putAt (now (image .entry)) at (headBytes count ++ wordsOf (λ b. slotWord (now (numbered .entry)) (first + b) 7) count) ⌝ }
 {
     lay_head(image, count, at);
-    lay_buckets(numbered, image, first, count, at + HEAD_SIZE);
+    let from = SLOTS_FROM + SLOT_SIZE * first + BUCKET;
+    lay_words(numbered, image, from, SLOT_SIZE, count, at + HEAD_SIZE);
 }
 
 // Lays three words.
@@ -136,22 +146,6 @@ pub fn lay_key(
     put_zeros(image, end, start - end);
 }
 
-// Lays the indices of a container's children as words. Answers where they end.
-fn lay_children(numbered: &[usize], image: &mut [u8], from: usize, count: usize, at: usize) -> usize
-    requires { ⌜ (length (now numbered) ≡ numberedSize) × (from + count ≤ mostItems) ⌝ }
-    requires { ⌜ ((j : ℕ) → j < count → childWord (now numbered) (from + j) < 2 ^ 32) ⌝ }
-    requires { ⌜ at + 4 * count ≤ length (now image) ⌝ }
-    ensures { λ r. ⌜ Laid (now (image .entry)) (now (image .exit)) at (wordsOf (λ j. childWord (now (numbered .entry)) (from + j)) count) r ⌝ }
-{
-    let mut j = 0;
-    while j < count {
-        let word = child_word(numbered, from + j);
-        put_word(image, at + 4 * j, word as u32);
-        j += 1;
-    }
-    at + 4 * count
-}
-
 // gvdb-rs: add_value.
 // Lays a slot's value that is no nested table: bytes, or children. Answers where it ends.
 pub fn lay_plain(
@@ -173,5 +167,5 @@ pub fn lay_plain(
     if kind == VALUE_KIND {
         return lay_part(arena, image, start, size, at);
     }
-    lay_children(numbered, image, start, size, at)
+    lay_words(numbered, image, CHILDREN_FROM + start, 1, size, at)
 }

@@ -6,7 +6,7 @@ use borrow.Author.Needs.{needs}
 use Rattle.layout.specs.Kind.{valueKind}
 use Rattle.write_bytes.specs.Numbered.{slotWord}
 use Rattle.write_bytes.proofs.SlotLaws.{cover-value, cover-container}
-use Rattle.write_bytes.proofs.PutLaws.{bytes-laid, children-laid}
+use Rattle.write_bytes.proofs.PutLaws.{bytes-laid, children-laid, child-is}
 use Rattle.write_bytes.proofs.put.lay_plain.Statement.{statement}
 use Rattle.write_bytes.proofs.put.lay_plain.Tie as tie
 
@@ -36,17 +36,22 @@ returns c =
     bytes-laid (s .args .numbered .now) (s .args .arena .now) (s .args .slot) (sym (c .before .before .before .before .before .before .before .slot-word .ensures) ∙ c .before .before .before .before .if1 .taken) (c .before .before .before .before .before .before .slot-word2 .ensures) (c .before .before .before .before .before .slot-word3 .ensures)
     (c .before .before .lay-part .ensures)
 
-lay-children-requires : tie.Need-lay-children-requires
-lay-children-requires c κs =
+add-lay-words : tie.Need-add-lay-words
+add-lay-words c = let s = c .before .before .before .before .before .before .before .before in omega (arith, s .pre .0 .slots (s .args .slot) (s .pre .1 .0) .children (λ e. c .before .if1 .left (c .before .before .before .before .slot-word .ensures ∙ e)) (s .pre .1 .1 .0), c .before .before .before .slot-word2 .ensures)
+
+lay-words-requires : tie.Need-lay-words-requires
+lay-words-requires c κs =
     let s = c .before .before .before .before .before .before .before .before in
     let fits = s .pre .0 in
     let other : slotWord (s .args .numbered .now) (s .args .slot) 4 ≡ valueKind → ⊥ = λ e. c .before .if1 .left (c .before .before .before .before .slot-word .ensures ∙ e) in
-    let room = fits .slots (s .args .slot) (s .pre .1 .0) .children other (s .pre .1 .1 .0) in (
-      (fits .long, omega (arith, room, c .before .before .before .slot-word2 .ensures, c .before .before .slot-word3 .ensures)),
-      (
-        λ j less. fits .children (c .before .before .before .slot-word2 .result + j) (omega (arith, room, c .before .before .before .slot-word2 .ensures, c .before .before .slot-word3 .ensures)),
-        omega (arith, s .pre .1 .1 .1, cover-container (s .args .numbered .now) (s .args .slot) other (s .pre .1 .1 .0), c .before .before .slot-word3 .ensures),
+    let room = fits .slots (s .args .slot) (s .pre .1 .0) .children other (s .pre .1 .1 .0) in
+    let from = c .before .before .before .slot-word2 in
+    let count = c .before .before .slot-word3 .ensures in (
+      λ j less. (
+        omega (arith, fits .long, room, from .ensures, count),
+        omega (arith, child-is (s .args .numbered .now) (from .result) j, fits .children (from .result + j) (omega (arith, room, from .ensures, count))),
       ),
+      omega (arith, s .pre .1 .1 .1, cover-container (s .args .numbered .now) (s .args .slot) other (s .pre .1 .1 .0), count),
     )
 
 same-length-2 : tie.Need-same-length-2
@@ -56,7 +61,7 @@ returns-2 : tie.Need-returns-2
 returns-2 c =
     let s = c .before .before .before .before .before .before .before .before .before .before .before in
     children-laid (s .args .numbered .now) (s .args .arena .now) (s .args .slot) (λ e. c .before .before .before .before .if1 .left (c .before .before .before .before .before .before .before .slot-word .ensures ∙ e)) (c .before .before .before .before .before .before .slot-word2 .ensures) (c .before .before .before .before .before .slot-word3 .ensures)
-    (c .before .before .lay-children .ensures)
+    (c .before .before .lay-words .ensures)
 
 pub lay-plain-spec : {M : Type 1} → statement M
 lay-plain-spec =
@@ -68,6 +73,7 @@ lay-plain-spec =
     lay-part-requires
     same-length
     returns
-    lay-children-requires
+    add-lay-words
+    lay-words-requires
     same-length-2
     returns-2)
