@@ -7,7 +7,7 @@ use borrow.Author.Needs.{needs}
 use borrow.Fn.Kinds.{In}
 use borrow.Fn.PlainCycle.{Measures, is, falls, and}
 use lib.ListN.{length}
-use Rattle.layout.specs.Limits.{longestFile}
+use Rattle.layout.specs.Limits.{mostItems, longestFile}
 use Rattle.image.specs.Plan.{place}
 use Rattle.layout.specs.Kind.{tableKind}
 use Rattle.write_bytes.specs.Numbered.{slotWord, numberedBytes}
@@ -179,23 +179,18 @@ measure-table-slot-count-requires t c κs =
     let s = c .before .before .before .before in
     omega (arith, s .pre .1 .0 .long, s .pre .1 .1)
 
+measure-table-few : (t : ℕ) (c : measure-table-lts.After-slot-count (measure-table-claims t) (measure-table-at t) measure-table.Post measure-table-Inv-loop measure-table-μ-loop)
+    → (c .slot-count .result ≤ mostItems) × (c .before .before .before .before .before .args .at ≤ longestFile)
+measure-table-few t c = (omega (arith, few (measure-table-given t c)), c .before .before .before .before .before .pre .1 .1 .1)
+
 measure-table-add-end : (t : ℕ) → measure-table-lts.Need-add-end (measure-table-claims t) (measure-table-at t) measure-table.Post measure-table-Inv-loop measure-table-μ-loop
-measure-table-add-end t c =
-    let s = c .before .before .before .before .before in
-    let g = measure-table-given t c in
-    omega (arith, few g, s .pre .1 .1 .1)
+measure-table-add-end t c = omega (arith, measure-table-few t c)
 
 measure-table-mul-end : (t : ℕ) → measure-table-lts.Need-mul-end (measure-table-claims t) (measure-table-at t) measure-table.Post measure-table-Inv-loop measure-table-μ-loop
-measure-table-mul-end t c =
-    let s = c .before .before .before .before .before in
-    let g = measure-table-given t c in
-    omega (arith, few g, s .pre .1 .1 .1)
+measure-table-mul-end t c = omega (arith, measure-table-few t c)
 
 measure-table-add-end-2 : (t : ℕ) → measure-table-lts.Need-add-end-2 (measure-table-claims t) (measure-table-at t) measure-table.Post measure-table-Inv-loop measure-table-μ-loop
-measure-table-add-end-2 t c =
-    let s = c .before .before .before .before .before in
-    let g = measure-table-given t c in
-    omega (arith, few g, s .pre .1 .1 .1)
+measure-table-add-end-2 t c = omega (arith, measure-table-few t c)
 
 measure-table-returns-2 : (t : ℕ) → measure-table-lts.Need-returns-2 (measure-table-claims t) (measure-table-at t) measure-table.Post measure-table-Inv-loop measure-table-μ-loop
 measure-table-returns-2 t c =

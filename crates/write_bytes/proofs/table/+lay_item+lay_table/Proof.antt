@@ -1,7 +1,8 @@
 -- The cycle of `write_bytes::table::lay_table` and `write_bytes::table::lay_item` meets both contracts. The measure is twice the depth left, and one more for an item.
 -- The invariant of the loop: the records, fragments and values of the first k items are laid.
 use mathlib.Core.Path.{_≡_, refl, sym, _∙_}
-use Prim.Native.Nat.{ℕ, _+_, _-_, _≤_, _<_}
+use Prim.Native.Nat.{ℕ, _+_, _*_, _-_, _≤_, _<_}
+use Rattle.layout.specs.Limits.{longestFile}
 use native.Mathlib.Omega.{arith}
 use borrow.Author.Needs.{needs}
 use borrow.Fn.Kinds.{In}
@@ -217,35 +218,25 @@ lay-table-lay-front-requires t c κs =
     let fits = s .pre .1 .0 in
     ((fits .long, few g), (buckets-fit g, omega (arith, table-least g, s .pre .1 .1 .1)))
 
+-- its chunk ends within the longest file
+lay-table-room : (t : ℕ) (c : lay-table-lts.After-slot-count (lay-table-claims t) (lay-table-at t) lay-table.Post lay-table-Inv-loop lay-table-μ-loop)
+    → c .before .before .before .before .before .before .args .at + 8 + 28 * c .slot-count .result ≤ longestFile
+lay-table-room t c = omega (arith, table-least (lay-table-given t c), c .before .before .before .before .before .before .pre .1 .1 .1)
+
 lay-table-add-records : (t : ℕ) → lay-table-lts.Need-add-records (lay-table-claims t) (lay-table-at t) lay-table.Post lay-table-Inv-loop lay-table-μ-loop
-lay-table-add-records t c =
-    let s = c .before .before .before .before .before .before .before .before .before .before in
-    let g = lay-table-given t (c .before .before .before .before) in
-    omega (arith, table-least g, s .pre .1 .1 .1)
+lay-table-add-records t c = omega (arith, lay-table-room t (c .before .before .before .before))
 
 lay-table-mul-records : (t : ℕ) → lay-table-lts.Need-mul-records (lay-table-claims t) (lay-table-at t) lay-table.Post lay-table-Inv-loop lay-table-μ-loop
-lay-table-mul-records t c =
-    let s = c .before .before .before .before .before .before .before .before .before .before in
-    let g = lay-table-given t (c .before .before .before .before) in
-    omega (arith, table-least g, s .pre .1 .1 .1)
+lay-table-mul-records t c = omega (arith, lay-table-room t (c .before .before .before .before))
 
 lay-table-add-records-2 : (t : ℕ) → lay-table-lts.Need-add-records-2 (lay-table-claims t) (lay-table-at t) lay-table.Post lay-table-Inv-loop lay-table-μ-loop
-lay-table-add-records-2 t c =
-    let s = c .before .before .before .before .before .before .before .before .before .before in
-    let g = lay-table-given t (c .before .before .before .before) in
-    omega (arith, table-least g, s .pre .1 .1 .1)
+lay-table-add-records-2 t c = omega (arith, lay-table-room t (c .before .before .before .before))
 
 lay-table-mul-end : (t : ℕ) → lay-table-lts.Need-mul-end (lay-table-claims t) (lay-table-at t) lay-table.Post lay-table-Inv-loop lay-table-μ-loop
-lay-table-mul-end t c =
-    let s = c .before .before .before .before .before .before .before .before .before .before in
-    let g = lay-table-given t (c .before .before .before .before) in
-    omega (arith, table-least g, s .pre .1 .1 .1)
+lay-table-mul-end t c = omega (arith, lay-table-room t (c .before .before .before .before))
 
 lay-table-add-end : (t : ℕ) → lay-table-lts.Need-add-end (lay-table-claims t) (lay-table-at t) lay-table.Post lay-table-Inv-loop lay-table-μ-loop
-lay-table-add-end t c =
-    let s = c .before .before .before .before .before .before .before .before .before .before in
-    let g = lay-table-given t (c .before .before .before .before) in
-    omega (arith, table-least g, s .pre .1 .1 .1)
+lay-table-add-end t c = omega (arith, lay-table-room t (c .before .before .before .before))
 
 lay-table-loop-holds : (t : ℕ) → lay-table-lts.Need-loop-holds (lay-table-claims t) (lay-table-at t) lay-table.Post lay-table-Inv-loop lay-table-μ-loop
 lay-table-loop-holds t c =

@@ -54,42 +54,22 @@ abbrev sort-front-below : ℕ → In 4 sort-front-kinds.ps
 sort-front-below t =
     and 4 sort-front-kinds.ps (falls 4 sort-front-kinds.ps _<_ μ-sort-front t) sort-front.Pre
 
-sort-returns : (t : ℕ) → sort-lts.Need-returns (
-  sort-front-below t,
-  sort-front.Post,
-  sort-back-below t,
-  sort-back.Post,
-  merge-reads.Asked,
-  merge-reads.Learnt,
-  copy-over-reads.Asked,
-  copy-over-reads.Learnt,
-) (sort-at t) sort.Post
+-- what the calls of `sort` ask and tell, and those of its halves
+abbrev sort-claims : ℕ → sort-lts.Claims
+sort-claims t = (sort-front-below t, sort-front.Post, sort-back-below t, sort-back.Post, merge-reads.Asked, merge-reads.Learnt, copy-over-reads.Asked, copy-over-reads.Learnt)
+
+abbrev half-claims : ℕ → sort-back-lts.Claims
+half-claims t = (sort-below t, sort.Post)
+
+sort-returns : (t : ℕ) → sort-lts.Need-returns (sort-claims t) (sort-at t) sort.Post
 sort-returns t c = let s = c .before .before .before .before .before in sort-short (s .args .words .now) (s .args .arena .now) (s .args .run .now) (c .if1 .taken)
 
-sort-sort-front-requires : (t : ℕ) → sort-lts.Need-sort-front-requires (
-  sort-front-below t,
-  sort-front.Post,
-  sort-back-below t,
-  sort-back.Post,
-  merge-reads.Asked,
-  merge-reads.Learnt,
-  copy-over-reads.Asked,
-  copy-over-reads.Learnt,
-) (sort-at t) sort.Post
+sort-sort-front-requires : (t : ℕ) → sort-lts.Need-sort-front-requires (sort-claims t) (sort-at t) sort.Post
 sort-sort-front-requires t c κs =
     let s = c .before .before .before .before .before .before .before in
     (omega (arith, s .pre .0, c .before .before .if1 .left), (s .pre .1 .0, (omega arith, s .pre .1 .1)))
 
-sort-sort-back-requires : (t : ℕ) → sort-lts.Need-sort-back-requires (
-  sort-front-below t,
-  sort-front.Post,
-  sort-back-below t,
-  sort-back.Post,
-  merge-reads.Asked,
-  merge-reads.Learnt,
-  copy-over-reads.Asked,
-  copy-over-reads.Learnt,
-) (sort-at t) sort.Post
+sort-sort-back-requires : (t : ℕ) → sort-lts.Need-sort-back-requires (sort-claims t) (sort-at t) sort.Post
 sort-sort-back-requires t c κs =
     let s = c .before .before .before .before .before .before .before .before .before .before .before .before .before .before in
     let f = c .before .before .before .before .before .before .sort-front in (
@@ -100,16 +80,7 @@ sort-sort-back-requires t c κs =
       ),
     )
 
-sort-merge-requires : (t : ℕ) → sort-lts.Need-merge-requires (
-  sort-front-below t,
-  sort-front.Post,
-  sort-back-below t,
-  sort-back.Post,
-  merge-reads.Asked,
-  merge-reads.Learnt,
-  copy-over-reads.Asked,
-  copy-over-reads.Learnt,
-) (sort-at t) sort.Post
+sort-merge-requires : (t : ℕ) → sort-lts.Need-merge-requires (sort-claims t) (sort-at t) sort.Post
 sort-merge-requires t c κs =
     let s = c .before .before .before .before .before .before .before .before .before .before .before .before .before .before .before .before .before .before .before .before .before in
     let f = c .before .before .before .before .before .before .before .before .before .before .before .before .before .sort-front in
@@ -119,52 +90,16 @@ sort-merge-requires t c κs =
       (omega (arith, b .kept .1 .1 .0, f .kept .1 .1 .0), omega (arith, b .kept, f .kept, s .pre .1 .1)),
     )
 
-sort-copy-over-requires : (t : ℕ) → sort-lts.Need-copy-over-requires (
-  sort-front-below t,
-  sort-front.Post,
-  sort-back-below t,
-  sort-back.Post,
-  merge-reads.Asked,
-  merge-reads.Learnt,
-  copy-over-reads.Asked,
-  copy-over-reads.Learnt,
-) (sort-at t) sort.Post
+sort-copy-over-requires : (t : ℕ) → sort-lts.Need-copy-over-requires (sort-claims t) (sort-at t) sort.Post
 sort-copy-over-requires t c κs = omega (arith, c .before .before .before .before .merge .kept, c .before .before .before .before .before .before .before .before .before .before .before .sort-back .kept, c .before .before .before .before .before .before .before .before .before .before .before .before .before .before .before .before .before .before .sort-front .kept, c .before .before .before .before .before .before .before .before .before .before .before .before .before .before .before .before .before .before .before .before .before .before .before .before .before .before .pre .1 .1)
 
-sort-same-length : (t : ℕ) → sort-lts.Need-same-length (
-  sort-front-below t,
-  sort-front.Post,
-  sort-back-below t,
-  sort-back.Post,
-  merge-reads.Asked,
-  merge-reads.Learnt,
-  copy-over-reads.Asked,
-  copy-over-reads.Learnt,
-) (sort-at t) sort.Post
+sort-same-length : (t : ℕ) → sort-lts.Need-same-length (sort-claims t) (sort-at t) sort.Post
 sort-same-length t c = c .before .before .copy-over .kept .1 .0 ∙ c .before .before .before .before .before .before .before .before .before .before .before .before .before .before .sort-back .kept .1 .1 .0 ∙ c .before .before .before .before .before .before .before .before .before .before .before .before .before .before .before .before .before .before .before .before .before .sort-front .kept .1 .1 .0
 
-sort-same-length-2 : (t : ℕ) → sort-lts.Need-same-length-2 (
-  sort-front-below t,
-  sort-front.Post,
-  sort-back-below t,
-  sort-back.Post,
-  merge-reads.Asked,
-  merge-reads.Learnt,
-  copy-over-reads.Asked,
-  copy-over-reads.Learnt,
-) (sort-at t) sort.Post
+sort-same-length-2 : (t : ℕ) → sort-lts.Need-same-length-2 (sort-claims t) (sort-at t) sort.Post
 sort-same-length-2 t c = c .before .before .before .before .before .before .before .merge .kept .1 .1 .1 .1 .0 ∙ c .before .before .before .before .before .before .before .before .before .before .before .before .before .before .sort-back .kept .1 .1 .1 .1 .0 ∙ c .before .before .before .before .before .before .before .before .before .before .before .before .before .before .before .before .before .before .before .before .before .sort-front .kept .1 .1 .1 .1 .0
 
-sort-returns-2 : (t : ℕ) → sort-lts.Need-returns-2 (
-  sort-front-below t,
-  sort-front.Post,
-  sort-back-below t,
-  sort-back.Post,
-  merge-reads.Asked,
-  merge-reads.Learnt,
-  copy-over-reads.Asked,
-  copy-over-reads.Learnt,
-) (sort-at t) sort.Post
+sort-returns-2 : (t : ℕ) → sort-lts.Need-returns-2 (sort-claims t) (sort-at t) sort.Post
 sort-returns-2 t c =
     let s = c .before .before .before .before .before .before .before .before .before .before .before .before .before .before .before .before .before .before .before .before .before .before .before .before .before .before .before .before .before in
     let f = c .before .before .before .before .before .before .before .before .before .before .before .before .before .before .before .before .before .before .before .before .before .sort-front in
@@ -174,49 +109,34 @@ sort-returns-2 t c =
     sort-all (s .args .words .now) (s .args .arena .now) (length (s .args .run .now) / 2) (s .args .run .now) (f .last .1 .1 .0) (b .last .1 .1 .0) (b .last .1 .1 .1 .1 .0)
     (f .ensures .0) (f .ensures .1) (b .ensures .0) (b .ensures .1) (c .before .before .before .before .before .before .before .merge .ensures) same room (c .before .before .copy-over .ensures)
 
-sort-back-mul-sort :
-    (t : ℕ) →
-    sort-back-lts.Need-mul-sort (sort-below t, sort.Post) (sort-back-at t) sort-back.Post
+sort-back-mul-sort : (t : ℕ) → sort-back-lts.Need-mul-sort (half-claims t) (sort-back-at t) sort-back.Post
 sort-back-mul-sort t c = let s = c .before .before .before .before in omega (arith, s .pre .1 .1, s .good)
 
-sort-back-sub-sort :
-    (t : ℕ) →
-    sort-back-lts.Need-sub-sort (sort-below t, sort.Post) (sort-back-at t) sort-back.Post
+sort-back-sub-sort : (t : ℕ) → sort-back-lts.Need-sub-sort (half-claims t) (sort-back-at t) sort-back.Post
 sort-back-sub-sort t c = omega (arith, c .before .before .before .before .pre .1 .1)
 
-sort-back-part-sort-start :
-    (t : ℕ) →
-    sort-back-lts.Need-part-sort-start (sort-below t, sort.Post) (sort-back-at t) sort-back.Post
+sort-back-part-sort-start : (t : ℕ) → sort-back-lts.Need-part-sort-start (half-claims t) (sort-back-at t) sort-back.Post
 sort-back-part-sort-start t c = c .before .before .before .before .pre .1 .1 .0
 
-sort-back-part-sort-end :
-    (t : ℕ) →
-    sort-back-lts.Need-part-sort-end (sort-below t, sort.Post) (sort-back-at t) sort-back.Post
+sort-back-part-sort-end : (t : ℕ) → sort-back-lts.Need-part-sort-end (half-claims t) (sort-back-at t) sort-back.Post
 sort-back-part-sort-end t c = omega arith
 
-sort-back-sort-requires :
-    (t : ℕ) →
-    sort-back-lts.Need-sort-requires (sort-below t, sort.Post) (sort-back-at t) sort-back.Post
+sort-back-sort-requires : (t : ℕ) → sort-back-lts.Need-sort-requires (half-claims t) (sort-back-at t) sort-back.Post
 sort-back-sort-requires t c κs =
     let s = c .before .before .before .before .before .before in
     let all = whole-back (s .args .mid) (s .args .run .now) in
     let long = length-drop (s .args .mid) (s .args .run .now) in
     (omega (arith, ap length all, long, s .pre .0), (rw all (known-back (s .args .words .now) (s .args .mid) (s .args .run .now) (s .pre .1 .0)), rw all (omega (arith, long, s .pre .1 .1))))
 
-sort-back-same-length :
-    (t : ℕ) →
-    sort-back-lts.Need-same-length (sort-below t, sort.Post) (sort-back-at t) sort-back.Post
+sort-back-same-length : (t : ℕ) → sort-back-lts.Need-same-length (half-claims t) (sort-back-at t) sort-back.Post
 sort-back-same-length t c =
     let s = c .before .before .before .before .before .before .before .before .before .before .before in
     same-len-mid (s .args .mid) (length (s .args .run .now) - s .args .mid) (s .args .run .now) (c .before .before .before .before .sort .last .1 .1 .0) (c .before .before .before .before .sort .kept .1 .1 .0)
 
-sort-back-same-length-2 :
-    (t : ℕ) →
-    sort-back-lts.Need-same-length-2 (sort-below t, sort.Post) (sort-back-at t) sort-back.Post
+sort-back-same-length-2 : (t : ℕ) → sort-back-lts.Need-same-length-2 (half-claims t) (sort-back-at t) sort-back.Post
 sort-back-same-length-2 t c = c .before .before .before .before .sort .kept .1 .1 .1 .0
 
-sort-back-returns :
-    (t : ℕ) → sort-back-lts.Need-returns (sort-below t, sort.Post) (sort-back-at t) sort-back.Post
+sort-back-returns : (t : ℕ) → sort-back-lts.Need-returns (half-claims t) (sort-back-at t) sort-back.Post
 sort-back-returns t c =
     let s = c .before .before .before .before .before .before .before .before .before .before .before in
     let call = c .before .before .before .before .sort in
@@ -225,39 +145,25 @@ sort-back-returns t c =
       take-put (s .args .mid) (length (s .args .run .now) - s .args .mid) (s .args .run .now) (call .last .1 .1 .0) (s .pre .1 .1 .0),
     )
 
-sort-front-slice-relend-prefix-sort : (t : ℕ) → sort-front-lts.Need-slice-relend-prefix-sort (
-  sort-below t,
-  sort.Post,
-) (sort-front-at t) sort-front.Post
+sort-front-slice-relend-prefix-sort : (t : ℕ) → sort-front-lts.Need-slice-relend-prefix-sort (half-claims t) (sort-front-at t) sort-front.Post
 sort-front-slice-relend-prefix-sort t c = c .before .before .before .before .pre .1 .1 .0
 
-sort-front-slice-aggregate-sort : (t : ℕ) → sort-front-lts.Need-slice-aggregate-sort (
-  sort-below t,
-  sort.Post,
-) (sort-front-at t) sort-front.Post
+sort-front-slice-aggregate-sort : (t : ℕ) → sort-front-lts.Need-slice-aggregate-sort (half-claims t) (sort-front-at t) sort-front.Post
 sort-front-slice-aggregate-sort t c = let s = c .before .before .before .before .before in sym (length-take-le (s .args .mid) (s .args .run .now) (s .pre .1 .1 .0))
 
-sort-front-sort-requires :
-    (t : ℕ) →
-    sort-front-lts.Need-sort-requires (sort-below t, sort.Post) (sort-front-at t) sort-front.Post
+sort-front-sort-requires : (t : ℕ) → sort-front-lts.Need-sort-requires (half-claims t) (sort-front-at t) sort-front.Post
 sort-front-sort-requires t c κs =
     let s = c .before .before .before .before .before .before in
     let long = length-take-le (s .args .mid) (s .args .run .now) (s .pre .1 .1 .0) in
     (omega (arith, long, s .pre .0), (known-front (s .args .words .now) (s .args .mid) (s .args .run .now) (s .pre .1 .0), omega (arith, long, s .pre .1 .1)))
 
-sort-front-same-length :
-    (t : ℕ) →
-    sort-front-lts.Need-same-length (sort-below t, sort.Post) (sort-front-at t) sort-front.Post
+sort-front-same-length : (t : ℕ) → sort-front-lts.Need-same-length (half-claims t) (sort-front-at t) sort-front.Post
 sort-front-same-length t c = length-front (c .before .before .before .before .before .before .before .before .before .before .before .args .run .now) (c .before .before .before .before .sort .last .1 .1 .0) (c .before .before .before .before .before .before .before .before .before .before .before .args .mid) (c .before .before .before .before .sort .kept .1 .1 .0)
 
-sort-front-same-length-2 :
-    (t : ℕ) →
-    sort-front-lts.Need-same-length-2 (sort-below t, sort.Post) (sort-front-at t) sort-front.Post
+sort-front-same-length-2 : (t : ℕ) → sort-front-lts.Need-same-length-2 (half-claims t) (sort-front-at t) sort-front.Post
 sort-front-same-length-2 t c = c .before .before .before .before .sort .kept .1 .1 .1 .0
 
-sort-front-returns :
-    (t : ℕ) →
-    sort-front-lts.Need-returns (sort-below t, sort.Post) (sort-front-at t) sort-front.Post
+sort-front-returns : (t : ℕ) → sort-front-lts.Need-returns (half-claims t) (sort-front-at t) sort-front.Post
 sort-front-returns t c =
     let s = c .before .before .before .before .before .before .before .before .before .before .before in
     let call = c .before .before .before .before .sort in
@@ -267,16 +173,7 @@ sort-front-returns t c =
     )
 
 pub +sort+sort-back+sort-front-spec : {M : Type 1} → statement M
-+sort+sort-back+sort-front-spec = close μ-sort μ-sort-back μ-sort-front (λ t. sort-lts.spec (
-  sort-front-below t,
-  sort-front.Post,
-  sort-back-below t,
-  sort-back.Post,
-  merge-reads.Asked,
-  merge-reads.Learnt,
-  copy-over-reads.Asked,
-  copy-over-reads.Learnt,
-)
++sort+sort-back+sort-front-spec = close μ-sort μ-sort-back μ-sort-front (λ t. sort-lts.spec (sort-claims t)
     (sort-at t)
     sort.Post
     (sort-returns t)
@@ -288,7 +185,7 @@ pub +sort+sort-back+sort-front-spec : {M : Type 1} → statement M
     (sort-same-length-2 t)
     (sort-returns-2 t))
     (λ t. sort-back-lts.spec
-    (sort-below t, sort.Post)
+    (half-claims t)
     (sort-back-at t)
     sort-back.Post
     (sort-back-mul-sort t)
@@ -300,7 +197,7 @@ pub +sort+sort-back+sort-front-spec : {M : Type 1} → statement M
     (sort-back-same-length-2 t)
     (sort-back-returns t))
     λ t. sort-front-lts.spec
-    (sort-below t, sort.Post)
+    (half-claims t)
     (sort-front-at t)
     sort-front.Post
     (sort-front-slice-relend-prefix-sort t)
