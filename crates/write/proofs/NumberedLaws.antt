@@ -15,7 +15,7 @@ use Rattle.image.specs.Image.{planOf, tableBytes, imageOf}
 use Rattle.image.proofs.SameLaws.{plan-same}
 use Rattle.words.proofs.ChoiceLaws.{eq-or-ne}
 use Rattle.layout.specs.Kind.{valueKind, tableKind}
-use Rattle.write_bytes.specs.Numbered.{firstSlot, slotCount, slotWord, childWord, byKind, slotValue, numberedPlan, numberedBytes, numberedImage, NumberedFits, slotCover}
+use Rattle.write_bytes.specs.Numbered.{firstSlot, slotCount, slotKind, slotValueWord, slotValueSize, childWord, byKind, slotValue, numberedPlan, numberedBytes, numberedImage, NumberedFits, slotCover}
 use Rattle.write_bytes.proofs.KindLaws.{kind-value, kind-container}
 use Rattle.write_numbers.specs.Roster.{stateOf}
 use Rattle.write.specs.Write.{imageFor}
@@ -36,8 +36,8 @@ module _ (numbered arena : List ℕ) (fits : NumberedFits numbered arena) (f g :
   value-same : (s at : ℕ) → s < mostItems → slotValue f numbered arena s at ≡ slotValue g numbered arena s at
   unfolding slotValue
   value-same s at l =
-      kind-same (slotWord numbered s 4) (part arena (slotWord numbered s 5) (slotWord numbered s 6)) (f (slotWord numbered s 5) at) (g (slotWord numbered s 5) at)
-      (wordsOf (λ j. childWord numbered (slotWord numbered s 5 + j)) (slotWord numbered s 6)) (λ e. same (slotWord numbered s 5) at (fits .slots s l .guest e))
+      kind-same (slotKind numbered s) (part arena (slotValueWord numbered s) (slotValueSize numbered s)) (f (slotValueWord numbered s) at) (g (slotValueWord numbered s) at)
+      (wordsOf (λ j. childWord numbered (slotValueWord numbered s + j)) (slotValueSize numbered s)) (λ e. same (slotValueWord numbered s) at (fits .slots s l .guest e))
 
   inner-same : (t : ℕ) → t < mostTables → SamePlan (numberedPlan f numbered arena t) (numberedPlan g numbered arena t)
   unfolding numberedPlan slotCover

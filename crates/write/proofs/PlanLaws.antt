@@ -18,7 +18,7 @@ use Rattle.image.specs.Fits.{SamePlan}
 use Rattle.image.specs.Image.{alignOf, childrenOf, childWords, valueOf, coversOf, planOf}
 use Rattle.image.proofs.PlanLaws.{words-same}
 use Rattle.words.proofs.ChoiceLaws.{lt-or-ge}
-use Rattle.write_bytes.specs.Numbered.{firstSlot, slotCount, slotWord, childWord, slotValue, numberedPlan, NumberedFits, slotCover}
+use Rattle.write_bytes.specs.Numbered.{firstSlot, slotCount, slotWord, slotHash, slotParent, slotFragment, slotFragmentSize, slotKind, slotValueWord, slotValueSize, slotBucket, childWord, slotValue, numberedPlan, NumberedFits, slotCover}
 use Rattle.write_numbers.specs.Roster.{stateOf, itemIndex, bucketWord, Rostered}
 use Rattle.write.specs.NumberedAs.{childItems, fromLast, skipped, parentWord, slotOf, startOf, sizeOf, frontWords, backWords, slotWords, Siblings, NumberedStart, NumberedChildren, NumberedSlots, Firsts, NumberedAs}
 use Rattle.write.proofs.StateLaws.{Right}
@@ -79,35 +79,35 @@ module _ (ws ar roster order firsts a b numbered : List ℕ) (r : Right ws ar) (
     word-is : (which : ℕ) → which < 8 → slotWord numbered s which ≡ getD (slotWords ws roster firsts i) which 0
     word-is which w = ap (λ (u : ℕ). slotWord numbered u which) (sym at-slot) ∙ sl .is i l which w
 
-    w0 : slotWord numbered s 0 ≡ itemHash ws i
+    w0 : slotHash numbered s ≡ itemHash ws i
     unfolding slotWords frontWords backWords
     w0 = word-is 0 (omega arith)
 
-    w1 : slotWord numbered s 1 ≡ parentWord ws roster i
+    w1 : slotParent numbered s ≡ parentWord ws roster i
     unfolding slotWords frontWords backWords
     w1 = word-is 1 (omega arith)
 
-    w2 : slotWord numbered s 2 ≡ keyStart ws i + skipped ws i
+    w2 : slotFragment numbered s ≡ keyStart ws i + skipped ws i
     unfolding slotWords frontWords backWords
     w2 = word-is 2 (omega arith)
 
-    w3 : slotWord numbered s 3 ≡ keySize ws i - skipped ws i
+    w3 : slotFragmentSize numbered s ≡ keySize ws i - skipped ws i
     unfolding slotWords frontWords backWords
     w3 = word-is 3 (omega arith)
 
-    w4 : slotWord numbered s 4 ≡ itemKind ws i
+    w4 : slotKind numbered s ≡ itemKind ws i
     unfolding slotWords frontWords backWords
     w4 = word-is 4 (omega arith)
 
-    w5 : slotWord numbered s 5 ≡ startOf ws firsts i
+    w5 : slotValueWord numbered s ≡ startOf ws firsts i
     unfolding slotWords frontWords backWords
     w5 = word-is 5 (omega arith)
 
-    w6 : slotWord numbered s 6 ≡ sizeOf ws firsts i
+    w6 : slotValueSize numbered s ≡ sizeOf ws firsts i
     unfolding slotWords frontWords backWords
     w6 = word-is 6 (omega arith)
 
-    w7 : slotWord numbered s 7 ≡ bucketWord roster s
+    w7 : slotBucket numbered s ≡ bucketWord roster s
     unfolding slotWords frontWords backWords
     w7 = word-is 7 (omega arith) ∙ ap (bucketWord roster) at-slot
 

@@ -13,7 +13,7 @@ use Rattle.words.proofs.ChoiceLaws.{pick-true, pick-false, eq-or-ne, lt-or-ge}
 use Rattle.words.proofs.HashLaws.{hash-below}
 use Rattle.words.proofs.StoreLaws.{length-put, get-put, get-before, get-after, put-append}
 use Rattle.build_memory.specs.Memory.{itemTotal, itemHash, keyStart, keySize, itemKind, valueStart, valueSize, itemGuest, keyOf}
-use Rattle.write_bytes.specs.Numbered.{slotsFrom, numberedSize, slotWord, SlotFits}
+use Rattle.write_bytes.specs.Numbered.{slotsFrom, numberedSize, slotWord, slotHash, slotParent, slotFragment, slotFragmentSize, slotKind, slotValueWord, slotValueSize, slotBucket, SlotFits}
 use Rattle.write_numbers.specs.Roster.{rosterSize, bucketWord, Rostered}
 use Rattle.write.specs.NumberedAs.{skipped, parentWord, slotOf, startOf, sizeOf, frontWords, backWords, slotWords, Clear, startWord, NumberedStart, NumberedChildren, NumberedSlots, Firsts}
 use Rattle.write.proofs.StateLaws.{Right}
@@ -79,14 +79,14 @@ module _ (ws ar roster firsts : List ℕ) (r : Right ws ar) (ro : Rostered ws ar
   unfolding slotWords frontWords backWords
   item-fits numbered i l e =
       let s = slotOf ws roster i in
-      let e0 : slotWord numbered s 0 ≡ itemHash ws i = e 0 (omega arith) in
-      let e1 : slotWord numbered s 1 ≡ parentWord ws roster i = e 1 (omega arith) in
-      let e2 : slotWord numbered s 2 ≡ keyStart ws i + skipped ws i = e 2 (omega arith) in
-      let e3 : slotWord numbered s 3 ≡ keySize ws i - skipped ws i = e 3 (omega arith) in
-      let e4 : slotWord numbered s 4 ≡ itemKind ws i = e 4 (omega arith) in
-      let e5 : slotWord numbered s 5 ≡ startOf ws firsts i = e 5 (omega arith) in
-      let e6 : slotWord numbered s 6 ≡ sizeOf ws firsts i = e 6 (omega arith) in
-      let e7 : slotWord numbered s 7 ≡ bucketWord roster s = e 7 (omega arith) in
+      let e0 : slotHash numbered s ≡ itemHash ws i = e 0 (omega arith) in
+      let e1 : slotParent numbered s ≡ parentWord ws roster i = e 1 (omega arith) in
+      let e2 : slotFragment numbered s ≡ keyStart ws i + skipped ws i = e 2 (omega arith) in
+      let e3 : slotFragmentSize numbered s ≡ keySize ws i - skipped ws i = e 3 (omega arith) in
+      let e4 : slotKind numbered s ≡ itemKind ws i = e 4 (omega arith) in
+      let e5 : slotValueWord numbered s ≡ startOf ws firsts i = e 5 (omega arith) in
+      let e6 : slotValueSize numbered s ≡ sizeOf ws firsts i = e 6 (omega arith) in
+      let e7 : slotBucket numbered s ≡ bucketWord roster s = e 7 (omega arith) in
       let inside : i < 1024 = omega (arith, r .valid .items) in
       record {
         hash = omega (arith, r .hash i l, hash-below plain (keyOf ws ar i));
@@ -168,14 +168,14 @@ zero-word ws roster order a b st ch s which h w =
 
 pub start-fits : (ws ar roster order a b : List ℕ) → NumberedStart roster a → NumberedChildren ws roster order a b → (s : ℕ) → s < 1024 → SlotFits b ar s
 start-fits ws ar roster order a b st ch s h =
-    let e0 : slotWord b s 0 ≡ 0 = word 0 (omega arith) in
-    let e1 : slotWord b s 1 ≡ 0 = word 1 (omega arith) in
-    let e2 : slotWord b s 2 ≡ 0 = word 2 (omega arith) in
-    let e3 : slotWord b s 3 ≡ 0 = word 3 (omega arith) in
-    let e4 : slotWord b s 4 ≡ 0 = word 4 (omega arith) in
-    let e5 : slotWord b s 5 ≡ 0 = word 5 (omega arith) in
-    let e6 : slotWord b s 6 ≡ 0 = word 6 (omega arith) in
-    let e7 : slotWord b s 7 ≡ 0 = word 7 (omega arith) in
+    let e0 : slotHash b s ≡ 0 = word 0 (omega arith) in
+    let e1 : slotParent b s ≡ 0 = word 1 (omega arith) in
+    let e2 : slotFragment b s ≡ 0 = word 2 (omega arith) in
+    let e3 : slotFragmentSize b s ≡ 0 = word 3 (omega arith) in
+    let e4 : slotKind b s ≡ 0 = word 4 (omega arith) in
+    let e5 : slotValueWord b s ≡ 0 = word 5 (omega arith) in
+    let e6 : slotValueSize b s ≡ 0 = word 6 (omega arith) in
+    let e7 : slotBucket b s ≡ 0 = word 7 (omega arith) in
     record {
       hash = omega arith;
       parent = omega arith;

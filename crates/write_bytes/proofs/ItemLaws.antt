@@ -13,7 +13,7 @@ use Rattle.image.proofs.LaidLaws.{laid-join}
 use Rattle.image.proofs.PlanLaws.{length-words}
 use Rattle.layout.specs.Kind.{valueKind, tableKind}
 use Rattle.layout.specs.Limits.{mostItems}
-use Rattle.write_bytes.specs.Numbered.{slotWord, childWord, slotValue, SlotFits, NumberedFits, slotCover}
+use Rattle.write_bytes.specs.Numbered.{slotKind, slotValueWord, slotValueSize, childWord, slotValue, SlotFits, NumberedFits, slotCover}
 use Rattle.write_bytes.specs.Slot.{slotStart, slotRecord, slotKey, plainValue, slotItem, SlotIn, CoverFits, RecordFits}
 use Rattle.write_bytes.proofs.KindLaws.{kind-value, kind-table, kind-container}
 use Rattle.write_bytes.proofs.SlotLaws.{cover-value, cover-table, cover-container, start-above, length-key}
@@ -34,30 +34,30 @@ module _ {numbered arena : List ℕ} {s : ℕ} (g : AtSlot numbered arena s) whe
   pub cover-fits : CoverFits numbered s
   cover-fits = record {
     guest = slot-fits .guest;
-    items = λ e. omega (arith, g .fits .tables (slotWord numbered s 5) (slot-fits .guest e));
+    items = λ e. omega (arith, g .fits .tables (slotValueWord numbered s) (slot-fits .guest e));
     children = λ n m. omega (arith, slot-fits .children n m);
   }
 
   -- a value that is no nested table has the length that its pointer covers
-  pub length-plain : (slotWord numbered s 4 ≡ tableKind → ⊥) → length (plainValue numbered arena s) ≡ slotCover numbered s
+  pub length-plain : (slotKind numbered s ≡ tableKind → ⊥) → length (plainValue numbered arena s) ≡ slotCover numbered s
   length-plain m =
       ⊎-elim
-      (λ e. ap length (plain-bytes numbered arena s e) ∙ length-part arena (slotWord numbered s 5) (slotWord numbered s 6) (slot-fits .value e) ∙ sym (cover-value numbered s e))
-      (λ n. ap length (plain-children numbered arena s n) ∙ length-words (λ j. childWord numbered (slotWord numbered s 5 + j)) (slotWord numbered s 6) ∙ sym (cover-container numbered s n m))
-      (eq-or-ne (slotWord numbered s 4) valueKind)
+      (λ e. ap length (plain-bytes numbered arena s e) ∙ length-part arena (slotValueWord numbered s) (slotValueSize numbered s) (slot-fits .value e) ∙ sym (cover-value numbered s e))
+      (λ n. ap length (plain-children numbered arena s n) ∙ length-words (λ j. childWord numbered (slotValueWord numbered s + j)) (slotValueSize numbered s) ∙ sym (cover-container numbered s n m))
+      (eq-or-ne (slotKind numbered s) valueKind)
 
   module _ (inner : ℕ → ℕ → List ℕ) where
-    pub value-table : (at : ℕ) → slotWord numbered s 4 ≡ tableKind → slotValue inner numbered arena s at ≡ inner (slotWord numbered s 5) at
+    pub value-table : (at : ℕ) → slotKind numbered s ≡ tableKind → slotValue inner numbered arena s at ≡ inner (slotValueWord numbered s) at
     unfolding slotValue
     value-table at e = kind-table _ _ _ _ e
 
-    pub value-plain : (at : ℕ) → (slotWord numbered s 4 ≡ tableKind → ⊥) → slotValue inner numbered arena s at ≡ plainValue numbered arena s
+    pub value-plain : (at : ℕ) → (slotKind numbered s ≡ tableKind → ⊥) → slotValue inner numbered arena s at ≡ plainValue numbered arena s
     unfolding slotValue
     value-plain at m =
         ⊎-elim
         (λ e. kind-value _ _ _ _ e ∙ sym (plain-bytes numbered arena s e))
         (λ n. kind-container _ _ _ _ n m ∙ sym (plain-children numbered arena s n))
-        (eq-or-ne (slotWord numbered s 4) valueKind)
+        (eq-or-ne (slotKind numbered s) valueKind)
 
     pub key-end : (at : ℕ) → at + length (slotKey numbered arena s at (slotStart numbered s at)) ≡ slotStart numbered s at
     key-end at = length-key numbered s arena at (slotStart numbered s at) (slot-fits .fragment) (start-above numbered s at)
@@ -74,7 +74,7 @@ module _ {numbered arena : List ℕ} {s : ℕ} (g : AtSlot numbered arena s) whe
         ⊎-elim
         (λ e. omega (arith, cover-table numbered s e, cover-fits .items e))
         (λ m. omega (arith, ap length (value-plain start m), length-plain m))
-        (eq-or-ne (slotWord numbered s 4) tableKind)
+        (eq-or-ne (slotKind numbered s) tableKind)
 
     pub record-fits : (at : ℕ) → at + length (slotItem inner numbered arena s at) ≤ 16777216 → RecordFits numbered s at (slotStart numbered s at)
     record-fits at h = record {
@@ -103,13 +103,13 @@ module _ {numbered arena : List ℕ} {s : ℕ} (g : AtSlot numbered arena s) whe
 
     -- ---- its value and its end by the words that were read
 
-    pub guest-is : {guest start : ℕ} → slotWord numbered s 4 ≡ tableKind → guest ≡ slotWord numbered s 5 → inner guest start ≡ slotValue inner numbered arena s start
+    pub guest-is : {guest start : ℕ} → slotKind numbered s ≡ tableKind → guest ≡ slotValueWord numbered s → inner guest start ≡ slotValue inner numbered arena s start
     guest-is {guest} {start} k g = rw g (sym (value-table start k))
 
-    pub table-item : (at : ℕ) {guest start : ℕ} → slotWord numbered s 4 ≡ tableKind → guest ≡ slotWord numbered s 5 → start ≡ slotStart numbered s at
+    pub table-item : (at : ℕ) {guest start : ℕ} → slotKind numbered s ≡ tableKind → guest ≡ slotValueWord numbered s → start ≡ slotStart numbered s at
         → at + length (slotItem inner numbered arena s at) ≡ start + length (inner guest start)
     table-item at {guest} {start} k g e = item-end at ∙ rw (guest-is {guest = guest} {start = start} k g, e)
 
-    pub plain-item : (at : ℕ) {start : ℕ} → (slotWord numbered s 4 ≡ tableKind → ⊥) → start ≡ slotStart numbered s at
+    pub plain-item : (at : ℕ) {start : ℕ} → (slotKind numbered s ≡ tableKind → ⊥) → start ≡ slotStart numbered s at
         → at + length (slotItem inner numbered arena s at) ≡ start + slotCover numbered s
     plain-item at m e = omega (arith, e, item-end at, ap length (value-plain (slotStart numbered s at) m), length-plain m)

@@ -14,7 +14,7 @@ use Rattle.image.specs.Laid.{Laid}
 use Rattle.image.specs.Plan.{word, wordsOf}
 use Rattle.image.proofs.PlanLaws.{length-words, words-more, words-same, fourth-word}
 use Rattle.layout.specs.Kind.{valueKind}
-use Rattle.write_bytes.specs.Numbered.{slotsFrom, slotSize, childrenFrom, slotWord, childWord, slotCover}
+use Rattle.write_bytes.specs.Numbered.{slotsFrom, slotSize, childrenFrom, slotWord, slotHash, slotParent, slotFragment, slotFragmentSize, slotKind, slotValueWord, slotValueSize, slotBucket, childWord, slotCover}
 use Rattle.write_bytes.specs.Slot.{headBytes, slotRecord, slotKey, plainValue}
 
 -- ---- words
@@ -44,7 +44,7 @@ words-laid l at f n b {m} e p = record {
 }
 
 -- bucket words and child words as they stand in a numbered table, by the way of one to the next
-pub bucket-is : (numbered : List ℕ) (first b : ℕ) → slotWord numbered (first + b) 7 ≡ getD numbered (slotsFrom + slotSize * first + 7 + slotSize * b) 0
+pub bucket-is : (numbered : List ℕ) (first b : ℕ) → slotBucket numbered (first + b) ≡ getD numbered (slotsFrom + slotSize * first + 7 + slotSize * b) 0
 unfolding slotWord
 bucket-is numbered first b = ap (λ (n : ℕ). getD numbered n 0) (omega arith)
 
@@ -55,7 +55,7 @@ child-is numbered start j = ap (λ (n : ℕ). getD numbered n 0) (omega arith)
 -- a table's bucket words behind its head
 pub front-laid : (numbered l : List ℕ) (first count at : ℕ) {m n : List ℕ} {end : ℕ} → m ≡ putAt l at (headBytes count)
     → Laid m n (at + 8) (wordsOf (λ b. getD numbered (slotsFrom + slotSize * first + 7 + slotSize * b) 0) count) end
-    → n ≡ putAt l at (headBytes count ++ wordsOf (λ b. slotWord numbered (first + b) 7) count)
+    → n ≡ putAt l at (headBytes count ++ wordsOf (λ b. slotBucket numbered (first + b)) count)
 front-laid numbered l first count at p laid =
     put-then l at (headBytes count) _ (ap (λ (n : ℕ). at + n) (sym (length-head count))) p (rw (words-same _ _ count (λ b _. bucket-is numbered first b)) (laid .image-is))
 
@@ -73,17 +73,17 @@ put-three l to a b c {m} {n} {o} p q r =
 
 -- both halves of a record
 pub put-record : (numbered l : List ℕ) (s to at start : ℕ) {hash parent size kind stop : ℕ} {m n : List ℕ}
-    → hash ≡ slotWord numbered s 0 → parent ≡ slotWord numbered s 1 → size ≡ slotWord numbered s 3 → kind ≡ slotWord numbered s 4 → stop ≡ start + slotCover numbered s
-    → slotWord numbered s 3 < 65536 → slotWord numbered s 4 < 256
+    → hash ≡ slotHash numbered s → parent ≡ slotParent numbered s → size ≡ slotFragmentSize numbered s → kind ≡ slotKind numbered s → stop ≡ start + slotCover numbered s
+    → slotFragmentSize numbered s < 65536 → slotKind numbered s < 256
     → m ≡ putAt l to (word hash ++ (word parent ++ word at)) → n ≡ putAt m (to + 12) (word (size + 65536 * kind) ++ (word start ++ word stop))
     → n ≡ putAt l to (slotRecord numbered s at start)
 unfolding slotRecord
 put-record numbered l s to at start {hash} {parent} {size} {kind} {stop} {m} {n} eh ep es ek et small few p q =
-    let front = word (slotWord numbered s 0) ++ (word (slotWord numbered s 1) ++ word at) in
-    let back = (spelled 2 (slotWord numbered s 3) ++ (slotWord numbered s 4 ∷ 0 ∷ [])) ++ (word start ++ word (start + slotCover numbered s)) in
+    let front = word (slotHash numbered s) ++ (word (slotParent numbered s) ++ word at) in
+    let back = (spelled 2 (slotFragmentSize numbered s) ++ (slotKind numbered s ∷ 0 ∷ [])) ++ (word start ++ word (start + slotCover numbered s)) in
     let p′ : m ≡ putAt l to front = rw (← eh, ← ep) p in
-    let q′ : n ≡ putAt m (to + 12) back = rw (← fourth-word (slotWord numbered s 3) (slotWord numbered s 4) small few, ← es, ← ek, ← et) q in
-    put-then l to front back (ap (λ (k : ℕ). to + k) (sym (length-three (slotWord numbered s 0) (slotWord numbered s 1) at))) p′ q′
+    let q′ : n ≡ putAt m (to + 12) back = rw (← fourth-word (slotFragmentSize numbered s) (slotKind numbered s) small few, ← es, ← ek, ← et) q in
+    put-then l to front back (ap (λ (k : ℕ). to + k) (sym (length-three (slotHash numbered s) (slotParent numbered s) at))) p′ q′
     ∙ ap (putAt l to) (simp append-assoc)
 
 -- ---- a fragment
@@ -92,39 +92,39 @@ pub part-laid : (l arena : List ℕ) (start size at : ℕ) {m : List ℕ} → st
     → Laid l m at (part arena start size) (at + size)
 part-laid l arena start size at fits e = record { end-is = ap (λ (n : ℕ). at + n) (sym (length-part arena start size fits)); image-is = e }
 
-pub part-end : (numbered arena l : List ℕ) (s at : ℕ) {from size end : ℕ} {m : List ℕ} → from ≡ slotWord numbered s 2 → size ≡ slotWord numbered s 3
-    → slotWord numbered s 2 + slotWord numbered s 3 ≤ length arena → Laid l m at (part arena from size) end → end ≡ at + slotWord numbered s 3
+pub part-end : (numbered arena l : List ℕ) (s at : ℕ) {from size end : ℕ} {m : List ℕ} → from ≡ slotFragment numbered s → size ≡ slotFragmentSize numbered s
+    → slotFragment numbered s + slotFragmentSize numbered s ≤ length arena → Laid l m at (part arena from size) end → end ≡ at + slotFragmentSize numbered s
 part-end numbered arena l s at {from} {size} {end} ef es fits laid =
-    let e : end ≡ at + length (part arena (slotWord numbered s 2) (slotWord numbered s 3)) = rw (← ef, ← es) (laid .end-is) in
-    e ∙ ap (λ (n : ℕ). at + n) (length-part arena (slotWord numbered s 2) (slotWord numbered s 3) fits)
+    let e : end ≡ at + length (part arena (slotFragment numbered s) (slotFragmentSize numbered s)) = rw (← ef, ← es) (laid .end-is) in
+    e ∙ ap (λ (n : ℕ). at + n) (length-part arena (slotFragment numbered s) (slotFragmentSize numbered s) fits)
 
 -- and the zeros behind it
-pub put-key : (numbered arena l : List ℕ) (s at start : ℕ) {from size end : ℕ} {m n : List ℕ} → from ≡ slotWord numbered s 2 → size ≡ slotWord numbered s 3
-    → slotWord numbered s 2 + slotWord numbered s 3 ≤ length arena → Laid l m at (part arena from size) end → n ≡ putAt m end (zeros (start - end))
+pub put-key : (numbered arena l : List ℕ) (s at start : ℕ) {from size end : ℕ} {m n : List ℕ} → from ≡ slotFragment numbered s → size ≡ slotFragmentSize numbered s
+    → slotFragment numbered s + slotFragmentSize numbered s ≤ length arena → Laid l m at (part arena from size) end → n ≡ putAt m end (zeros (start - end))
     → n ≡ putAt l at (slotKey numbered arena s at start)
 unfolding slotKey
 put-key numbered arena l s at start {from} {size} {end} {m} {n} ef es fits laid q =
-    let bytes = part arena (slotWord numbered s 2) (slotWord numbered s 3) in
+    let bytes = part arena (slotFragment numbered s) (slotFragmentSize numbered s) in
     let p : m ≡ putAt l at bytes = rw (← ef, ← es) (laid .image-is) in
     let e : end ≡ at + length bytes = rw (← ef, ← es) (laid .end-is) in
-    let f : end ≡ at + slotWord numbered s 3 = part-end numbered arena l s at ef es fits laid in
-    put-then l at bytes (zeros (start - (at + slotWord numbered s 3))) e p (q ∙ ap (λ (k : ℕ). putAt m end (zeros (start - k))) f)
+    let f : end ≡ at + slotFragmentSize numbered s = part-end numbered arena l s at ef es fits laid in
+    put-then l at bytes (zeros (start - (at + slotFragmentSize numbered s))) e p (q ∙ ap (λ (k : ℕ). putAt m end (zeros (start - k))) f)
 
 -- ---- a value that is no nested table
 
 module _ (numbered arena : List ℕ) (s : ℕ) where
-  pub plain-bytes : slotWord numbered s 4 ≡ valueKind → plainValue numbered arena s ≡ part arena (slotWord numbered s 5) (slotWord numbered s 6)
+  pub plain-bytes : slotKind numbered s ≡ valueKind → plainValue numbered arena s ≡ part arena (slotValueWord numbered s) (slotValueSize numbered s)
   unfolding plainValue pick
-  plain-bytes e = rw (eq-eqb (slotWord numbered s 4) 118 e)
+  plain-bytes e = rw (eq-eqb (slotKind numbered s) 118 e)
 
-  pub plain-children : (slotWord numbered s 4 ≡ valueKind → ⊥) → plainValue numbered arena s ≡ wordsOf (λ j. childWord numbered (slotWord numbered s 5 + j)) (slotWord numbered s 6)
+  pub plain-children : (slotKind numbered s ≡ valueKind → ⊥) → plainValue numbered arena s ≡ wordsOf (λ j. childWord numbered (slotValueWord numbered s + j)) (slotValueSize numbered s)
   unfolding plainValue pick
-  plain-children n = rw (ne-eqb (slotWord numbered s 4) 118 n)
+  plain-children n = rw (ne-eqb (slotKind numbered s) 118 n)
 
-  pub bytes-laid : {l m : List ℕ} {at start size end : ℕ} → slotWord numbered s 4 ≡ valueKind → start ≡ slotWord numbered s 5 → size ≡ slotWord numbered s 6
+  pub bytes-laid : {l m : List ℕ} {at start size end : ℕ} → slotKind numbered s ≡ valueKind → start ≡ slotValueWord numbered s → size ≡ slotValueSize numbered s
       → Laid l m at (part arena start size) end → Laid l m at (plainValue numbered arena s) end
   bytes-laid k e f p = rw (plain-bytes k, ← e, ← f) p
 
-  pub children-laid : {l m : List ℕ} {at start size end : ℕ} → (slotWord numbered s 4 ≡ valueKind → ⊥) → start ≡ slotWord numbered s 5 → size ≡ slotWord numbered s 6
+  pub children-laid : {l m : List ℕ} {at start size end : ℕ} → (slotKind numbered s ≡ valueKind → ⊥) → start ≡ slotValueWord numbered s → size ≡ slotValueSize numbered s
       → Laid l m at (wordsOf (λ j. getD numbered (childrenFrom + start + 1 * j) 0) size) end → Laid l m at (plainValue numbered arena s) end
   children-laid {start = start} {size = size} k e f p = rw (plain-children k) (rw (← e, ← f, words-same _ _ size (λ j _. child-is numbered start j)) p)

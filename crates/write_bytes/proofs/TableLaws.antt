@@ -13,7 +13,7 @@ use Rattle.image.specs.Laid.{Laid}
 use Rattle.image.proofs.LaidLaws.{put-both}
 use Rattle.image.proofs.PlanLaws.{length-words, length-record, length-records, length-item, offset-zero, offset-next, offset-rises, payload-more, records-more, plan-end}
 use Rattle.layout.specs.Limits.{mostTables, mostItems}
-use Rattle.write_bytes.specs.Numbered.{firstSlot, slotCount, slotWord, numberedPlan, numberedBytes, NumberedFits, slotCover}
+use Rattle.write_bytes.specs.Numbered.{firstSlot, slotCount, slotFragment, slotFragmentSize, slotBucket, numberedPlan, numberedBytes, NumberedFits, slotCover}
 use Rattle.write_bytes.specs.Slot.{headBytes, slotStart, slotRecord, slotKey, slotItem}
 use Rattle.write_bytes.proofs.PutLaws.{length-head}
 
@@ -90,7 +90,7 @@ module _ (inner : ℕ → ℕ → List ℕ) (numbered arena : List ℕ) (t : ℕ
   unfolding numberedPlan
   plan-count = refl
 
-  pub plan-first : (n : ℕ) → wordsOf (numberedPlan inner numbered arena t .first) n ≡ wordsOf (λ b. slotWord numbered (firstSlot numbered t + b) 7) n
+  pub plan-first : (n : ℕ) → wordsOf (numberedPlan inner numbered arena t .first) n ≡ wordsOf (λ b. slotBucket numbered (firstSlot numbered t + b)) n
   unfolding numberedPlan
   plan-first n = refl
 
@@ -98,8 +98,8 @@ module _ (inner : ℕ → ℕ → List ℕ) (numbered arena : List ℕ) (t : ℕ
     pub slot-below : firstSlot numbered t + k < mostItems
     slot-below = omega (arith, fits .tables t known)
 
-    fragment-size : length (part arena (slotWord numbered (firstSlot numbered t + k) 2) (slotWord numbered (firstSlot numbered t + k) 3)) ≡ slotWord numbered (firstSlot numbered t + k) 3
-    fragment-size = length-part arena (slotWord numbered (firstSlot numbered t + k) 2) (slotWord numbered (firstSlot numbered t + k) 3) (fits .slots (firstSlot numbered t + k) slot-below .fragment)
+    fragment-size : length (part arena (slotFragment numbered (firstSlot numbered t + k)) (slotFragmentSize numbered (firstSlot numbered t + k))) ≡ slotFragmentSize numbered (firstSlot numbered t + k)
+    fragment-size = length-part arena (slotFragment numbered (firstSlot numbered t + k)) (slotFragmentSize numbered (firstSlot numbered t + k)) (fits .slots (firstSlot numbered t + k) slot-below .fragment)
 
     pub plan-start : (at : ℕ) → valueStart (numberedPlan inner numbered arena t) k at ≡ slotStart numbered (firstSlot numbered t + k) at
     unfolding numberedPlan valueStart slotStart

@@ -12,7 +12,7 @@ use Rattle.image.specs.Laid.{Laid}
 use Rattle.image.proofs.LaidLaws.{laid-none, laid-as}
 use Rattle.image.proofs.PlanLaws.{offset-zero, offset-rises, plan-end}
 use Rattle.layout.specs.Limits.{mostTables, mostItems, longestFile}
-use Rattle.write_bytes.specs.Numbered.{firstSlot, slotCount, slotWord, numberedPlan, numberedBytes, NumberedFits}
+use Rattle.write_bytes.specs.Numbered.{firstSlot, slotCount, slotBucket, numberedPlan, numberedBytes, NumberedFits}
 use Rattle.write_bytes.specs.declared.Measured.{Measured}
 use Rattle.write_bytes.specs.Measure.{measured}
 use Rattle.write_bytes.specs.Slot.{headBytes, slotStart, slotRecord, slotItem}
@@ -73,7 +73,7 @@ module _ {numbered arena : List ℕ} {t at d first count : ℕ} (g : AtTable num
   pub few : first + count ≤ mostItems
   few = omega (arith, g .fits .tables t (g .known))
 
-  pub buckets-fit : (b : ℕ) → b < count → slotWord numbered (first + b) 7 < 2 ^ 32
+  pub buckets-fit : (b : ℕ) → b < count → slotBucket numbered (first + b) < 2 ^ 32
   buckets-fit b less = g .fits .slots (first + b) (omega (arith, few)) .bucket
 
   module _ (k : ℕ) (less : k < count) {end : ℕ} (e : end ≡ place (planAt numbered arena d t) (baseAt numbered arena d t at) k) where
@@ -126,7 +126,7 @@ module _ {numbered arena : List ℕ} {t at d first count : ℕ} (g : AtTable num
       (rw (g .first-is) (sym (rw (plan-start inner numbered arena t (g .fits) (g .known) k (omega arith) end) (plan-record inner numbered arena t (g .fits) (g .known) k (omega arith) end _))))
       (sym (item-is k less (h .end-is))) laid
 
-  pub whole : (l : List ℕ) {k : ℕ} → k ≡ count → {front image : List ℕ} {end : ℕ} → front ≡ putAt l at (headBytes count ++ wordsOf (λ b. slotWord numbered (first + b) 7) count)
+  pub whole : (l : List ℕ) {k : ℕ} → k ≡ count → {front image : List ℕ} {end : ℕ} → front ≡ putAt l at (headBytes count ++ wordsOf (λ b. slotBucket numbered (first + b)) count)
       → Half (planAt numbered arena d t) front image (at + 8 + 4 * count) (baseAt numbered arena d t at) k end → Laid l image at (numberedBytes numbered arena d t at) end
   whole l {k} all {front} {image} {end} f h =
       let inner = numberedBytes numbered arena (d - 1) in

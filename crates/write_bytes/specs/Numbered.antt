@@ -45,6 +45,31 @@ module _ (numbered : List ℕ) where
   unfoldable pub slotWord : ℕ → ℕ → ℕ
   slotWord s which = getD numbered (slotsFrom + slotSize * s + which) 0
 
+  -- the eight by name, as src/numbered.rt has them; what 5 and 6 say goes by kind
+  abbrev pub slotHash : ℕ → ℕ
+  slotHash s = slotWord s 0
+
+  abbrev pub slotParent : ℕ → ℕ
+  slotParent s = slotWord s 1
+
+  abbrev pub slotFragment : ℕ → ℕ
+  slotFragment s = slotWord s 2
+
+  abbrev pub slotFragmentSize : ℕ → ℕ
+  slotFragmentSize s = slotWord s 3
+
+  abbrev pub slotKind : ℕ → ℕ
+  slotKind s = slotWord s 4
+
+  abbrev pub slotValueWord : ℕ → ℕ
+  slotValueWord s = slotWord s 5
+
+  abbrev pub slotValueSize : ℕ → ℕ
+  slotValueSize s = slotWord s 6
+
+  abbrev pub slotBucket : ℕ → ℕ
+  slotBucket s = slotWord s 7
+
   unfoldable pub childWord : ℕ → ℕ
   childWord j = getD numbered (childrenFrom + j) 0
 
@@ -55,25 +80,25 @@ byKind kind value table container = pick (eqb kind valueKind) value (pick (eqb k
 -- the length that the value pointer of slot s covers: of a nested table the table chunk only
 unfoldable pub slotCover : List ℕ → ℕ → ℕ
 slotCover numbered s =
-    byKind (slotWord numbered s 4) (slotWord numbered s 6) (chunkSize (slotCount numbered (slotWord numbered s 5))) (4 * slotWord numbered s 6)
+    byKind (slotKind numbered s) (slotValueSize numbered s) (chunkSize (slotCount numbered (slotValueWord numbered s))) (4 * slotValueSize numbered s)
 
 module _ (inner : ℕ → ℕ → List ℕ) (numbered arena : List ℕ) where
   -- what slot s holds, if it starts at an offset: a value's bytes, a nested table with all its chunks, or the children's indices
   unfoldable pub slotValue : ℕ → ℕ → List ℕ
   slotValue s at =
-      byKind (slotWord numbered s 4) (part arena (slotWord numbered s 5) (slotWord numbered s 6)) (inner (slotWord numbered s 5) at)
-      (wordsOf (λ j. childWord numbered (slotWord numbered s 5 + j)) (slotWord numbered s 6))
+      byKind (slotKind numbered s) (part arena (slotValueWord numbered s) (slotValueSize numbered s)) (inner (slotValueWord numbered s) at)
+      (wordsOf (λ j. childWord numbered (slotValueWord numbered s + j)) (slotValueSize numbered s))
 
   -- table t, index by index
   unfoldable pub numberedPlan : ℕ → Plan
   numberedPlan t = record {
     count = slotCount numbered t;
-    first = λ b. slotWord numbered (firstSlot numbered t + b) 7;
-    hash = λ k. slotWord numbered (firstSlot numbered t + k) 0;
-    parent = λ k. slotWord numbered (firstSlot numbered t + k) 1;
-    fragment = λ k. part arena (slotWord numbered (firstSlot numbered t + k) 2) (slotWord numbered (firstSlot numbered t + k) 3);
-    kind = λ k. slotWord numbered (firstSlot numbered t + k) 4;
-    align = λ k. byKind (slotWord numbered (firstSlot numbered t + k) 4) 8 4 4;
+    first = λ b. slotBucket numbered (firstSlot numbered t + b);
+    hash = λ k. slotHash numbered (firstSlot numbered t + k);
+    parent = λ k. slotParent numbered (firstSlot numbered t + k);
+    fragment = λ k. part arena (slotFragment numbered (firstSlot numbered t + k)) (slotFragmentSize numbered (firstSlot numbered t + k));
+    kind = λ k. slotKind numbered (firstSlot numbered t + k);
+    align = λ k. byKind (slotKind numbered (firstSlot numbered t + k)) 8 4 4;
     value = λ k at. slotValue (firstSlot numbered t + k) at;
     covers = λ k. slotCover numbered (firstSlot numbered t + k);
   }
@@ -90,15 +115,15 @@ numberedImage numbered arena root = zeros headerSize ++ numberedBytes numbered a
 -- ---- a numbered table that can be laid: every part lies where it should, and every word fits its field
 
 pub record SlotFits (numbered arena : List ℕ) (s : ℕ) : Type 0 where
-  pub hash : slotWord numbered s 0 < 2 ^ 32
-  pub parent : slotWord numbered s 1 < 2 ^ 32
-  pub fragment : slotWord numbered s 2 + slotWord numbered s 3 ≤ length arena
-  pub size : slotWord numbered s 3 < 65536
-  pub kind : slotWord numbered s 4 < 256
-  pub bucket : slotWord numbered s 7 < 2 ^ 32
-  pub value : slotWord numbered s 4 ≡ valueKind → slotWord numbered s 5 + slotWord numbered s 6 ≤ length arena
-  pub guest : slotWord numbered s 4 ≡ tableKind → slotWord numbered s 5 < mostTables
-  pub children : (slotWord numbered s 4 ≡ valueKind → ⊥) → (slotWord numbered s 4 ≡ tableKind → ⊥) → slotWord numbered s 5 + slotWord numbered s 6 ≤ mostItems
+  pub hash : slotHash numbered s < 2 ^ 32
+  pub parent : slotParent numbered s < 2 ^ 32
+  pub fragment : slotFragment numbered s + slotFragmentSize numbered s ≤ length arena
+  pub size : slotFragmentSize numbered s < 65536
+  pub kind : slotKind numbered s < 256
+  pub bucket : slotBucket numbered s < 2 ^ 32
+  pub value : slotKind numbered s ≡ valueKind → slotValueWord numbered s + slotValueSize numbered s ≤ length arena
+  pub guest : slotKind numbered s ≡ tableKind → slotValueWord numbered s < mostTables
+  pub children : (slotKind numbered s ≡ valueKind → ⊥) → (slotKind numbered s ≡ tableKind → ⊥) → slotValueWord numbered s + slotValueSize numbered s ≤ mostItems
 
 pub record NumberedFits (numbered arena : List ℕ) : Type 0 where
   pub long : length numbered ≡ numberedSize

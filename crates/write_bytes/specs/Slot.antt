@@ -11,7 +11,7 @@ use Rattle.words.specs.Align.{aligned}
 use Rattle.image.specs.Plan.{word, wordsOf}
 use Rattle.layout.specs.Kind.{valueKind, tableKind}
 use Rattle.layout.specs.Limits.{mostTables, mostItems}
-use Rattle.write_bytes.specs.Numbered.{numberedSize, slotCount, slotWord, childWord, byKind, slotCover, slotValue}
+use Rattle.write_bytes.specs.Numbered.{numberedSize, slotCount, slotHash, slotParent, slotFragment, slotFragmentSize, slotKind, slotValueWord, slotValueSize, childWord, byKind, slotCover, slotValue}
 
 -- a table's first word and its count of buckets
 unfoldable pub headBytes : ℕ → List ℕ
@@ -20,23 +20,23 @@ headBytes count = word 0x28000000 ++ word count
 module _ (numbered : List ℕ) where
   -- where the value of slot s starts, if its key starts at `at`
   unfoldable pub slotStart : ℕ → ℕ → ℕ
-  slotStart s at = aligned (at + slotWord numbered s 3) (byKind (slotWord numbered s 4) 8 4 4)
+  slotStart s at = aligned (at + slotFragmentSize numbered s) (byKind (slotKind numbered s) 8 4 4)
 
   -- its record, the key at `at`, the value at `start`
   unfoldable pub slotRecord : ℕ → ℕ → ℕ → List ℕ
   slotRecord s at start =
-      word (slotWord numbered s 0) ++ (word (slotWord numbered s 1) ++ (word at
-      ++ ((spelled 2 (slotWord numbered s 3) ++ (slotWord numbered s 4 ∷ 0 ∷ [])) ++ (word start ++ word (start + slotCover numbered s)))))
+      word (slotHash numbered s) ++ (word (slotParent numbered s) ++ (word at
+      ++ ((spelled 2 (slotFragmentSize numbered s) ++ (slotKind numbered s ∷ 0 ∷ [])) ++ (word start ++ word (start + slotCover numbered s)))))
 
 -- its fragment at `at`, and zeros up to the value at `start`
 unfoldable pub slotKey : List ℕ → List ℕ → ℕ → ℕ → ℕ → List ℕ
-slotKey numbered arena s at start = part arena (slotWord numbered s 2) (slotWord numbered s 3) ++ zeros (start - (at + slotWord numbered s 3))
+slotKey numbered arena s at start = part arena (slotFragment numbered s) (slotFragmentSize numbered s) ++ zeros (start - (at + slotFragmentSize numbered s))
 
 -- its value, where that is no nested table: bytes, or the children's indices
 unfoldable pub plainValue : List ℕ → List ℕ → ℕ → List ℕ
 plainValue numbered arena s =
-    pick (eqb (slotWord numbered s 4) valueKind) (part arena (slotWord numbered s 5) (slotWord numbered s 6))
-    (wordsOf (λ j. childWord numbered (slotWord numbered s 5 + j)) (slotWord numbered s 6))
+    pick (eqb (slotKind numbered s) valueKind) (part arena (slotValueWord numbered s) (slotValueSize numbered s))
+    (wordsOf (λ j. childWord numbered (slotValueWord numbered s + j)) (slotValueSize numbered s))
 
 -- its fragment, zeros and value
 unfoldable pub slotItem : (ℕ → ℕ → List ℕ) → List ℕ → List ℕ → ℕ → ℕ → List ℕ
@@ -51,15 +51,15 @@ pub record SlotIn (numbered : List ℕ) (s : ℕ) : Type 0 where
 
 -- its guest is a table, and what its pointer covers can be counted
 pub record CoverFits (numbered : List ℕ) (s : ℕ) : Type 0 where
-  pub guest : slotWord numbered s 4 ≡ tableKind → slotWord numbered s 5 < mostTables
-  pub items : slotWord numbered s 4 ≡ tableKind → slotCount numbered (slotWord numbered s 5) ≤ mostItems
-  pub children : (slotWord numbered s 4 ≡ valueKind → ⊥) → (slotWord numbered s 4 ≡ tableKind → ⊥) → slotWord numbered s 6 ≤ mostItems
+  pub guest : slotKind numbered s ≡ tableKind → slotValueWord numbered s < mostTables
+  pub items : slotKind numbered s ≡ tableKind → slotCount numbered (slotValueWord numbered s) ≤ mostItems
+  pub children : (slotKind numbered s ≡ valueKind → ⊥) → (slotKind numbered s ≡ tableKind → ⊥) → slotValueSize numbered s ≤ mostItems
 
 -- the words of its record fit their fields
 pub record RecordFits (numbered : List ℕ) (s at start : ℕ) : Type 0 where
-  pub hash : slotWord numbered s 0 < 2 ^ 32
-  pub parent : slotWord numbered s 1 < 2 ^ 32
+  pub hash : slotHash numbered s < 2 ^ 32
+  pub parent : slotParent numbered s < 2 ^ 32
   pub key : at < 2 ^ 32
-  pub size : slotWord numbered s 3 < 65536
-  pub kind : slotWord numbered s 4 < 256
+  pub size : slotFragmentSize numbered s < 65536
+  pub kind : slotKind numbered s < 256
   pub stop : start + slotCover numbered s < 2 ^ 32

@@ -27,7 +27,7 @@ ghost use Rattle.image.specs.Laid.{Laid};
 ghost use Rattle.image.specs.Plan.{word, wordsOf};
 ghost use Rattle.layout.specs.Kind.{tableKind};
 ghost use Rattle.layout.specs.Limits.{mostItems};
-ghost use Rattle.write_bytes.specs.Numbered.{slotWord, numberedSize, NumberedFits, slotCover};
+ghost use Rattle.write_bytes.specs.Numbered.{slotFragment, slotFragmentSize, slotKind, slotBucket, numberedSize, NumberedFits, slotCover};
 ghost use Rattle.write_bytes.specs.Slot.{headBytes, slotRecord, slotKey, plainValue, SlotIn, CoverFits, RecordFits};
 
 // The first word of every table: a shift of 5, and no bloom words.
@@ -68,9 +68,9 @@ fn lay_words(
 // Lays what stands before a table's records: its head and its bucket words.
 pub fn lay_front(numbered: &[usize], image: &mut [u8], first: usize, count: usize, at: usize)
     requires { ⌜ (length (now numbered) ≡ numberedSize) × (first + count ≤ mostItems) ⌝ }
-    requires { ⌜ ((b : ℕ) → b < count → slotWord (now numbered) (first + b) 7 < 2 ^ 32) ⌝ }
+    requires { ⌜ ((b : ℕ) → b < count → slotBucket (now numbered) (first + b) < 2 ^ 32) ⌝ }
     requires { ⌜ at + headSize + bucketSize * count ≤ length (now image) ⌝ }
-    ensures { λ _. ⌜ now (image .exit) ≡ putAt (now (image .entry)) at (headBytes count ++ wordsOf (λ b. slotWord (now (numbered .entry)) (first + b) 7) count) ⌝ }
+    ensures { λ _. ⌜ now (image .exit) ≡ putAt (now (image .entry)) at (headBytes count ++ wordsOf (λ b. slotBucket (now (numbered .entry)) (first + b)) count) ⌝ }
 {
     lay_head(image, count, at);
     let from = SLOTS_FROM + SLOT_SIZE * first + BUCKET;
@@ -136,8 +136,8 @@ pub fn lay_key(
     start: usize,
 )
     requires { ⌜ SlotIn (now numbered) slot ⌝ }
-    requires { ⌜ slotWord (now numbered) slot 2 + slotWord (now numbered) slot 3 ≤ length (now arena) ⌝ }
-    requires { ⌜ (at + slotWord (now numbered) slot 3 ≤ start) × (start ≤ length (now image)) ⌝ }
+    requires { ⌜ slotFragment (now numbered) slot + slotFragmentSize (now numbered) slot ≤ length (now arena) ⌝ }
+    requires { ⌜ (at + slotFragmentSize (now numbered) slot ≤ start) × (start ≤ length (now image)) ⌝ }
     ensures { λ _. ⌜ now (image .exit) ≡ putAt (now (image .entry)) at (slotKey (now (numbered .entry)) (now (arena .entry)) slot at start) ⌝ }
 {
     let from = slot_word(numbered, slot, FRAGMENT);
@@ -157,7 +157,7 @@ pub fn lay_plain(
 ) -> usize
     requires { ⌜ NumberedFits (now numbered) (now arena) ⌝ }
     requires { ⌜ slot < mostItems ⌝ }
-    requires { ⌜ (slotWord (now numbered) slot 4 ≡ tableKind → ⊥) ⌝ }
+    requires { ⌜ (slotKind (now numbered) slot ≡ tableKind → ⊥) ⌝ }
     requires { ⌜ at + slotCover (now numbered) slot ≤ length (now image) ⌝ }
     ensures { λ r. ⌜ Laid (now (image .entry)) (now (image .exit)) at (plainValue (now (numbered .entry)) (now (arena .entry)) slot) r ⌝ }
 {

@@ -15,7 +15,7 @@ ghost use mathlib.Core.Path.{_≡_};
 ghost use Prim.Native.Nat.{_≤_, _<_};
 ghost use Rattle.words.specs.Align.{alignmentOf};
 ghost use Rattle.layout.specs.Limits.{longestFile};
-ghost use Rattle.write_bytes.specs.Numbered.{slotWord, byKind, slotCover};
+ghost use Rattle.write_bytes.specs.Numbered.{slotFragmentSize, byKind, slotCover};
 ghost use Rattle.write_bytes.specs.Slot.{slotStart, SlotIn, CoverFits};
 
 // How a value of this kind is aligned.
@@ -32,7 +32,7 @@ fn alignment_of(kind: usize) -> Alignment
 // Where a slot's value starts, if its key starts at `at`.
 pub fn value_start(numbered: &[usize], slot: usize, at: usize) -> usize
     requires { ⌜ SlotIn (now numbered) slot ⌝ }
-    requires { ⌜ (slotWord (now numbered) slot 3 < 65536) × (at ≤ longestFile) ⌝ }
+    requires { ⌜ (slotFragmentSize (now numbered) slot < 65536) × (at ≤ longestFile) ⌝ }
     ensures { λ r. ⌜ r ≡ slotStart (now (numbered .entry)) slot at ⌝ }
 {
     let size = slot_word(numbered, slot, FRAGMENT_SIZE);

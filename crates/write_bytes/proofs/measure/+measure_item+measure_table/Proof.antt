@@ -10,7 +10,7 @@ use lib.ListN.{length}
 use Rattle.layout.specs.Limits.{mostItems, longestFile}
 use Rattle.image.specs.Plan.{place}
 use Rattle.layout.specs.Kind.{tableKind}
-use Rattle.write_bytes.specs.Numbered.{slotWord, numberedBytes}
+use Rattle.write_bytes.specs.Numbered.{slotKind, numberedBytes}
 use Rattle.write_bytes.specs.Slot.{slotItem}
 use Rattle.write_bytes.specs.Measure.{measured}
 use Rattle.write_bytes.proofs.ItemLaws.{AtSlot, slot-in, slot-fits, cover-fits, item-end, table-item, plain-item}
@@ -127,7 +127,7 @@ measure-item-returns-3 t c =
     let numbered = s .args .numbered .now in
     let arena = s .args .arena .now in
     let inner = numberedBytes numbered arena (s .args .depth) in
-    let plain : slotWord numbered (s .args .slot) 4 ≡ tableKind → ⊥ = λ e. c .before .before .if2 .left (c .before .before .before .slot-word .ensures ∙ e) in
+    let plain : slotKind numbered (s .args .slot) ≡ tableKind → ⊥ = λ e. c .before .before .if2 .left (c .before .before .before .slot-word .ensures ∙ e) in
     let ends = plain-item g inner (s .args .at) plain (c .before .before .before .before .before .value-start .ensures) in
     sym (beyond _ (omega (arith, ends, c .before .cover .ensures, c .if3 .taken, c .before .before .before .before .if1 .left)))
 
@@ -141,7 +141,7 @@ measure-item-returns-4 t c =
     let numbered = s .args .numbered .now in
     let arena = s .args .arena .now in
     let inner = numberedBytes numbered arena (s .args .depth) in
-    let plain : slotWord numbered (s .args .slot) 4 ≡ tableKind → ⊥ = λ e. c .before .before .if2 .left (c .before .before .before .slot-word .ensures ∙ e) in
+    let plain : slotKind numbered (s .args .slot) ≡ tableKind → ⊥ = λ e. c .before .before .if2 .left (c .before .before .before .slot-word .ensures ∙ e) in
     let ends = plain-item g inner (s .args .at) plain (c .before .before .before .before .before .value-start .ensures) in
     let e : c .before .before .before .before .before .value-start .result + c .before .cover .result ≡ s .args .at + length (slotItem inner numbered arena (s .args .slot) (s .args .at)) = omega (arith, ends, c .before .cover .ensures) in
     sym (ap measured (sym e) ∙ within _ (omega (arith, c .if3 .left, c .before .before .before .before .if1 .left)))

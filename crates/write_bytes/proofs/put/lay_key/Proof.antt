@@ -3,7 +3,7 @@ use mathlib.Core.Path.{_≡_}
 use Prim.Native.Nat.{_+_}
 use native.Mathlib.Omega.{arith}
 use borrow.Author.Needs.{needs}
-use Rattle.write_bytes.specs.Numbered.{slotWord}
+use Rattle.write_bytes.specs.Numbered.{slotFragmentSize}
 use Rattle.write_bytes.proofs.PutLaws.{part-end, put-key}
 use Rattle.write_bytes.proofs.put.lay_key.Statement.{statement}
 use Rattle.write_bytes.proofs.put.lay_key.Tie as tie
@@ -18,7 +18,7 @@ lay-part-requires : tie.Need-lay-part-requires
 lay-part-requires c κs = search needs
 
 -- where the fragment ends
-ends : (c : tie.After-lay-part) → c .lay-part .result ≡ c .before .before .before .before .before .before .before .args .at + slotWord (c .before .before .before .before .before .before .before .args .numbered .now) (c .before .before .before .before .before .before .before .args .slot) 3
+ends : (c : tie.After-lay-part) → c .lay-part .result ≡ c .before .before .before .before .before .before .before .args .at + slotFragmentSize (c .before .before .before .before .before .before .before .args .numbered .now) (c .before .before .before .before .before .before .before .args .slot)
 ends c =
     let s = c .before .before .before .before .before .before .before in
     let args = s .args in

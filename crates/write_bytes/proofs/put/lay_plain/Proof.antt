@@ -4,7 +4,7 @@ use Prim.Native.Nat.{_+_}
 use native.Mathlib.Omega.{arith}
 use borrow.Author.Needs.{needs}
 use Rattle.layout.specs.Kind.{valueKind}
-use Rattle.write_bytes.specs.Numbered.{slotWord}
+use Rattle.write_bytes.specs.Numbered.{slotKind}
 use Rattle.write_bytes.proofs.SlotLaws.{cover-value, cover-container}
 use Rattle.write_bytes.proofs.PutLaws.{bytes-laid, children-laid, child-is}
 use Rattle.write_bytes.proofs.put.lay_plain.Statement.{statement}
@@ -43,7 +43,7 @@ lay-words-requires : tie.Need-lay-words-requires
 lay-words-requires c κs =
     let s = c .before .before .before .before .before .before .before .before in
     let fits = s .pre .0 in
-    let other : slotWord (s .args .numbered .now) (s .args .slot) 4 ≡ valueKind → ⊥ = λ e. c .before .if1 .left (c .before .before .before .before .slot-word .ensures ∙ e) in
+    let other : slotKind (s .args .numbered .now) (s .args .slot) ≡ valueKind → ⊥ = λ e. c .before .if1 .left (c .before .before .before .before .slot-word .ensures ∙ e) in
     let room = fits .slots (s .args .slot) (s .pre .1 .0) .children other (s .pre .1 .1 .0) in
     let from = c .before .before .before .slot-word2 in
     let count = c .before .before .slot-word3 .ensures in (

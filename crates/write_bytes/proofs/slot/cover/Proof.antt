@@ -3,7 +3,7 @@ use mathlib.Core.Path.{_≡_, sym, ap, _∙_}
 use Prim.Native.Nat.{ℕ, _+_, _*_, _≤_}
 use native.Mathlib.Omega.{arith}
 use borrow.Author.Needs.{needs}
-use Rattle.write_bytes.specs.Numbered.{slotWord, slotCount}
+use Rattle.write_bytes.specs.Numbered.{slotValueWord, slotCount}
 use Rattle.write_bytes.proofs.SlotLaws.{cover-value, cover-table, cover-container}
 use Rattle.write_bytes.proofs.slot.cover.Statement.{statement}
 use Rattle.write_bytes.proofs.slot.cover.Tie as tie
@@ -28,7 +28,7 @@ slot-count-requires c κs =
     omega (arith, c .slot-word3 .ensures, s .pre .0, s .pre .1 .guest (sym (c .before .before .before .before .slot-word .ensures) ∙ c .before .if2 .taken))
 
 -- the guest's count
-counted : (c : tie.After-slot-count) → c .slot-count .result ≡ slotCount (c .before .before .before .before .before .before .before .args .numbered .now) (slotWord (c .before .before .before .before .before .before .before .args .numbered .now) (c .before .before .before .before .before .before .before .args .slot) 5)
+counted : (c : tie.After-slot-count) → c .slot-count .result ≡ slotCount (c .before .before .before .before .before .before .before .args .numbered .now) (slotValueWord (c .before .before .before .before .before .before .before .args .numbered .now) (c .before .before .before .before .before .before .before .args .slot))
 counted c = c .slot-count .ensures ∙ ap (slotCount (c .before .before .before .before .before .before .before .args .numbered .now)) (c .before .slot-word3 .ensures)
 
 few : (c : tie.After-slot-count) → c .slot-count .result ≤ 1024

@@ -9,7 +9,7 @@ use borrow.Fn.Kinds.{In}
 use borrow.Fn.PlainCycle.{Measures, is, falls, and}
 use lib.ListN.{length}
 use Rattle.layout.specs.Kind.{tableKind}
-use Rattle.write_bytes.specs.Numbered.{slotWord, numberedBytes}
+use Rattle.write_bytes.specs.Numbered.{slotKind, numberedBytes}
 use Rattle.write_bytes.proofs.SlotLaws.{start-above}
 use Rattle.write_bytes.proofs.ItemLaws.{AtSlot, slot-in, slot-fits, cover-fits, item-end, record-fits, item-laid, guest-is, table-item, plain-item, value-plain}
 use Rattle.write_bytes.proofs.TableLaws.{Half}
@@ -158,7 +158,7 @@ lay-item-lay-plain-requires t c κs =
     let fits = s .pre .1 .0 in
     let inside = s .pre .1 .1 .0 .0 in
     let inner = numberedBytes numbered arena (s .args .depth) in
-    let plain : slotWord numbered (s .args .slot) 4 ≡ tableKind → ⊥ = λ e. c .before .if1 .left (c .before .before .slot-word .ensures ∙ e) in
+    let plain : slotKind numbered (s .args .slot) ≡ tableKind → ⊥ = λ e. c .before .if1 .left (c .before .before .slot-word .ensures ∙ e) in
     let ends = plain-item g inner (s .args .at) plain (c .before .before .before .before .before .before .before .before .before .before .before .value-start .ensures) in
     (fits, (inside, (plain, omega (arith, ends, s .pre .1 .1 .1, c .before .before .before .before .before .lay-key .kept, c .before .before .before .before .before .before .before .before .before .lay-record .kept))))
 
@@ -172,7 +172,7 @@ lay-item-returns-2 t c =
     let numbered = s .args .numbered .now in
     let arena = s .args .arena .now in
     let inner = numberedBytes numbered arena (s .args .depth) in
-    let plain : slotWord numbered (s .args .slot) 4 ≡ tableKind → ⊥ = λ e. c .before .before .before .before .if1 .left (c .before .before .before .before .before .slot-word .ensures ∙ e) in
+    let plain : slotKind numbered (s .args .slot) ≡ tableKind → ⊥ = λ e. c .before .before .before .before .if1 .left (c .before .before .before .before .before .slot-word .ensures ∙ e) in
     item-laid g inner (s .args .image .now) (s .args .to) (s .args .at) (c .before .before .before .before .before .before .before .before .before .before .before .before .before .before .value-start .ensures) (c .before .before .before .before .before .before .before .before .before .before .before .before .lay-record .ensures)
     (c .before .before .before .before .before .before .before .before .lay-key .ensures) (sym (value-plain g inner _ plain)) (c .before .before .lay-plain .ensures)
 
