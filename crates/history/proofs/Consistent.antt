@@ -9,7 +9,7 @@ use mathlib.Core.List.{List}
 use borrow.Author.Tests.{eqb-true, eqb-false, eq-eqb, ne-eqb, le-ltb}
 use lib.Dec.{eqb, ltb}
 use lib.ListN.{length, take, getD}
-use Rattle.layout.specs.Limits.{deepest}
+use Rattle.layout.specs.Limits.{deepest, longestKey, mostItems, mostTables}
 use Rattle.words.specs.Choice.{pick}
 use Rattle.text.specs.Utf8.{isUtf8}
 use Rattle.layout.specs.Kind.{kindKnown}
@@ -94,7 +94,7 @@ pub record NewItem (T n : ℕ) (g : ℕ → Table) (f : ℕ → Item) (x : Item)
   pub known : x .table < T
   pub loose : g (x .table) .placed ≡ 1 → ⊥
   pub text : isUtf8 (x .key) ≡ true
-  pub short : length (x .key) ≤ 1024
+  pub short : length (x .key) ≤ longestKey
   pub key-bytes : isBytes (x .key) ≡ true
   pub kind : kindKnown (x .kind) ≡ true
   pub missing : (i : ℕ) → i < n → f i .table ≡ x .table → f i .key ≡ x .key → ⊥
@@ -104,7 +104,7 @@ pub record NewItem (T n : ℕ) (g : ℕ → Table) (f : ℕ → Item) (x : Item)
   pub free : x .kind ≡ 72 → (i : ℕ) → i < n → f i .kind ≡ 72 → f i .guest ≡ x .guest → ⊥
 
 module _ (T n : ℕ) (g : ℕ → Table) (f f′ : ℕ → Item) (x : Item) (consistent : Consistent T n g f) (same : (j : ℕ) → j < n → f′ j ≡ f j) (is : f′ n ≡ x)
-    (few : n < 1024) (new : NewItem T n g f x) where
+    (few : n < mostItems) (new : NewItem T n g f x) where
   abbrev same-place : (j : ℕ) → j < n → (f′ j .table ≡ f j .table) × (f′ j .key ≡ f j .key)
   same-place j l = (ap (λ (y : Item). y .table) (same j l), ap (λ (y : Item). y .key) (same j l))
 
@@ -144,7 +144,7 @@ module _ (T n : ℕ) (g : ℕ → Table) (f f′ : ℕ → Item) (x : Item) (con
         flags = consistent .flags;
         known = extend (λ i y. y .table < T) (consistent .known) (new .known);
         texts = extend (λ i y. isUtf8 (y .key) ≡ true) (consistent .texts) (new .text);
-        short = extend (λ i y. length (y .key) ≤ 1024) (consistent .short) (new .short);
+        short = extend (λ i y. length (y .key) ≤ longestKey) (consistent .short) (new .short);
         key-bytes = extend (λ i y. isBytes (y .key) ≡ true) (consistent .key-bytes) (new .key-bytes);
         kinds = extend (λ i y. kindKnown (y .kind) ≡ true) (consistent .kinds) (new .kind);
         distinct = λ i j hi hj et ek. pair (λ a b. (a .table ≡ b .table) × (a .key ≡ b .key)) (λ a b la lb r. consistent .distinct a b la lb (r .0) (r .1))
@@ -212,7 +212,7 @@ module _ (T n : ℕ) (g : ℕ → Table) (f f′ : ℕ → Item) (o kind : ℕ) 
         flags = consistent .flags;
         known = change (λ i z. z .table < T) (consistent .known) (consistent .known o there);
         texts = change (λ i z. isUtf8 (z .key) ≡ true) (consistent .texts) (consistent .texts o there);
-        short = change (λ i z. length (z .key) ≤ 1024) (consistent .short) (consistent .short o there);
+        short = change (λ i z. length (z .key) ≤ longestKey) (consistent .short) (consistent .short o there);
         key-bytes = change (λ i z. isBytes (z .key) ≡ true) (consistent .key-bytes) (consistent .key-bytes o there);
         kinds = change (λ i z. kindKnown (z .kind) ≡ true) (consistent .kinds) (new .kind);
         distinct = λ i j hi hj et ek. consistent .distinct i j hi hj (sym (same-spot i hi .0) ∙ et ∙ same-spot j hj .0) (sym (same-spot i hi .1) ∙ ek ∙ same-spot j hj .1);
@@ -302,7 +302,7 @@ module _ (T n : ℕ) (g g′ : ℕ → Table) (f : ℕ → Item) (p h : ℕ) (co
       }
 
 -- ---- more tables, and another way to say those that are there
-module _ (T T′ n : ℕ) (g g′ : ℕ → Table) (f : ℕ → Item) (consistent : Consistent T n g f) (more : T ≤ T′) (few : T′ ≤ 64) (same : (t : ℕ) → t < T → g′ t ≡ g t)
+module _ (T T′ n : ℕ) (g g′ : ℕ → Table) (f : ℕ → Item) (consistent : Consistent T n g f) (more : T ≤ T′) (few : T′ ≤ mostTables) (same : (t : ℕ) → t < T → g′ t ≡ g t)
     (unplaced : (t : ℕ) → T ≤ t → t < T′ → g′ t .placed ≡ 0) (fine : (t : ℕ) → T ≤ t → t < T′ → g′ t .sep < 256 → g′ t .sep ≤ 127) where
   pub consistent-grow : Consistent T′ n g′ f
   consistent-grow =

@@ -9,7 +9,7 @@ use borrow.Author.Tests.{eqb-true, eqb-false}
 use lib.Dec.{eqb}
 use lib.ListN.{length, take, getD}
 use lib.Seq.{length-take-le, take-take, getD-take}
-use Rattle.layout.specs.Limits.{deepest}
+use Rattle.layout.specs.Limits.{deepest, longestKey, mostItems}
 use Rattle.text.specs.Utf8.{isUtf8}
 use Rattle.text.specs.Prefix.{endsPast, nextEnd}
 use Rattle.text.proofs.PrefixLaws.{next-within, next-rises}
@@ -44,7 +44,7 @@ pub lows-two : (ws w : List ℕ) → Lows ws w → tableTotal w ≡ tableTotal w
 lows-two ws w l = l 2 (omega arith) (λ (e : 2 ≡ 3). omega arith) (λ (e : 2 ≡ 4). omega arith)
 
 -- ---- a new item that is consistent keeps memory good
-pub made-good : (g : ℕ → Table) (ws ar : List ℕ) (t parent : ℕ) (k : List ℕ) (c : Stored) → Good g ws ar → itemTotal ws < 1024
+pub made-good : (g : ℕ → Table) (ws ar : List ℕ) (t parent : ℕ) (k : List ℕ) (c : Stored) → Good g ws ar → itemTotal ws < mostItems
     → roomUsed ws + length k + length (c .value) ≤ length ar
     → NewItem (tableTotal ws) (itemTotal ws) g (itemOf ws ar) (item t k parent (c .kind) (c .value) (c .guest))
     → Good g (makeItem (memory ws ar) t parent k c .words) (makeItem (memory ws ar) t parent k c .arena)
@@ -63,7 +63,7 @@ made-good g ws ar t parent k c good few room new =
     }
 
 module _ (g : ℕ → Table) (t : ℕ) (k : List ℕ) (sep G : ℕ) (sep-is : g t .sep ≡ sep) (loose : g t .placed ≡ 1 → ⊥) (text : isUtf8 k ≡ true)
-    (short : length k ≤ 1024) where
+    (short : length k ≤ longestKey) where
   -- on the way: the containers up to `from` are there, and nothing from the next end on
   pub record At (ws ar : List ℕ) (parent from : ℕ) : Type 0 where
     pub good : Good g ws ar
@@ -122,7 +122,7 @@ module _ (g : ℕ → Table) (t : ℕ) (k : List ℕ) (sep G : ℕ) (sep-is : g 
   box-fit T = record { kind = refl; guest = λ (z : _≡_ {A = ℕ} 76 72). absurd (omega arith) }
 
   module _ (ws ar : List ℕ) (parent from : ℕ) (at : At ws ar parent from) (e : ℕ) (is : e ≡ nextEnd sep k from) (more : e < length k)
-      (few : itemTotal ws < 1024) (room : roomUsed ws + length (take e k) + 0 ≤ length ar) where
+      (few : itemTotal ws < mostItems) (room : roomUsed ws + length (take e k) + 0 ≤ length ar) where
     abbrev m : Memory
     m = makeItem (memory ws ar) t parent (take e k) (stored containerKind [] 0)
 
@@ -217,9 +217,9 @@ module _ (g : ℕ → Table) (t : ℕ) (k : List ℕ) (sep G : ℕ) (sep-is : g 
     pub more : itemTotal ws ≤ itemTotal (l .after .words)
     pub kept : (j : ℕ) → j < itemTotal ws → itemOf (l .after .words) (l .after .arena) j ≡ itemOf ws ar j
 
-  grown-step : (ws ar : List ℕ) (parent from : ℕ) → At ws ar parent from → itemTotal ws + length (endsPast sep k from) ≤ 1024
+  grown-step : (ws ar : List ℕ) (parent from : ℕ) → At ws ar parent from → itemTotal ws + length (endsPast sep k from) ≤ mostItems
       → roomUsed ws + sum (endsPast sep k from) ≤ length ar
-      → ((w a : List ℕ) (p f : ℕ) → from < f → At w a p f → itemTotal w + length (endsPast sep k f) ≤ 1024 → roomUsed w + sum (endsPast sep k f) ≤ length a
+      → ((w a : List ℕ) (p f : ℕ) → from < f → At w a p f → itemTotal w + length (endsPast sep k f) ≤ mostItems → roomUsed w + sum (endsPast sep k f) ≤ length a
       → Grown w a f (containers t k (endsPast sep k f) (memory w a) p))
       → Grown ws ar from (containers t k (endsPast sep k from) (memory ws ar) parent)
   grown-step ws ar parent from at few room ih = by-end (decLt (nextEnd sep k from) (length k))
@@ -230,7 +230,7 @@ module _ (g : ℕ → Table) (t : ℕ) (k : List ℕ) (sep G : ℕ) (sep-is : g 
           let f = further sep k from (at .above .within) e refl u in
           let size = length-take-le e k (omega arith) in
           let m = makeItem (memory ws ar) t parent (take e k) (stored containerKind [] 0) in
-          let few′ : itemTotal ws < 1024 = omega arith in
+          let few′ : itemTotal ws < mostItems = omega arith in
           let room′ : roomUsed ws + length (take e k) + 0 ≤ length ar = omega arith in
           let tidy = at .good .tidy in
           let three = made.made-three ws ar t parent (take e k) (stored containerKind [] 0) tidy few′ room′ in
@@ -261,11 +261,11 @@ module _ (g : ℕ → Table) (t : ℕ) (k : List ℕ) (sep G : ℕ) (sep-is : g 
           subst (Grown ws ar from) (make-end sep k from (at .above .within) e refl t (memory ws ar) parent (omega arith))
           (record { end = from; at = at; last = omega arith; count = omega arith; used = omega arith; arena = refl; lows = λ p l a b. refl; more = omega arith; kept = λ j l. refl })
 
-  grown-fuel : (fuel : ℕ) (ws ar : List ℕ) (parent from : ℕ) → length k ≤ from + fuel → At ws ar parent from → itemTotal ws + length (endsPast sep k from) ≤ 1024
+  grown-fuel : (fuel : ℕ) (ws ar : List ℕ) (parent from : ℕ) → length k ≤ from + fuel → At ws ar parent from → itemTotal ws + length (endsPast sep k from) ≤ mostItems
       → roomUsed ws + sum (endsPast sep k from) ≤ length ar → Grown ws ar from (containers t k (endsPast sep k from) (memory ws ar) parent)
   grown-fuel zero ws ar parent from b at few room = grown-step ws ar parent from at few room (λ w a p f l z x y. absurd (let h = z .above .within in omega arith))
   grown-fuel (suc fuel) ws ar parent from b at few room = grown-step ws ar parent from at few room (λ w a p f l z x y. grown-fuel fuel w a p f (omega arith) z x y)
 
-  pub grown : (ws ar : List ℕ) (parent from : ℕ) → At ws ar parent from → itemTotal ws + length (endsPast sep k from) ≤ 1024
+  pub grown : (ws ar : List ℕ) (parent from : ℕ) → At ws ar parent from → itemTotal ws + length (endsPast sep k from) ≤ mostItems
       → roomUsed ws + sum (endsPast sep k from) ≤ length ar → Grown ws ar from (containers t k (endsPast sep k from) (memory ws ar) parent)
   grown ws ar parent from at few room = grown-fuel (length k) ws ar parent from (omega arith) at few room

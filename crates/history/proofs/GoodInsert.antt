@@ -23,6 +23,7 @@ use Rattle.build_values.specs.declared.walk.Way.{Way}
 use Rattle.build_values.specs.Walk.{wayOf, sum}
 use Rattle.build_values.specs.Insert.{containers, refused, added, insertNew, overwrite, insertOrReplace, insertBelowPath}
 use Rattle.build_values.proofs.WalkLaws.{last}
+use Rattle.layout.specs.Limits.{longestKey, mostItems}
 use Rattle.history.specs.Items.{item, itemOf, Table}
 use Rattle.history.specs.Consistent.{Consistent}
 use Rattle.history.specs.Honest.{Good}
@@ -64,7 +65,7 @@ module _ (g : ℕ → Table) (ws ar : List ℕ) (t : ℕ) (k : List ℕ) (c : St
   after-where false why o f = after-refused why
 
 module _ (g : ℕ → Table) (ws ar : List ℕ) (t : ℕ) (k : List ℕ) (G : ℕ) (sep-is : g t .sep ≡ tableSeparator ws t) (loose : g t .placed ≡ 1 → ⊥) (text : isUtf8 k ≡ true)
-    (short : length k ≤ 1024) (c : Stored) where
+    (short : length k ≤ longestKey) (c : Stored) where
   abbrev Here : ℕ → ℕ → Type 0
   Here parent from = At g t k (tableSeparator ws t) G sep-is loose text short ws ar parent from
 
@@ -72,7 +73,7 @@ module _ (g : ℕ → Table) (ws ar : List ℕ) (t : ℕ) (k : List ℕ) (G : �
   Fits T = Fit g t k (tableSeparator ws t) G sep-is loose text short T c
 
   -- ---- a new item
-  new-good : (parent from : ℕ) → Here parent from → Missing (itemTotal ws) (itemOf ws ar) t k → Fits (tableTotal ws) → itemTotal ws + length (endsPast (tableSeparator ws t) k from) ≤ 1024
+  new-good : (parent from : ℕ) → Here parent from → Missing (itemTotal ws) (itemOf ws ar) t k → Fits (tableTotal ws) → itemTotal ws + length (endsPast (tableSeparator ws t) k from) ≤ mostItems
       → roomUsed ws + sum (endsPast (tableSeparator ws t) k from) + length (c .value) ≤ length ar
       → After g ws ar t k c (outcome Inserted.New (added (containers t k (endsPast (tableSeparator ws t) k from) (memory ws ar) parent) t k c))
   unfolding added
@@ -85,7 +86,7 @@ module _ (g : ℕ → Table) (ws ar : List ℕ) (t : ℕ) (k : List ℕ) (G : �
       let count = gr .count in
       let used = gr .used in
       let size = gr .arena in
-      let few′ : itemTotal w < 1024 = omega arith in
+      let few′ : itemTotal w < mostItems = omega arith in
       let room′ : roomUsed w + length k + length (c .value) ≤ length a = omega arith in
       let top : length k ≡ nextEnd (tableSeparator ws t) k (gr .end) = omega (arith, gr .last, next-within (tableSeparator ws t) k (gr .end) (here .above .within) .1) in
       let fit′ : Fits (tableTotal w) = subst (λ (T : ℕ). Fits T) (sym (lows-two ws w (gr .lows))) fit in

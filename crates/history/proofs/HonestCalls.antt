@@ -99,7 +99,7 @@ module _ (ws ar : List ℕ) (honest : Honest ws ar) (t : ℕ) (k v : List ℕ) w
   value-honest = after-honest ws ar t k c (insertValue ws ar t k v) honest value-after
 
 -- ---- a new table
-module _ (ws ar : List ℕ) (sep : ℕ) (honest : Honest ws ar) (few : tableTotal ws < 64) (domain : sep < 256 → sep ≤ 127) where
+module _ (ws ar : List ℕ) (sep : ℕ) (honest : Honest ws ar) (few : tableTotal ws < mostTables) (domain : sep < 256 → sep ≤ 127) where
   abbrev row : List ℕ
   row = sep ∷ 0 ∷ 0 ∷ []
 
@@ -157,7 +157,7 @@ module _ (ws ar : List ℕ) (sep : ℕ) (honest : Honest ws ar) (few : tableTota
       let w0 = kept-low 0 (omega arith) (λ (e : 0 ≡ 2). omega arith) in
       let w1 = kept-low 1 (omega arith) (λ (e : 1 ≡ 2). omega arith) in
       let w4 = kept-low 4 (omega arith) (λ (e : 4 ≡ 2). omega arith) in
-      let w2 : tableTotal tabled ≤ 64 = omega (arith, two) in
+      let w2 : tableTotal tabled ≤ mostTables = omega (arith, two) in
       record {
         tidy = low.low-tidy ws tabled ar (honest .tidy) size w0 w1 w2 three w4 kept-high;
         consistent =

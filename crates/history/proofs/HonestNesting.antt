@@ -1,5 +1,5 @@
 -- The insert of a table keeps memory honest.
-use Prim.Native.Nat.{ℕ, zero, suc, _+_, _≤_, _<_}
+use Prim.Native.Nat.{ℕ, zero, suc, _+_, _≤_, _<_, _-_}
 use native.Mathlib.Nat.{not-suc-le-zero}
 use native.Mathlib.Omega.{arith}
 use native.Mathlib.Decide.{decLt}
@@ -14,7 +14,7 @@ use Rattle.words.proofs.ChoiceLaws.{pick-with}
 use Rattle.text.specs.Utf8.{isUtf8}
 use Rattle.layout.specs.declared.refusal.Refusal.{Refusal}
 use Rattle.model.specs.declared.Inserted.{Inserted}
-use Rattle.layout.specs.Limits.{longestKey, deepest}
+use Rattle.layout.specs.Limits.{longestKey, deepest, mostTables}
 use Rattle.model.specs.Builder.{most}
 use Rattle.layout.specs.Kind.{tableKind}
 use Rattle.build_memory.specs.Memory.{word, tableAt, tableTotal, itemTotal, tableSeparator, tablePlaced, tableHeight, itemTable, itemKind, itemGuest, valid, Memory, memory, Outcome, outcome}
@@ -114,7 +114,7 @@ by-case ws ar t k G h x (Inserted.Refused why) f g = g refl refl
 
 module _ (ws ar : List ℕ) (honest : Honest ws ar) (t : ℕ) (k : List ℕ) (G : ℕ) (known : t < tableTotal ws) (free : tablePlaced ws t ≡ 0)
     (guest-known : G < tableTotal ws) (guest-free : tablePlaced ws G ≡ 0) (two : t ≡ G → ⊥)
-    (text : isUtf8 k ≡ true) (short : length k ≤ 1024) where
+    (text : isUtf8 k ≡ true) (short : length k ≤ longestKey) where
   abbrev pub h : ℕ
   h = heldHeight ws G + 1
 
@@ -165,7 +165,7 @@ module _ (ws ar : List ℕ) (honest : Honest ws ar) (t : ℕ) (k : List ℕ) (G 
           ap (λ (y : ℕ). g′ y .sep) f ∙ ap (λ (y : Table). y .sep) g-its ∙ sym (sep-same ws G) ∙ ap (λ (y : ℕ). tableOf ws y .sep) (sym f)
       by-test false e = ap (λ (y : Table). y .sep) (g-other x (eqb-false x G e))
 
-  module _ (shallow : heldHeight ws G < 7) where
+  module _ (shallow : heldHeight ws G < deepest - 1) where
     pub good : Good g′ ws ar
     good =
         record {
@@ -202,7 +202,7 @@ module _ (ws ar : List ℕ) (honest : Honest ws ar) (t : ℕ) (k : List ℕ) (G 
       bound : tableAt G + 3 ≤ length w
       bound = let s = went .tidy .valid-memory in let few = honest .consistent .tables in omega arith
 
-      small : G < 64
+      small : G < mostTables
       small = let few = honest .consistent .tables in omega arith
 
       before : (p : ℕ) → p < tableAt G + 1 → word done p ≡ word w p
@@ -225,7 +225,7 @@ module _ (ws ar : List ℕ) (honest : Honest ws ar) (t : ℕ) (k : List ℕ) (G 
       side : (x f : ℕ) → f < 3 → (x ≡ G → ⊥) → word done (tableAt x + f) ≡ word w (tableAt x + f)
       side = placed.side w G h
 
-      other-table : (x : ℕ) → x < 64 → (x ≡ G → ⊥) → tableOf done x ≡ tableOf ws x
+      other-table : (x : ℕ) → x < mostTables → (x ≡ G → ⊥) → tableOf done x ≡ tableOf ws x
       other-table x l ne =
           table-same w done x (side x 0 (omega arith) ne) (side x 1 (omega arith) ne) (side x 2 (omega arith) ne)
           ∙ lows-table ws w (after .lows) x l
@@ -246,7 +246,7 @@ module _ (ws ar : List ℕ) (honest : Honest ws ar) (t : ℕ) (k : List ℕ) (G 
           let w4 = before 4 (omega arith) in
           let few = went .consistent .tables in
           let high : (p : ℕ) → 264 ≤ p → word done p ≡ word w p = λ p l. placed.behind w G h p (omega (arith, small)) in
-          let t2 : tableTotal done ≤ 64 = omega arith in
+          let t2 : tableTotal done ≤ mostTables = omega arith in
           record {
             tidy = low.low-tidy w done a (went .tidy) (placed.size w G h) w0 w1 t2 w3 w4 high;
             consistent =
@@ -307,7 +307,7 @@ module _ (ws ar : List ℕ) (honest : Honest ws ar) (t : ℕ) (k : List ℕ) (G 
   unfolding nested
   nested-honest = by-height (decLt (heldHeight ws G) 7)
     where
-      by-height : Dec (heldHeight ws G < 7) → Nested ws ar t k G (settled G h o)
+      by-height : Dec (heldHeight ws G < deepest - 1) → Nested ws ar t k G (settled G h o)
       by-height (yes l) = settle o (done-honest l) (λ y. ap (λ (z : Table). z .placed) (its-table l y)) (λ e. after l .same e)
       by-height (no l) = deep (omega arith)
 

@@ -14,7 +14,7 @@ use lib.Seq.{set-at, set-append-left}
 use Rattle.words.specs.Choice.{pick}
 use Rattle.layout.specs.Item.{noItem}
 use Rattle.model.specs.Table.{Content, Entry, entryAt}
-use Rattle.layout.specs.Limits.{mostItems}
+use Rattle.layout.specs.Limits.{mostItems, mostTables}
 use Rattle.model.specs.Builder.{Standing, Builder}
 use Rattle.model.specs.Walk.{entry}
 use Rattle.layout.specs.Kind.{valueKind, tableKind}
@@ -111,7 +111,7 @@ pub tables-count : (ws : List ℕ) → length (tablesOf ws) ≡ tableTotal ws
 tables-count ws = length-listed (standingOf ws) (tableTotal ws)
 
 -- tables that are told the same
-pub tables-same : (ws w : List ℕ) → Lows ws w → tableTotal ws ≤ 64 → tablesOf w ≡ tablesOf ws
+pub tables-same : (ws w : List ℕ) → Lows ws w → tableTotal ws ≤ mostTables → tablesOf w ≡ tablesOf ws
 tables-same ws w l few =
     ap (listed (standingOf w)) (lows-two ws w l)
     ∙ listed-cong (standingOf w) (standingOf ws) (tableTotal ws) (λ i u. standing-is w i ∙ ap standingFrom (lows-table ws w l i (omega arith)) ∙ sym (standing-is ws i))

@@ -1,5 +1,5 @@
 -- The insert of a table is the model's: a table placed is one standing set, and what is settled is alike.
-use Prim.Native.Nat.{ℕ, suc, _+_, _≤_, _<_}
+use Prim.Native.Nat.{ℕ, suc, _+_, _≤_, _<_, _-_}
 use native.Mathlib.Numerals.{add-one}
 use native.Mathlib.Omega.{arith}
 use native.Mathlib.Decide.{decLt}
@@ -9,7 +9,7 @@ use borrow.Author.Tests.{eqb-false, lt-ltb}
 use lib.Dec.{eqb, ltb}
 use Rattle.text.specs.Utf8.{isUtf8}
 use Rattle.model.specs.declared.Inserted.{Inserted}
-use Rattle.layout.specs.Limits.{longestKey, deepest}
+use Rattle.layout.specs.Limits.{longestKey, deepest, mostTables}
 use Rattle.layout.specs.Kind.{valueKind, tableKind}
 use Rattle.build_memory.specs.Memory.{word, tableAt, tableTotal, itemTotal, tableSeparator, tablePlaced, Outcome}
 use Rattle.build_memory.specs.Find.{findKey}
@@ -89,7 +89,7 @@ module _ (w a : List ℕ) (tidy : Tidy w a) (G h : ℕ) (known : G < tableTotal 
   items-placed =
       let few = tidy .valid-memory .tables in
       let e2 = before 2 (omega arith) in
-      let t2 : tableTotal done ≤ 64 = omega arith in
+      let t2 : tableTotal done ≤ mostTables = omega arith in
       ap (listed (entryOf done a)) (before 3 (omega arith))
       ∙ listed-cong (entryOf done a) (entryOf w a) (itemTotal w)
       (λ i l. entry-is done a i
@@ -194,7 +194,7 @@ module _ (ws ar : List ℕ) (honest : Honest ws ar) (t : ℕ) (k : List ℕ) (G 
   g-its : g′ G ≡ record { sep = tableSeparator ws G; placed = 1; height = high }
   g-its = nest.g-its ws ar honest t k G known free guest-known guest-free two text short
 
-  shallow-alike : heldHeight ws G < 7 → Alike (insertBelowPath ws ar t k c (ltb deepest (high + 1))) (put m t k (Content.nested G) 0 (ltb deepest (high + 1)))
+  shallow-alike : heldHeight ws G < deepest - 1 → Alike (insertBelowPath ws ar t k c (ltb deepest (high + 1))) (put m t k (Content.nested G) 0 (ltb deepest (high + 1)))
   shallow-alike low =
       subst (λ (x : Content). Alike (insertBelowPath ws ar t k c (ltb deepest (high + 1))) (put m t k x 0 (ltb deepest (high + 1)))) (table-content G)
       (walked-alike g′ ws ar t k G (nest.g-sep ws ar honest t k G known free guest-known guest-free two text short t ∙ sep-same ws t)
@@ -228,7 +228,7 @@ module _ (ws ar : List ℕ) (honest : Honest ws ar) (t : ℕ) (k : List ℕ) (G 
   nested-alike =
       subst (λ (b : Bool). Alike (nested ws ar t k G) (told.settled G (put m t k (Content.nested G) 0 b))) (sym height-told) (by-height (decLt (heldHeight ws G) 7))
     where
-      by-height : Dec (heldHeight ws G < 7)
+      by-height : Dec (heldHeight ws G < deepest - 1)
           → Alike (settled G high (insertBelowPath ws ar t k c (ltb deepest (high + 1)))) (told.settled G (put m t k (Content.nested G) 0 (ltb deepest (high + 1))))
       by-height (yes low) =
           let after = nest.after ws ar honest t k G known free guest-known guest-free two text short low in

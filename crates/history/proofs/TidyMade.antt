@@ -12,9 +12,10 @@ use lib.ListN.{length}
 use Rattle.words.specs.Choice.{pick}
 use Rattle.words.specs.Store.{part}
 use Rattle.words.specs.Hash.{hashOf}
-use Rattle.build_memory.specs.Memory.{word, leastWords, headsFrom, itemAt, headAt, linkAt, itemTotal, roomUsed, itemOlder, keyOf, Memory, memory}
+use Rattle.build_memory.specs.Memory.{word, leastWords, headsFrom, itemAt, headAt, linkAt, itemTotal, roomUsed, itemOlder, keyOf, Memory, memory, buckets}
 use Rattle.build_memory.specs.Item.{Stored, makeItem}
 use Rattle.build_memory.proofs.MadeLaws.{made-length, made-arena, made-items, made-used, made-low, made-head, other-head, its-word, other-word, made-behind, old-part, key-part, value-part}
+use Rattle.layout.specs.Limits.{mostItems}
 use Rattle.history.specs.Items.{item, itemOf}
 use Rattle.history.specs.Tidy.{lastIn, bucketOf, Tidy}
 use Rattle.history.proofs.TidySearch.{last-cong}
@@ -28,7 +29,7 @@ unfolding itemOf keyOf
 item-from ws ar i t ka kl parent kind va vl g e0 e3 e4 e5 e6 e7 e8 e9 =
     cc
 
-module _ (ws ar : List ℕ) (t parent : ℕ) (k : List ℕ) (c : Stored) (tidy : Tidy ws ar) (few : itemTotal ws < 1024)
+module _ (ws ar : List ℕ) (t parent : ℕ) (k : List ℕ) (c : Stored) (tidy : Tidy ws ar) (few : itemTotal ws < mostItems)
     (room : roomUsed ws + length k + length (c .value) ≤ length ar) where
   abbrev m : Memory
   m = makeItem (memory ws ar) t parent k c
@@ -36,7 +37,7 @@ module _ (ws ar : List ℕ) (t parent : ℕ) (k : List ℕ) (c : Stored) (tidy :
   long : leastWords ≤ length ws
   long = tidy .valid-memory .long
 
-  abbrev own : (f : ℕ) → f < 10 → word (m .words) (itemAt (itemTotal ws) + f) ≡ word (t ∷ hashOf k ∷ word ws (headAt (hashOf k % 1024)) ∷ roomUsed ws ∷ length k ∷ parent ∷ c .kind ∷ (roomUsed ws + length k) ∷ length (c .value) ∷ c .guest ∷ []) f
+  abbrev own : (f : ℕ) → f < 10 → word (m .words) (itemAt (itemTotal ws) + f) ≡ word (t ∷ hashOf k ∷ word ws (headAt (hashOf k % buckets)) ∷ roomUsed ws ∷ length k ∷ parent ∷ c .kind ∷ (roomUsed ws + length k) ∷ length (c .value) ∷ c .guest ∷ []) f
   own = its-word ws ar t parent k c long few
 
   abbrev other : (j f : ℕ) → f < 12 → j < itemTotal ws → word (m .words) (itemAt j + f) ≡ word ws (itemAt j + f)
@@ -90,25 +91,25 @@ module _ (ws ar : List ℕ) (t parent : ℕ) (k : List ℕ) (c : Stored) (tidy :
       ∙ sym (item-from ws ar j (w 0) (w 3) (w 4) (w 5) (w 6) (w 7) (w 8) (w 9) refl refl refl refl refl refl refl refl)
 
   -- ---- the index
-  its-bucket : bucketOf (m .words) (itemTotal ws) ≡ hashOf k % 1024
-  its-bucket = ap (λ (x : ℕ). x % 1024) (own 1 (omega arith))
+  its-bucket : bucketOf (m .words) (itemTotal ws) ≡ hashOf k % buckets
+  its-bucket = ap (λ (x : ℕ). x % buckets) (own 1 (omega arith))
 
   other-bucket : (j : ℕ) → j < itemTotal ws → bucketOf (m .words) j ≡ bucketOf ws j
-  other-bucket j l = ap (λ (x : ℕ). x % 1024) (other j 1 (omega arith) l)
+  other-bucket j l = ap (λ (x : ℕ). x % buckets) (other j 1 (omega arith) l)
 
   same-last : (b i : ℕ) → i ≤ itemTotal ws → lastIn (bucketOf ws) b i ≡ lastIn (bucketOf (m .words)) b i
   same-last b i h = last-cong (bucketOf ws) (bucketOf (m .words)) b i (λ j l. sym (other-bucket j (omega arith)))
 
-  head-by : (b : ℕ) → b < 1024 → (q : Bool) → eqb (hashOf k % 1024) b ≡ q → word (m .words) (headAt b) ≡ pick q (itemTotal ws) (lastIn (bucketOf (m .words)) b (itemTotal ws))
+  head-by : (b : ℕ) → b < buckets → (q : Bool) → eqb (hashOf k % buckets) b ≡ q → word (m .words) (headAt b) ≡ pick q (itemTotal ws) (lastIn (bucketOf (m .words)) b (itemTotal ws))
   unfolding pick
   head-by b h true e = ap (λ (x : ℕ). word (m .words) (headAt x)) (sym (eqb-true _ _ e)) ∙ made-head ws ar t parent k c long few
   head-by b h false e =
-      other-head ws ar t parent k c long few b h (λ (f : b ≡ hashOf k % 1024). eqb-false (hashOf k % 1024) b e (sym f)) ∙ tidy .heads b h ∙ same-last b (itemTotal ws) (omega arith)
+      other-head ws ar t parent k c long few b h (λ (f : b ≡ hashOf k % buckets). eqb-false (hashOf k % buckets) b e (sym f)) ∙ tidy .heads b h ∙ same-last b (itemTotal ws) (omega arith)
 
-  head-consistent : (b : ℕ) → b < 1024 → word (m .words) (headAt b) ≡ lastIn (bucketOf (m .words)) b (itemTotal (m .words))
+  head-consistent : (b : ℕ) → b < buckets → word (m .words) (headAt b) ≡ lastIn (bucketOf (m .words)) b (itemTotal (m .words))
   unfolding lastIn pick
   head-consistent b h =
-      head-by b h (eqb (hashOf k % 1024) b) refl
+      head-by b h (eqb (hashOf k % buckets) b) refl
       ∙ ap (λ (x : ℕ). pick (eqb x b) (itemTotal ws) (lastIn (bucketOf (m .words)) b (itemTotal ws))) (sym its-bucket)
       ∙ ap (lastIn (bucketOf (m .words)) b) (sym (add-one (itemTotal ws)) ∙ sym made-three)
 
@@ -116,7 +117,7 @@ module _ (ws ar : List ℕ) (t parent : ℕ) (k : List ℕ) (c : Stored) (tidy :
   older-by i h true e =
       let f = eqb-true _ _ e in
       subst (λ (x : ℕ). itemOlder (m .words) x ≡ lastIn (bucketOf (m .words)) (bucketOf (m .words) x) x) (sym f)
-      (own 2 (omega arith) ∙ tidy .heads (hashOf k % 1024) (mod-lt (hashOf k) (omega arith)) ∙ same-last (hashOf k % 1024) (itemTotal ws) (omega arith)
+      (own 2 (omega arith) ∙ tidy .heads (hashOf k % buckets) (mod-lt (hashOf k) (omega arith)) ∙ same-last (hashOf k % buckets) (itemTotal ws) (omega arith)
       ∙ ap (λ (b : ℕ). lastIn (bucketOf (m .words)) b (itemTotal ws)) (sym its-bucket))
   older-by i h false e =
       let ne = eqb-false i (itemTotal ws) e in

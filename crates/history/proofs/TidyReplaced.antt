@@ -11,7 +11,7 @@ use lib.ListN.{length}
 use Rattle.words.specs.Store.{part, putAt}
 use Rattle.words.specs.Hash.{hashOf}
 use Rattle.words.proofs.StoreLaws.{length-put, get-put, get-before, get-after, part-put, part-before}
-use Rattle.build_memory.specs.Memory.{word, itemAt, headAt, linkAt, itemTotal, roomUsed, itemTable, keyOf, Memory, memory}
+use Rattle.build_memory.specs.Memory.{word, itemAt, headAt, linkAt, itemTotal, roomUsed, itemTable, keyOf, Memory, memory, buckets}
 use Rattle.build_memory.specs.Item.{Stored, replaceItem}
 use Rattle.history.specs.Items.{item, itemOf}
 use Rattle.history.specs.Tidy.{lastIn, bucketOf, Tidy}
@@ -129,7 +129,7 @@ module _ (ws ar : List ℕ) (i : ℕ) (c : Stored) (tidy : Tidy ws ar) (there : 
       ∙ sym (item-from ws ar j (w 0) (w 3) (w 4) (w 5) (w 6) (w 7) (w 8) (w 9) refl refl refl refl refl refl refl refl)
 
   same-bucket : (j : ℕ) → bucketOf (m .words) j ≡ bucketOf ws j
-  same-bucket j = ap (λ (x : ℕ). x % 1024) (place-word j 1 (omega arith))
+  same-bucket j = ap (λ (x : ℕ). x % buckets) (place-word j 1 (omega arith))
 
   same-last : (b j : ℕ) → lastIn (bucketOf ws) b j ≡ lastIn (bucketOf (m .words)) b j
   same-last b j = last-cong (bucketOf ws) (bucketOf (m .words)) b j (λ x l. sym (same-bucket x))

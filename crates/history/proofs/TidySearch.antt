@@ -16,6 +16,7 @@ use Rattle.text.proofs.CompareLaws.{same-equal, same-refl}
 use Rattle.build_memory.specs.Memory.{buckets, itemTotal, itemTable, itemHash, itemOlder, keySize, keyOf}
 use Rattle.build_memory.specs.Find.{isItem, seek, findKey}
 use Rattle.build_memory.proofs.MeaningLaws.{key-length}
+use Rattle.layout.specs.Limits.{mostItems}
 use Rattle.history.specs.Tidy.{lastIn, bucketOf, Tidy}
 
 pub false-true : {A : Type 0} → false ≡ true → A
@@ -29,7 +30,7 @@ last-cong p q b (suc m) h =
     ∙ ap (pick (eqb (q m) b) m) (last-cong p q b m (λ j l. h j (omega arith)))
 
 -- the last below m is not m
-last-not : (p : ℕ → ℕ) (b m j : ℕ) → m ≤ j → j ≤ 1024 → lastIn p b m ≡ j → ⊥
+last-not : (p : ℕ → ℕ) (b m j : ℕ) → m ≤ j → j ≤ mostItems → lastIn p b m ≡ j → ⊥
 unfolding lastIn pick
 last-not p b zero j l u e = let f : 4294967295 ≡ j = e in omega arith
 last-not p b (suc m) j l u e = by-test (eqb (p m) b) (last-not p b m j (omega arith) u) e
@@ -73,7 +74,7 @@ with-within p none (suc m) h =
 
 module _ (p : ℕ → Bool) (older bucket : ℕ → ℕ) (none b : ℕ) where
   -- down the chain of a bucket that all that pass are in
-  seek-last : (n : ℕ) → n ≤ 1024 → ((i : ℕ) → i < n → older i ≡ lastIn bucket (bucket i) i) → ((i : ℕ) → i < n → p i ≡ true → bucket i ≡ b)
+  seek-last : (n : ℕ) → n ≤ mostItems → ((i : ℕ) → i < n → older i ≡ lastIn bucket (bucket i) i) → ((i : ℕ) → i < n → p i ≡ true → bucket i ≡ b)
       → seek p older none n (lastIn bucket b n) ≡ lastWith p none n
   unfolding seek lastIn lastWith pick
   seek-last zero u o h = refl

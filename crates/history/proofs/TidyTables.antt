@@ -9,12 +9,13 @@ use Rattle.words.specs.Hash.{hashOf}
 use Rattle.words.proofs.StoreLaws.{length-put, get-put, get-before, length-copies, get-copies}
 use Rattle.layout.specs.Item.{noItem}
 use Rattle.build_memory.specs.Memory.{word, buckets, links, leastWords, linksFrom, headsFrom, itemAt, headAt, linkAt, tableTotal, itemTotal, roomUsed, keyOf, freshWords}
+use Rattle.layout.specs.Limits.{mostTables}
 use Rattle.history.specs.Items.{itemOf}
 use Rattle.history.specs.Tidy.{lastIn, bucketOf, Tidy}
 use Rattle.history.proofs.TidySearch.{last-cong}
 
 module _ (ws w ar : List ℕ) (tidy : Tidy ws ar) (same-length : length w ≡ length ws) (w0 : word w 0 ≡ word ws 0) (w1 : word w 1 ≡ word ws 1)
-    (w2 : tableTotal w ≤ 64) (w3 : itemTotal w ≡ itemTotal ws) (w4 : roomUsed w ≡ roomUsed ws) (high : (p : ℕ) → 264 ≤ p → word w p ≡ word ws p) where
+    (w2 : tableTotal w ≤ mostTables) (w3 : itemTotal w ≡ itemTotal ws) (w4 : roomUsed w ≡ roomUsed ws) (high : (p : ℕ) → 264 ≤ p → word w p ≡ word ws p) where
   pub low-item : (i : ℕ) → itemOf w ar i ≡ itemOf ws ar i
   unfolding itemOf keyOf
   low-item i =
@@ -39,7 +40,7 @@ module _ (ws w ar : List ℕ) (tidy : Tidy ws ar) (same-length : length w ≡ le
       cc
 
   same-bucket : (j : ℕ) → bucketOf w j ≡ bucketOf ws j
-  same-bucket j = ap (λ (x : ℕ). x % 1024) (high (itemAt j + 1) (omega arith))
+  same-bucket j = ap (λ (x : ℕ). x % buckets) (high (itemAt j + 1) (omega arith))
 
   same-last : (b j : ℕ) → lastIn (bucketOf ws) b j ≡ lastIn (bucketOf w) b j
   same-last b j = last-cong (bucketOf ws) (bucketOf w) b j (λ x l. sym (same-bucket x))

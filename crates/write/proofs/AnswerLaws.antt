@@ -11,7 +11,7 @@ use Rattle.words.specs.Choice.{pick}
 use Rattle.words.specs.Store.{putAt}
 use Rattle.words.proofs.ChoiceLaws.{pick-true, pick-false, or-one}
 use Rattle.words.proofs.StoreLaws.{put-front}
-use Rattle.layout.specs.Limits.{longestFile, deepest}
+use Rattle.layout.specs.Limits.{longestFile, deepest, mostTables}
 use Rattle.layout.specs.declared.refusal.Refusal.the-variants.{MemoryBroken, TableUnknown, EmptyKey, ImageTooLong}
 use Rattle.build_rules.specs.Valid.{fullyValid}
 use Rattle.layout.specs.Sizes.{headerSize, chunkSize}
@@ -112,7 +112,7 @@ module _ (ws ar before : List ℕ) (t : ℕ) where
   unfolding tableAnswer
   table-empty is e = refused _ (imageFor ws ar t) before (Written.Refused EmptyKey) (sym (pick-true (Written.Refused EmptyKey) (sizeAnswer (length before) (length (stateOf ws ar t .members)) (length (imageFor ws ar t))) (sym is ∙ e))) (nothing-empty (imageFor ws ar t) before)
 
-  pub table-indexed : {told : Bool} → told ≡ hasEmpty (stateOf ws ar) deepest t → told ≡ false → (numbered after : List ℕ) (r : Written) → NumberedAs ws ar numbered → t < 64
+  pub table-indexed : {told : Bool} → told ≡ hasEmpty (stateOf ws ar) deepest t → told ≡ false → (numbered after : List ℕ) (r : Written) → NumberedAs ws ar numbered → t < mostTables
       → r ≡ fitAnswer numbered ar t (length before) → after ≡ laidBy (fitAnswer numbered ar t (length before)) (numberedImage numbered ar t) before → FromTable r after
   unfolding tableAnswer fitAnswer
   table-indexed is none numbered after r s l e f =

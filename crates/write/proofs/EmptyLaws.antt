@@ -20,6 +20,7 @@ use Rattle.write_bytes.specs.Numbered.{firstSlot, slotCount}
 use Rattle.write_numbers.specs.Roster.{stateOf, slotItem, Rostered}
 use Rattle.write_numbers.proofs.StateLaws.{state-key}
 use Rattle.build_memory.proofs.MeaningLaws.{key-length}
+use Rattle.layout.specs.Limits.{mostItems, mostTables}
 use Rattle.write.specs.Write.{emptyHeld, hasEmpty}
 use Rattle.write.specs.Empty.{itemEmpty}
 use Rattle.write.proofs.StateLaws.{Right, content-is}
@@ -92,7 +93,7 @@ module _ (ws ar roster : List ℕ) (r : Right ws ar) (ro : Rostered ws ar roster
       let e : length (stateOf ws ar t .key i) ≡ keySize ws i = ap length (state-key ws ar t i l) ∙ key-length ws ar i (r .key i l) in
       rw (e, content-same d t i l)
 
-  module _ (t : ℕ) (known : t < 64) where
+  module _ (t : ℕ) (known : t < mostTables) where
     -- the item of a slot
     pub slot-at : (k : ℕ) → k < getD roster (2 * t + 1) 0 → getD roster (128 + (getD roster (2 * t) 0 + k)) 0 ≡ itemOf plain (stateOf ws ar t) k
     unfolding firstSlot slotCount slotItem
@@ -102,7 +103,7 @@ module _ (ws ar roster : List ℕ) (r : Right ws ar) (ro : Rostered ws ar roster
     unfolding slotCount
     slot-in k h = item-in ws ar roster r ro t k known h
 
-    pub slots-few : getD roster (2 * t) 0 + getD roster (2 * t + 1) 0 ≤ 1024
+    pub slots-few : getD roster (2 * t) 0 + getD roster (2 * t + 1) 0 ≤ mostItems
     unfolding firstSlot slotCount
     slots-few = ro .inside t known
 

@@ -18,8 +18,9 @@ use Rattle.image.specs.Fits.{SamePlan}
 use Rattle.image.specs.Image.{alignOf, childrenOf, childWords, valueOf, coversOf, planOf}
 use Rattle.image.proofs.PlanLaws.{words-same}
 use Rattle.words.proofs.ChoiceLaws.{lt-or-ge}
-use Rattle.write_bytes.specs.Numbered.{firstSlot, slotCount, slotWord, slotHash, slotParent, slotFragment, slotFragmentSize, slotKind, slotValueWord, slotValueSize, slotBucket, childWord, slotValue, numberedPlan, NumberedFits, slotCover}
+use Rattle.write_bytes.specs.Numbered.{firstSlot, slotCount, slotWord, slotHash, slotParent, slotFragment, slotFragmentSize, slotKind, slotValueWord, slotValueSize, slotBucket, childWord, slotValue, numberedPlan, NumberedFits, slotCover, childrenFrom, slotsFrom}
 use Rattle.write_numbers.specs.Roster.{stateOf, itemIndex, bucketWord, Rostered}
+use Rattle.layout.specs.Limits.{mostItems, mostTables}
 use Rattle.write.specs.NumberedAs.{childItems, fromLast, skipped, parentWord, slotOf, startOf, sizeOf, frontWords, backWords, slotWords, Siblings, NumberedStart, NumberedChildren, NumberedSlots, Firsts, NumberedAs}
 use Rattle.write.proofs.StateLaws.{Right}
 use Rattle.write.proofs.SlotLaws.{start-value, start-guest, start-child, size-value, size-child}
@@ -28,38 +29,38 @@ use Rattle.write.proofs.RosterLaws.{index-few, item-in, item-of, slot-o
 use Rattle.write.proofs.TurnLaws.{start-in, start-out}
 use Rattle.write.proofs.ItemLaws.{children-words, hash-is, parent-is, fragment-is, kind-is, by-content, kid-in, kid-table}
 
-pub siblings-firsts : (ws order firsts : List ℕ) → itemTotal ws ≤ 1024 → Siblings ws order firsts → Firsts firsts
+pub siblings-firsts : (ws order firsts : List ℕ) → itemTotal ws ≤ mostItems → Siblings ws order firsts → Firsts firsts
 siblings-firsts ws order firsts few k = record { wide = k .wide; up = λ i h. omega (arith, k .next i h); few = λ i h. omega (arith, k .few i h) }
 
 module _ (ws ar roster order firsts a b numbered : List ℕ) (r : Right ws ar) (ro : Rostered ws ar roster) (siblings : Siblings ws order firsts)
     (st : NumberedStart roster a) (ch : NumberedChildren ws roster order a b) (sl : NumberedSlots ws ar roster firsts b numbered (itemTotal ws)) where
-  head-is : (k : ℕ) → k < 128 → getD numbered k 0 ≡ getD roster k 0
+  head-is : (k : ℕ) → k < slotsFrom → getD numbered k 0 ≡ getD roster k 0
   head-is k h = sl .head k h ∙ ch .kept k (omega arith) ∙ st .is k (omega arith) ∙ sym (start-in roster k h)
 
-  first-is : (t : ℕ) → t < 64 → firstSlot numbered t ≡ firstSlot roster t
+  first-is : (t : ℕ) → t < mostTables → firstSlot numbered t ≡ firstSlot roster t
   unfolding firstSlot
   first-is t h = head-is (2 * t) (omega arith)
 
-  count-is : (t : ℕ) → t < 64 → slotCount numbered t ≡ slotCount roster t
+  count-is : (t : ℕ) → t < mostTables → slotCount numbered t ≡ slotCount roster t
   unfolding slotCount
   count-is t h = head-is (2 * t + 1) (omega arith)
 
-  members-is : (t : ℕ) → t < 64 → slotCount numbered t ≡ length (stateOf ws ar t .members)
+  members-is : (t : ℕ) → t < mostTables → slotCount numbered t ≡ length (stateOf ws ar t .members)
   members-is t h = count-is t h ∙ ro .counts t h
 
   child-is : (j : ℕ) → j < itemTotal ws → childWord numbered j ≡ itemIndex roster (fromLast ws (getD order j 0))
   unfolding childWord
-  child-is j h = sl .tail (8320 + j) (omega arith) ∙ child-before
+  child-is j h = sl .tail (childrenFrom + j) (omega arith) ∙ child-before
     where
-      child-before : getD b (8320 + j) 0 ≡ itemIndex roster (fromLast ws (getD order j 0))
+      child-before : getD b (childrenFrom + j) 0 ≡ itemIndex roster (fromLast ws (getD order j 0))
       child-before = ch .is j h
 
-  child-none : (j : ℕ) → itemTotal ws ≤ j → j < 1024 → childWord numbered j ≡ 0
+  child-none : (j : ℕ) → itemTotal ws ≤ j → j < mostItems → childWord numbered j ≡ 0
   unfolding childWord
   child-none j g h =
-      sl .tail (8320 + j) (omega arith) ∙ ch .rest (8320 + j) (omega arith) ∙ st .is (8320 + j) (omega arith) ∙ sym (start-out roster (8320 + j) (omega arith))
+      sl .tail (childrenFrom + j) (omega arith) ∙ ch .rest (childrenFrom + j) (omega arith) ∙ st .is (childrenFrom + j) (omega arith) ∙ sym (start-out roster (childrenFrom + j) (omega arith))
 
-  child-few : (j : ℕ) → j < 1024 → childWord numbered j < 2 ^ 32
+  child-few : (j : ℕ) → j < mostItems → childWord numbered j < 2 ^ 32
   child-few j h =
       ⊎-elim
       (λ l. omega (arith, child-is j l, index-few ws ar roster r ro (fromLast ws (getD order j 0)) (omega arith)))
@@ -112,7 +113,7 @@ module _ (ws ar roster order firsts a b numbered : List ℕ) (r : Right ws ar) (
     w7 = word-is 7 (omega arith) ∙ ap (bucketWord roster) at-slot
 
     module _ (t : ℕ) (own : itemTable ws i ≡ t) where
-      inside : i < 1024
+      inside : i < mostItems
       inside = omega (arith, r .valid .items)
 
       siblings-start : itemKind ws i ≡ containerKind → startOf ws firsts i ≡ getD firsts (i + 1) 0
@@ -156,7 +157,7 @@ module _ (ws ar roster order firsts a b numbered : List ℕ) (r : Right ws ar) (
 
   -- ---- the tables
 
-  plan-is : (inner : ℕ → ℕ → List ℕ) (t : ℕ) → t < 64 → SamePlan (numberedPlan inner numbered ar t) (planOf plain inner (stateOf ws ar) (stateOf ws ar t))
+  plan-is : (inner : ℕ → ℕ → List ℕ) (t : ℕ) → t < mostTables → SamePlan (numberedPlan inner numbered ar t) (planOf plain inner (stateOf ws ar) (stateOf ws ar t))
   unfolding numberedPlan planOf
   plan-is inner t h = record {
     count = members-is t h;

@@ -15,6 +15,7 @@ use Rattle.image.specs.Index.{itemOf, laidIndex}
 use Rattle.image.proofs.IndexLaws.{index-within, item-index, index-item, item-within, first-most}
 use Rattle.write_bytes.specs.Numbered.{firstSlot, slotCount}
 use Rattle.write_numbers.specs.Roster.{stateOf, slotItem, itemIndex, bucketWord, Rostered}
+use Rattle.layout.specs.Limits.{mostItems, mostTables}
 use Rattle.write.specs.NumberedAs.{childTest, skipped, parentWord, slotOf, Slotted}
 use Rattle.write_numbers.proofs.StateLaws.{state-below, state-once, state-table, state-has}
 use Rattle.write.proofs.StateLaws.{Right}
@@ -38,11 +39,11 @@ module _ (ws ar roster : List ℕ) (r : Right ws ar) (ro : Rostered ws ar roster
         let h : laidIndex plain (stateOf ws ar t) i < length (stateOf ws ar t .members) = index-within plain (stateOf ws ar t) (state-once ws ar t) i mine in
         omega (arith, ro .indices i l, ro .counts t (r .table i l))
 
-    pub slot-low : slotOf ws roster i < 1024
+    pub slot-low : slotOf ws roster i < mostItems
     unfolding slotOf
     slot-low = omega (arith, index-low, ro .inside (itemTable ws i) (r .table i l))
 
-    pub index-few : itemIndex roster i < 1024
+    pub index-few : itemIndex roster i < mostItems
     index-few = omega (arith, index-low, ro .inside (itemTable ws i) (r .table i l))
 
     slot-item : slotItem roster (slotOf ws roster i) ≡ i
@@ -53,7 +54,7 @@ module _ (ws ar roster : List ℕ) (r : Right ws ar) (ro : Rostered ws ar roster
         ∙ item-index plain (stateOf ws ar t) (state-once ws ar t) i mine
 
     -- the word of the bucket at its index
-    pub bucket-few : bucketWord roster (slotOf ws roster i) ≤ 1024
+    pub bucket-few : bucketWord roster (slotOf ws roster i) ≤ mostItems
     unfolding slotOf
     bucket-few =
         let t = itemTable ws i in
@@ -98,7 +99,7 @@ module _ (ws ar roster : List ℕ) (r : Right ws ar) (ro : Rostered ws ar roster
 
   -- ---- the item at an index
 
-  module _ (t k : ℕ) (known : t < 64) (low : k < slotCount roster t) where
+  module _ (t k : ℕ) (known : t < mostTables) (low : k < slotCount roster t) where
     item-has : Has (stateOf ws ar t .members) (itemOf plain (stateOf ws ar t) k)
     item-has = item-within plain (stateOf ws ar t) (state-once ws ar t) k (omega (arith, ro .counts t known))
 

@@ -26,6 +26,7 @@ use Rattle.write_numbers.specs.Roster.{stateOf}
 use Rattle.write_numbers.specs.Fill.{ofTable, allOfTable}
 use Rattle.write_numbers.proofs.OfTableLaws.{of-table-more, of-table-pass}
 use Rattle.write_numbers.proofs.StateLaws.{state-members}
+use Rattle.layout.specs.Limits.{mostItems}
 use Rattle.write.specs.NumberedAs.{childItems, fromLast, Parents, Siblings}
 use Rattle.write.proofs.StateLaws.{Right, above-is}
 
@@ -54,7 +55,7 @@ past hashes (suc b) h =
 module _ (ws ar : List ℕ) (r : Right ws ar) where
   -- ---- as the definition has them
 
-  few : itemTotal ws ≤ 1024
+  few : itemTotal ws ≤ mostItems
   few = r .valid .items
 
   parent-low : (c : ℕ) → c < itemTotal ws → itemParent ws c < itemTotal ws
@@ -64,7 +65,7 @@ module _ (ws ar : List ℕ) (r : Right ws ar) where
       (λ ne. let b = r .parent c l ne in omega (arith, b .earlier))
       (eq-or-ne (itemParent ws c) 0)
 
-  above-by : (p i : ℕ) → i < 1024 → eqb (pick (eqb p 0) noItem (p - 1)) i ≡ eqb p (i + 1)
+  above-by : (p i : ℕ) → i < mostItems → eqb (pick (eqb p 0) noItem (p - 1)) i ≡ eqb p (i + 1)
   unfolding pick
   above-by p i l =
       ⊎-elim
@@ -147,7 +148,7 @@ module _ (ws ar : List ℕ) (r : Right ws ar) where
     length-child-items : (b : ℕ) → length (run hashes b (length hashes)) ≡ length (childItems ws b (itemTotal ws))
     length-child-items b = sym (length-map (run hashes b (length hashes)) (fromLast ws)) ∙ ap length (run-child-items b)
 
-    module _ (order firsts : List ℕ) (size : length order ≡ 1024) (wide : length firsts ≡ 1026) (spare : (b : ℕ) → b < 1026 → getD firsts b 0 ≡ itemTotal ws) where
+    module _ (order firsts : List ℕ) (size : length order ≡ mostItems) (wide : length firsts ≡ 1026) (spare : (b : ℕ) → b < 1026 → getD firsts b 0 ≡ itemTotal ws) where
       first-at : (b : ℕ) → b < 1026 → getD (putAt firsts 0 (starts hashes)) b 0 ≡ bucketStart hashes b
       first-at b h =
           let n : length (starts hashes) ≡ itemTotal ws = length-starts hashes ∙ long in
@@ -156,7 +157,7 @@ module _ (ws ar : List ℕ) (r : Right ws ar) where
           (λ g. get-after firsts 0 (starts hashes) b (omega arith) ∙ spare b h ∙ sym long ∙ sym (past hashes b (omega (arith, long))))
           (lt-or-ge b (itemTotal ws))
 
-      child-at : (i j : ℕ) → i < 1024 → j < length (childItems ws (i + 1) (itemTotal ws))
+      child-at : (i j : ℕ) → i < mostItems → j < length (childItems ws (i + 1) (itemTotal ws))
           → fromLast ws (getD (putAt order 0 (byBucket hashes)) (getD (putAt firsts 0 (starts hashes)) (i + 1) 0 + j) 0) ≡ getD (childItems ws (i + 1) (itemTotal ws)) j 0
       child-at i j h l =
           let in-run : j < length (run hashes (i + 1) (length hashes)) = omega (arith, length-child-items (i + 1)) in

@@ -13,8 +13,9 @@ use Rattle.words.proofs.ChoiceLaws.{pick-true, pick-false, eq-or-ne, lt-or-ge}
 use Rattle.words.proofs.HashLaws.{hash-below}
 use Rattle.words.proofs.StoreLaws.{length-put, get-put, get-before, get-after, put-append}
 use Rattle.build_memory.specs.Memory.{itemTotal, itemHash, keyStart, keySize, itemKind, valueStart, valueSize, itemGuest, keyOf}
-use Rattle.write_bytes.specs.Numbered.{slotsFrom, numberedSize, slotWord, slotHash, slotParent, slotFragment, slotFragmentSize, slotKind, slotValueWord, slotValueSize, slotBucket, SlotFits}
+use Rattle.write_bytes.specs.Numbered.{slotsFrom, numberedSize, slotWord, slotHash, slotParent, slotFragment, slotFragmentSize, slotKind, slotValueWord, slotValueSize, slotBucket, SlotFits, slotSize}
 use Rattle.write_numbers.specs.Roster.{rosterSize, bucketWord, Rostered}
+use Rattle.layout.specs.Limits.{mostItems}
 use Rattle.write.specs.NumberedAs.{skipped, parentWord, slotOf, startOf, sizeOf, frontWords, backWords, slotWords, Clear, startWord, NumberedStart, NumberedChildren, NumberedSlots, Firsts}
 use Rattle.write.proofs.StateLaws.{Right}
 use Rattle.write.proofs.SlotLaws.{start-value, start-guest, start-child, size-value, size-child}
@@ -54,22 +55,22 @@ front-length : (ws roster : List ℕ) (i : ℕ) → length (frontWords ws roster
 unfolding frontWords
 front-length ws roster i = refl
 
-pub halves-put : (ws roster firsts l : List ℕ) (i : ℕ) {s slot : ℕ} → s ≡ slot → {front : List ℕ} → front ≡ putAt l (128 + 8 * s) (frontWords ws roster i)
-    → {all : List ℕ} → all ≡ putAt front (128 + 8 * s + 4) (backWords ws roster firsts i) → all ≡ putAt l (128 + 8 * slot) (slotWords ws roster firsts i)
+pub halves-put : (ws roster firsts l : List ℕ) (i : ℕ) {s slot : ℕ} → s ≡ slot → {front : List ℕ} → front ≡ putAt l (slotsFrom + slotSize * s) (frontWords ws roster i)
+    → {all : List ℕ} → all ≡ putAt front (slotsFrom + slotSize * s + 4) (backWords ws roster firsts i) → all ≡ putAt l (slotsFrom + slotSize * slot) (slotWords ws roster firsts i)
 unfolding slotWords
 halves-put ws roster firsts l i same e f = f ∙ rw (e, same, put-append, front-length)
 
-module _ (l vs : List ℕ) (long : length l ≡ 9344) (eight : length vs ≡ 8) (s : ℕ) (low : s < 1024) where
-  put-own : (which : ℕ) → which < 8 → slotWord (putAt l (128 + 8 * s) vs) s which ≡ getD vs which 0
+module _ (l vs : List ℕ) (long : length l ≡ numberedSize) (eight : length vs ≡ 8) (s : ℕ) (low : s < mostItems) where
+  put-own : (which : ℕ) → which < 8 → slotWord (putAt l (slotsFrom + slotSize * s) vs) s which ≡ getD vs which 0
   unfolding slotWord
-  put-own which h = get-put l (128 + 8 * s) vs which (omega arith) (omega arith)
+  put-own which h = get-put l (slotsFrom + slotSize * s) vs which (omega arith) (omega arith)
 
-  put-other : (u which : ℕ) → (u ≡ s → ⊥) → which < 8 → slotWord (putAt l (128 + 8 * s) vs) u which ≡ slotWord l u which
+  put-other : (u which : ℕ) → (u ≡ s → ⊥) → which < 8 → slotWord (putAt l (slotsFrom + slotSize * s) vs) u which ≡ slotWord l u which
   unfolding slotWord
   put-other u which n h =
       ⊎-elim
-      (λ less. get-before l (128 + 8 * s) vs (128 + 8 * u + which) (omega arith))
-      (λ more. get-after l (128 + 8 * s) vs (128 + 8 * u + which) (omega arith))
+      (λ less. get-before l (slotsFrom + slotSize * s) vs (slotsFrom + slotSize * u + which) (omega arith))
+      (λ more. get-after l (slotsFrom + slotSize * s) vs (slotsFrom + slotSize * u + which) (omega arith))
       (lt-or-ge u s)
 
 module _ (ws ar roster firsts : List ℕ) (r : Right ws ar) (ro : Rostered ws ar roster) (fi : Firsts firsts) where
@@ -87,7 +88,7 @@ module _ (ws ar roster firsts : List ℕ) (r : Right ws ar) (ro : Rostered ws ar
       let e5 : slotValueWord numbered s ≡ startOf ws firsts i = e 5 (omega arith) in
       let e6 : slotValueSize numbered s ≡ sizeOf ws firsts i = e 6 (omega arith) in
       let e7 : slotBucket numbered s ≡ bucketWord roster s = e 7 (omega arith) in
-      let inside : i < 1024 = omega (arith, r .valid .items) in
+      let inside : i < mostItems = omega (arith, r .valid .items) in
       record {
         hash = omega (arith, r .hash i l, hash-below plain (keyOf ws ar i));
         parent = omega (arith, parent-few ws ar roster r ro i l);
@@ -111,39 +112,39 @@ module _ (ws ar roster firsts : List ℕ) (r : Right ws ar) (ro : Rostered ws ar
         );
       }
 
-  pub slots-none : (numbered : List ℕ) → ((s : ℕ) → s < 1024 → SlotFits numbered ar s) → NumberedSlots ws ar roster firsts numbered numbered 0
+  pub slots-none : (numbered : List ℕ) → ((s : ℕ) → s < mostItems → SlotFits numbered ar s) → NumberedSlots ws ar roster firsts numbered numbered 0
   slots-none numbered fit = record { long = refl; is = λ i h. absurd (omega arith); fits = fit; head = λ k h. refl; tail = λ k h. refl }
 
-  pub slots-more : (before numbered : List ℕ) (i : ℕ) → length before ≡ 9344 → i < itemTotal ws → NumberedSlots ws ar roster firsts before numbered i
-      → NumberedSlots ws ar roster firsts before (putAt numbered (128 + 8 * slotOf ws roster i) (slotWords ws roster firsts i)) (i + 1)
+  pub slots-more : (before numbered : List ℕ) (i : ℕ) → length before ≡ numberedSize → i < itemTotal ws → NumberedSlots ws ar roster firsts before numbered i
+      → NumberedSlots ws ar roster firsts before (putAt numbered (slotsFrom + slotSize * slotOf ws roster i) (slotWords ws roster firsts i)) (i + 1)
   slots-more before numbered i long l q =
       let s = slotOf ws roster i in
       let vs = slotWords ws roster firsts i in
-      let size : length numbered ≡ 9344 = q .long ∙ long in
+      let size : length numbered ≡ numberedSize = q .long ∙ long in
       let eight : length vs ≡ 8 = length-words ws roster firsts i in
-      let low : s < 1024 = slot-low ws ar roster r ro i l in
+      let low : s < mostItems = slot-low ws ar roster r ro i l in
       record {
-        long = length-put numbered (128 + 8 * s) vs ∙ q .long;
+        long = length-put numbered (slotsFrom + slotSize * s) vs ∙ q .long;
         is = λ j h. ⊎-elim
             (λ (e : j ≡ i). rw e (put-own numbered vs size eight s low))
             (λ (n : j ≡ i → ⊥). λ which w. let less : j < i = omega arith in
             put-other numbered vs size eight s low (slotOf ws roster j) which (λ e. n (slot-once ws ar roster r ro j i (omega arith) l e)) w ∙ q .is j less which w)
             (eq-or-ne j i);
         fits = λ u h. ⊎-elim
-            (λ (e : u ≡ s). rw e (item-fits (putAt numbered (128 + 8 * s) vs) i l (put-own numbered vs size eight s low)))
-            (λ (n : u ≡ s → ⊥). fits-same numbered (putAt numbered (128 + 8 * s) vs) ar u (λ which w. put-other numbered vs size eight s low u which n w) (q .fits u h))
+            (λ (e : u ≡ s). rw e (item-fits (putAt numbered (slotsFrom + slotSize * s) vs) i l (put-own numbered vs size eight s low)))
+            (λ (n : u ≡ s → ⊥). fits-same numbered (putAt numbered (slotsFrom + slotSize * s) vs) ar u (λ which w. put-other numbered vs size eight s low u which n w) (q .fits u h))
             (eq-or-ne u s);
-        head = λ k h. get-before numbered (128 + 8 * s) vs k (omega arith) ∙ q .head k h;
-        tail = λ k h. get-after numbered (128 + 8 * s) vs k (omega arith) ∙ q .tail k h;
+        head = λ k h. get-before numbered (slotsFrom + slotSize * s) vs k (omega arith) ∙ q .head k h;
+        tail = λ k h. get-after numbered (slotsFrom + slotSize * s) vs k (omega arith) ∙ q .tail k h;
       }
 
 -- ---- before the first slot: all words of slots are 0
 
-pub start-in : (roster : List ℕ) (k : ℕ) → k < 128 → getD roster k 0 ≡ startWord roster k
+pub start-in : (roster : List ℕ) (k : ℕ) → k < slotsFrom → getD roster k 0 ≡ startWord roster k
 unfolding startWord
 start-in roster k l = sym (pick-true (getD roster k 0) 0 (lt-ltb _ _ l))
 
-pub start-out : (roster : List ℕ) (k : ℕ) → 128 ≤ k → 0 ≡ startWord roster k
+pub start-out : (roster : List ℕ) (k : ℕ) → slotsFrom ≤ k → 0 ≡ startWord roster k
 unfolding startWord
 start-out roster k l = sym (pick-false (getD roster k 0) 0 (le-ltb _ _ l))
 
@@ -161,12 +162,12 @@ start-made roster before after long wide clear e =
           (lt-or-ge k slotsFrom);
     }
 
-zero-word : (ws roster order a b : List ℕ) → NumberedStart roster a → NumberedChildren ws roster order a b → (s which : ℕ) → s < 1024 → which < 8 → slotWord b s which ≡ 0
+zero-word : (ws roster order a b : List ℕ) → NumberedStart roster a → NumberedChildren ws roster order a b → (s which : ℕ) → s < mostItems → which < 8 → slotWord b s which ≡ 0
 unfolding slotWord
 zero-word ws roster order a b st ch s which h w =
-    ch .kept (128 + 8 * s + which) (omega arith) ∙ st .is (128 + 8 * s + which) (omega arith) ∙ sym (start-out roster (128 + 8 * s + which) (omega arith))
+    ch .kept (slotsFrom + slotSize * s + which) (omega arith) ∙ st .is (slotsFrom + slotSize * s + which) (omega arith) ∙ sym (start-out roster (slotsFrom + slotSize * s + which) (omega arith))
 
-pub start-fits : (ws ar roster order a b : List ℕ) → NumberedStart roster a → NumberedChildren ws roster order a b → (s : ℕ) → s < 1024 → SlotFits b ar s
+pub start-fits : (ws ar roster order a b : List ℕ) → NumberedStart roster a → NumberedChildren ws roster order a b → (s : ℕ) → s < mostItems → SlotFits b ar s
 start-fits ws ar roster order a b st ch s h =
     let e0 : slotHash b s ≡ 0 = word 0 (omega arith) in
     let e1 : slotParent b s ≡ 0 = word 1 (omega arith) in

@@ -12,7 +12,7 @@ use Rattle.words.proofs.ChoiceLaws.{eq-or-ne}
 use Rattle.image.proofs.LaidLaws.{laid-join}
 use Rattle.image.proofs.PlanLaws.{length-words}
 use Rattle.layout.specs.Kind.{valueKind, tableKind}
-use Rattle.layout.specs.Limits.{mostItems}
+use Rattle.layout.specs.Limits.{mostItems, longestFile}
 use Rattle.write_bytes.specs.Numbered.{slotKind, slotValueWord, slotValueSize, childWord, slotValue, SlotFits, NumberedFits, slotCover}
 use Rattle.write_bytes.specs.Slot.{slotStart, slotRecord, slotKey, plainValue, slotItem, SlotIn, CoverFits, RecordFits}
 use Rattle.write_bytes.proofs.KindLaws.{kind-value, kind-table, kind-container}
@@ -69,14 +69,14 @@ module _ {numbered arena : List ℕ} {s : ℕ} (g : AtSlot numbered arena s) whe
         omega (arith, length-append (slotKey numbered arena s at (slotStart numbered s at)) (slotValue inner numbered arena s (slotStart numbered s at)), key-end at)
 
     -- the pointer's end fits its field, also where a nested table is left out for its depth
-    stop-small : (start : ℕ) → start + length (slotValue inner numbered arena s start) ≤ 16777216 → start + slotCover numbered s < 2 ^ 32
+    stop-small : (start : ℕ) → start + length (slotValue inner numbered arena s start) ≤ longestFile → start + slotCover numbered s < 2 ^ 32
     stop-small start h =
         ⊎-elim
         (λ e. omega (arith, cover-table numbered s e, cover-fits .items e))
         (λ m. omega (arith, ap length (value-plain start m), length-plain m))
         (eq-or-ne (slotKind numbered s) tableKind)
 
-    pub record-fits : (at : ℕ) → at + length (slotItem inner numbered arena s at) ≤ 16777216 → RecordFits numbered s at (slotStart numbered s at)
+    pub record-fits : (at : ℕ) → at + length (slotItem inner numbered arena s at) ≤ longestFile → RecordFits numbered s at (slotStart numbered s at)
     record-fits at h = record {
       hash = slot-fits .hash;
       parent = slot-fits .parent;

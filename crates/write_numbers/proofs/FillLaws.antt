@@ -12,7 +12,7 @@ use Rattle.words.specs.Hash.{plain}
 use Rattle.words.specs.Store.{putAt}
 use Rattle.words.proofs.StoreLaws.{get-put, get-before}
 use Rattle.model.specs.Table.{Has}
-use Rattle.layout.specs.Limits.{mostItems}
+use Rattle.layout.specs.Limits.{mostItems, mostTables}
 use Rattle.build_memory.specs.Memory.{itemTotal, itemTable}
 use Rattle.image.specs.Index.{hashesOf, bucketStart, byIndex, itemOf, laidIndex}
 use Rattle.image.proofs.IndexLaws.{length-hashes, length-by-index, numbering}
@@ -42,7 +42,7 @@ module _ (ws ar : List ℕ) (t n : ℕ) (items firsts : List ℕ) (fit : Fit ws)
   pub indexed-as-count : n ≡ length (allOfTable ws t)
   indexed-as-count = l .count ∙ members-long ws ar t
 
-  pub indexed-as-few : n ≤ 1024
+  pub indexed-as-few : n ≤ mostItems
   indexed-as-few = omega (arith, indexed-as-count, all-of-table-few ws t fit)
 
   pub indexed-as-long : length (take n items) ≡ n
@@ -86,19 +86,19 @@ filled-none ws ar heads slots indices buckets = record {
   indices-are = λ i l h. absurd (omega arith);
 }
 
-module _ (ws ar : List ℕ) (t first n : ℕ) (heads slots slots′ indices indices′ buckets buckets′ : List ℕ) (fit : Fit ws) (low : t < 64)
+module _ (ws ar : List ℕ) (t first n : ℕ) (heads slots slots′ indices indices′ buckets buckets′ : List ℕ) (fit : Fit ws) (low : t < mostTables)
     (long : length heads ≡ 128) (size : Sized slots indices buckets) (at : first ≡ firstSlotOf ws t)
     (p : Put ws ar t first n slots slots′ indices indices′ buckets buckets′) (f : Filled ws ar t heads slots indices buckets) where
   more-count : n ≡ length (allOfTable ws t)
   more-count = p .count ∙ members-long ws ar t
 
-  pub put-few : first + n ≤ 1024
+  pub put-few : first + n ≤ mostItems
   put-few = omega (arith, more-count, slot-few ws t, fit .few)
 
   pub put-next : first + n ≡ firstSlotOf ws (t + 1)
   put-next = omega (arith, more-count, slot-next ws t)
 
-  more-fits : first + length (stateOf ws ar t .members) ≤ 1024
+  more-fits : first + length (stateOf ws ar t .members) ≤ mostItems
   more-fits = omega (arith, slot-few ws t, fit .few, members-long ws ar t)
 
   more-before : (u k : ℕ) → u < t → k < length (stateOf ws ar u .members) → firstSlotOf ws u + k < first

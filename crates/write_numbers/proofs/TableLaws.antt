@@ -11,13 +11,14 @@ use Rattle.words.proofs.StoreLaws.{part-put, length-put}
 use Rattle.image.specs.Index.{keyOrder, hashesOf, byBucket, byIndex}
 use Rattle.image.proofs.OrderLaws.{length-order, times-order}
 use Rattle.image.proofs.IndexLaws.{length-hashes, ranks-each, length-by-index}
-use Rattle.build_memory.specs.Memory.{itemHash}
+use Rattle.build_memory.specs.Memory.{itemHash, linksFrom}
 use Rattle.write_order.specs.Key.{keyed, Known}
 use Rattle.write_order.specs.Chain.{Empty, starts}
 use Rattle.write_order.specs.Items.{AllBelow, hashesIn, itemsAt}
 use Rattle.write_order.proofs.KeyLaws.{order-keyed}
 use Rattle.write_order.proofs.ChainLaws.{length-starts}
 use Rattle.write_order.proofs.ItemLaws.{hashes-order, items-index, indexed-below}
+use Rattle.layout.specs.Limits.{mostItems}
 use Rattle.write_numbers.specs.Roster.{stateOf}
 use Rattle.write_numbers.specs.Fill.{allOfTable, Fit, Judged, Collected, Ordered, IndexedAs}
 use Rattle.write_numbers.proofs.StateLaws.{state-members, state-same, state-hash, state-below, all-of-table-known, all-of-table-few}
@@ -36,17 +37,17 @@ hashes-front ws run h h′ room e = ap (take (length run)) e ∙ take-front h (h
 -- ---- the links
 
 module _ (ws : List ℕ) (fit : Fit ws) where
-  pub links-long : length (take 1024 (drop 13576 ws)) ≡ 1024
-  links-long = length-take-le 1024 (drop 13576 ws) (omega (arith, length-drop 13576 ws, fit .long))
+  pub links-long : length (take mostItems (drop linksFrom ws)) ≡ mostItems
+  links-long = length-take-le mostItems (drop linksFrom ws) (omega (arith, length-drop linksFrom ws, fit .long))
 
-  pub links-empty : Empty (take 1024 (drop 13576 ws))
+  pub links-empty : Empty (take mostItems (drop linksFrom ws))
   unfolding Empty
-  links-empty i h = getD-take 1024 (drop 13576 ws) i 0 (omega (arith, links-long)) ∙ getD-drop 13576 ws i 0 ∙ fit .empty i (omega (arith, links-long))
+  links-empty i h = getD-take mostItems (drop linksFrom ws) i 0 (omega (arith, links-long)) ∙ getD-drop linksFrom ws i 0 ∙ fit .empty i (omega (arith, links-long))
 
 -- ---- collected, then sorted
 
-module _ (ws : List ℕ) (t n : ℕ) (out out′ : List ℕ) (fit : Fit ws) (room : 1024 ≤ length out) (k : Collected ws t n out out′) where
-  pub collected-few : n ≤ 1024
+module _ (ws : List ℕ) (t n : ℕ) (out out′ : List ℕ) (fit : Fit ws) (room : mostItems ≤ length out) (k : Collected ws t n out out′) where
+  pub collected-few : n ≤ mostItems
   collected-few = omega (arith, all-of-table-few ws t fit, k .count)
 
   pub collected-long : length out′ ≡ length out
@@ -67,7 +68,7 @@ module _ (ws : List ℕ) (t n : ℕ) (out out′ : List ℕ) (fit : Fit ws) (roo
 -- ---- sorted, then given their indices
 
 module _ (ws ar : List ℕ) (t n : ℕ) (run : List ℕ) (judged : Judged ws ar) (o : Ordered ws ar t n run) where
-  pub ordered-few : n ≤ 1024
+  pub ordered-few : n ≤ mostItems
   ordered-few = omega (arith, all-of-table-few ws t (judged .fit), o .count, ap length (state-members ws ar t))
 
   pub ordered-long : length (take n run) ≡ n
@@ -83,7 +84,7 @@ module _ (ws ar : List ℕ) (t n : ℕ) (run : List ℕ) (judged : Judged ws ar)
   ordered-hashes : hashesIn ws (take n run) ≡ hashesOf plain (stateOf ws ar t)
   ordered-hashes = ap (hashesIn ws) (o .order) ∙ hashes-order ws (stateOf ws ar t) (λ i h. state-hash ws ar t i judged h)
 
-  module _ (order order′ : List ℕ) (room : 1024 ≤ length order) (e : order′ ≡ putAt order 0 (byBucket (hashesIn ws (take n run)))) where
+  module _ (order order′ : List ℕ) (room : mostItems ≤ length order) (e : order′ ≡ putAt order 0 (byBucket (hashesIn ws (take n run)))) where
     pub places-are : take n order′ ≡ byBucket (hashesOf plain (stateOf ws ar t))
     places-are =
         ap (take n) (e ∙ ap (λ (l : List ℕ). putAt order 0 (byBucket l)) ordered-hashes)
@@ -99,7 +100,7 @@ module _ (ws ar : List ℕ) (t n : ℕ) (run : List ℕ) (judged : Judged ws ar)
     items-place =
         ap (λ (l : List ℕ). itemsAt l (take n order′)) (o .order) ∙ ap (itemsAt (keyOrder (stateOf ws ar t))) places-are ∙ items-index plain (stateOf ws ar t)
 
-    pub laid : (items items′ firsts firsts′ : List ℕ) → 1024 ≤ length items → 1024 ≤ length firsts
+    pub laid : (items items′ firsts firsts′ : List ℕ) → mostItems ≤ length items → mostItems ≤ length firsts
         → items′ ≡ putAt items 0 (itemsAt (take n run) (take n order′)) → firsts′ ≡ putAt firsts 0 (starts (hashesIn ws (take n run)))
         → IndexedAs ws ar t n items′ firsts′
     laid items items′ firsts firsts′ in-items in-firsts ei ef = record {

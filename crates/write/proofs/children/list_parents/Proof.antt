@@ -5,6 +5,7 @@ use mathlib.Core.Path.{_≡_, refl}
 use native.Mathlib.Omega.{arith}
 use lib.ListN.{length, getD, length-set}
 use Rattle.build_memory.specs.Memory.{itemTotal, itemParent}
+use Rattle.layout.specs.Limits.{mostItems}
 use Rattle.write.specs.NumberedAs.{fromLast}
 use Rattle.write.proofs.SlotLaws.{set-next}
 use Rattle.write.proofs.children.list_parents.Statement.{statement}
@@ -12,7 +13,7 @@ use Rattle.write.proofs.children.list_parents.Tie as tie
 
 abbrev Inv-loop : tie.InvT-loop
 Inv-loop words hashes₀ n p₀ hashes p =
-    (p ≤ itemTotal words) × (n ≡ itemTotal words) × (length hashes ≡ 1024) × ((q : ℕ) → q < p → getD hashes q 0 ≡ itemParent words (fromLast words q))
+    (p ≤ itemTotal words) × (n ≡ itemTotal words) × (length hashes ≡ mostItems) × ((q : ℕ) → q < p → getD hashes q 0 ≡ itemParent words (fromLast words q))
 
 abbrev μ-loop : tie.MeasureT-loop
 μ-loop words hashes₀ n p₀ hashes p = itemTotal words - p

@@ -6,6 +6,7 @@ use lib.ListN.{take, length-replicate}
 use lib.Seq.{length-take-le, getD-take}
 use Rattle.build_memory.specs.Memory.{itemTotal}
 use Rattle.write_order.proofs.ChainLaws.{empty-fresh}
+use Rattle.layout.specs.Limits.{mostItems}
 use Rattle.write.proofs.StateLaws.{fully-valid}
 use Rattle.write.proofs.SiblingLaws.{siblings-made}
 use borrow.Author.Needs.{needs}
@@ -19,7 +20,7 @@ slice-aggregate-list-parents : tie.Need-slice-aggregate-list-parents
 slice-aggregate-list-parents c = search needs
 
 list-parents-requires : tie.Need-list-parents-requires
-list-parents-requires c κs = let s = fully-valid _ _ (c .before .before .before .before .before .before .pre .0) .valid in (s .long, s .items, length-replicate {A = ℕ} 1024 0)
+list-parents-requires c κs = let s = fully-valid _ _ (c .before .before .before .before .before .before .pre .0) .valid in (s .long, s .items, length-replicate {A = ℕ} mostItems 0)
 
 array-share-prefix-hashes : tie.Need-array-share-prefix-hashes
 array-share-prefix-hashes c = omega (arith, fully-valid _ _ (c .before .before .before .before .before .before .before .before .pre .0) .valid .items, c .before .list-parents .kept .1 .0)
@@ -40,7 +41,7 @@ index-by-bucket-requires c κs =
     let l = c .before .before .before .before .before .list-parents in
     let few = fully-valid _ _ (p .0) .valid .items in
     let h = length-take-le (itemTotal (s .args .words .now)) (l .last .1 .0) (omega (arith, few, l .kept .1 .0)) in
-    (record { few = omega (arith, h, few); in-links = omega (arith, h, few, length-replicate {A = ℕ} 1024 4294967295); in-order = omega (arith, h, few, p .1 .0 .0); in-firsts = omega (arith, h, few, p .1 .0 .1) }, empty-fresh 1024)
+    (record { few = omega (arith, h, few); in-links = omega (arith, h, few, length-replicate {A = ℕ} mostItems 4294967295); in-order = omega (arith, h, few, p .1 .0 .0); in-firsts = omega (arith, h, few, p .1 .0 .1) }, empty-fresh mostItems)
 
 same-length : tie.Need-same-length
 same-length c = search needs

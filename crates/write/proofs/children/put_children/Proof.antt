@@ -4,7 +4,7 @@ use mathlib.Core.Path.{_≡_, refl}
 use native.Mathlib.Omega.{arith}
 use lib.ListN.{length, getD, length-set}
 use Rattle.build_memory.specs.Memory.{itemTotal}
-use Rattle.write_bytes.specs.Numbered.{childWord}
+use Rattle.write_bytes.specs.Numbered.{childWord, childrenFrom}
 use Rattle.write_numbers.specs.Roster.{itemIndex}
 use Rattle.write.specs.NumberedAs.{fromLast}
 use Rattle.write.proofs.SlotLaws.{index-read, set-behind, set-apart, set-past}
@@ -14,9 +14,9 @@ use Rattle.write.proofs.children.put_children.Tie as tie
 abbrev Inv-loop : tie.InvT-loop
 Inv-loop words roster order numbered₀ n j₀ numbered j =
     (j ≤ itemTotal words) × (n ≡ itemTotal words) × (length numbered ≡ length numbered₀)
-    × ((q : ℕ) → q < j → getD numbered (8320 + q) 0 ≡ itemIndex roster (fromLast words (getD order q 0)))
-    × ((k : ℕ) → k < 8320 → getD numbered k 0 ≡ getD numbered₀ k 0)
-    × ((k : ℕ) → 8320 + j ≤ k → getD numbered k 0 ≡ getD numbered₀ k 0)
+    × ((q : ℕ) → q < j → getD numbered (childrenFrom + q) 0 ≡ itemIndex roster (fromLast words (getD order q 0)))
+    × ((k : ℕ) → k < childrenFrom → getD numbered k 0 ≡ getD numbered₀ k 0)
+    × ((k : ℕ) → childrenFrom + j ≤ k → getD numbered k 0 ≡ getD numbered₀ k 0)
 
 abbrev μ-loop : tie.MeasureT-loop
 μ-loop words roster order numbered₀ n j₀ numbered j = itemTotal words - j
@@ -71,9 +71,9 @@ loop-again c =
       omega arith,
       l .inv .1,
       simp length-set (l .inv .2),
-      set-behind (λ q. itemIndex (a .roster .now) (fromLast (a .words .now) (getD (a .order .now) q 0))) (l .numbered) (l .j) _ (index-read (a .roster .now) _) 8320 (omega (arith, p .0, p .1 .0, l .inv .2)) (l .inv .3),
-      set-apart (l .numbered) (a .numbered .now) 8320 (l .j) _ (l .inv .4),
-      set-past (l .numbered) (a .numbered .now) 8320 (l .j) _ (l .inv .5),
+      set-behind (λ q. itemIndex (a .roster .now) (fromLast (a .words .now) (getD (a .order .now) q 0))) (l .numbered) (l .j) _ (index-read (a .roster .now) _) childrenFrom (omega (arith, p .0, p .1 .0, l .inv .2)) (l .inv .3),
+      set-apart (l .numbered) (a .numbered .now) childrenFrom (l .j) _ (l .inv .4),
+      set-past (l .numbered) (a .numbered .now) childrenFrom (l .j) _ (l .inv .5),
     )
 
 same-length : tie.Need-same-length Inv-loop μ-loop

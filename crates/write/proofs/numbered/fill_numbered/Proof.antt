@@ -3,6 +3,7 @@ use Prim.Native.Nat.{ℕ}
 use native.Mathlib.Omega.{arith}
 use lib.ListN.{length-replicate, getD-replicate}
 use Rattle.build_memory.specs.Memory.{itemTotal}
+use Rattle.layout.specs.Limits.{mostItems}
 use Rattle.write.proofs.StateLaws.{fully-valid}
 use Rattle.write.proofs.TurnLaws.{start-fits}
 use Rattle.write.proofs.PlanLaws.{siblings-firsts, numbered-as}
@@ -23,7 +24,7 @@ order-siblings-requires : tie.Need-order-siblings-requires
 order-siblings-requires c κs =
     let s = c .before .before .before .before .before .before .before in
     let n = itemTotal (s .args .words .now) in
-    (s .pre .0, ((length-replicate {A = ℕ} 1024 0, length-replicate {A = ℕ} 1026 n), λ b h. getD-replicate {A = ℕ} 1026 b n 0 h))
+    (s .pre .0, ((length-replicate {A = ℕ} mostItems 0, length-replicate {A = ℕ} 1026 n), λ b h. getD-replicate {A = ℕ} 1026 b n 0 h))
 
 start-numbered-requires : tie.Need-start-numbered-requires
 start-numbered-requires c κs = let p = c .before .before .before .before .before .before .before .before .before .before .before .pre in (p .1 .0 .long, p .1 .1 .0, p .1 .1 .1)

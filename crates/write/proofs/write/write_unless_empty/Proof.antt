@@ -1,6 +1,7 @@
 -- `write::write::write_unless_empty` meets its contract: the numbered table's image is the one that the memory means.
 use Prim.Native.Nat.{ℕ}
 use lib.ListN.{length-replicate, getD-replicate}
+use Rattle.write_bytes.specs.Numbered.{numberedSize}
 use Rattle.write.proofs.AnswerLaws.{table-empty, table-indexed}
 use borrow.Author.Needs.{needs}
 use Rattle.write.proofs.write.write_unless_empty.Statement.{statement}
@@ -20,7 +21,7 @@ slice-aggregate-fill-numbered : tie.Need-slice-aggregate-fill-numbered
 slice-aggregate-fill-numbered c = search needs
 
 fill-numbered-requires : tie.Need-fill-numbered-requires
-fill-numbered-requires c κs = let p = c .before .before .before .before .before .before .before .pre in (p .0, (p .1 .0, (length-replicate {A = ℕ} 9344 0, λ k h. getD-replicate {A = ℕ} 9344 k 0 0 h)))
+fill-numbered-requires c κs = let p = c .before .before .before .before .before .before .before .pre in (p .0, (p .1 .0, (length-replicate {A = ℕ} numberedSize 0, λ k h. getD-replicate {A = ℕ} numberedSize k 0 0 h)))
 
 slice-aggregate-write-if-fits : tie.Need-slice-aggregate-write-if-fits
 slice-aggregate-write-if-fits c = search needs

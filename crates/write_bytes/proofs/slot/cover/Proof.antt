@@ -3,6 +3,7 @@ use mathlib.Core.Path.{_≡_, sym, ap, _∙_}
 use Prim.Native.Nat.{ℕ, _+_, _*_, _≤_}
 use native.Mathlib.Omega.{arith}
 use borrow.Author.Needs.{needs}
+use Rattle.layout.specs.Limits.{mostItems}
 use Rattle.write_bytes.specs.Numbered.{slotValueWord, slotCount}
 use Rattle.write_bytes.proofs.SlotLaws.{cover-value, cover-table, cover-container}
 use Rattle.write_bytes.proofs.slot.cover.Statement.{statement}
@@ -31,7 +32,7 @@ slot-count-requires c κs =
 counted : (c : tie.After-slot-count) → c .slot-count .result ≡ slotCount (c .before .before .before .before .before .before .before .args .numbered .now) (slotValueWord (c .before .before .before .before .before .before .before .args .numbered .now) (c .before .before .before .before .before .before .before .args .slot))
 counted c = c .slot-count .ensures ∙ ap (slotCount (c .before .before .before .before .before .before .before .args .numbered .now)) (c .before .slot-word3 .ensures)
 
-few : (c : tie.After-slot-count) → c .slot-count .result ≤ 1024
+few : (c : tie.After-slot-count) → c .slot-count .result ≤ mostItems
 few c = omega (arith, counted c, c .before .before .before .before .before .before .before .pre .1 .items (sym (c .before .before .before .before .before .slot-word .ensures) ∙ c .before .before .if2 .taken))
 
 mul-result : tie.Need-mul-result

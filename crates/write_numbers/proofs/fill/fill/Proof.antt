@@ -3,6 +3,7 @@ use mathlib.Core.Path.{_≡_, refl, sym, ap, _∙_}
 use Prim.Native.Nat.{_-_, _≤_}
 use native.Mathlib.Omega.{arith}
 use lib.ListN.{length, length-set}
+use Rattle.layout.specs.Limits.{mostTables}
 use Rattle.write_numbers.specs.Fill.{firstSlotOf, Fits, Sized, Filled}
 use Rattle.write_numbers.proofs.OfTableLaws.{slot-start, slot-few}
 use Rattle.write_numbers.proofs.FillLaws.{put-few, put-next, filled-none, filled-more}
@@ -11,10 +12,10 @@ use Rattle.write_numbers.proofs.fill.fill.Tie as tie
 
 abbrev Inv-loop : tie.InvT-loop
 Inv-loop words₀ arena heads₀ slots₀ indices₀ buckets₀ t₀ first₀ words heads slots indices buckets t first =
-    (t ≤ 64) × (first ≡ firstSlotOf words₀ t) × (length heads ≡ length heads₀) × Sized slots indices buckets × Filled words₀ arena t heads slots indices buckets × (words ≡ words₀)
+    (t ≤ mostTables) × (first ≡ firstSlotOf words₀ t) × (length heads ≡ length heads₀) × Sized slots indices buckets × Filled words₀ arena t heads slots indices buckets × (words ≡ words₀)
 
 abbrev μ-loop : tie.MeasureT-loop
-μ-loop words₀ arena heads₀ slots₀ indices₀ buckets₀ t₀ first₀ words heads slots indices buckets t first = 64 - t
+μ-loop words₀ arena heads₀ slots₀ indices₀ buckets₀ t₀ first₀ words heads slots indices buckets t first = mostTables - t
 
 loop-holds : tie.Need-loop-holds Inv-loop μ-loop
 loop-holds c =
@@ -121,7 +122,7 @@ same-length-5 c = c .before .loop .inv .3 .of-buckets ∙ sym (c .before .before
 returns : tie.Need-returns Inv-loop μ-loop
 returns c =
     let l = c .before .loop in
-    let all : l .t ≡ 64 = omega (arith, l .inv .0, c .loop-test .left) in
+    let all : l .t ≡ mostTables = omega (arith, l .inv .0, c .loop-test .left) in
     (l .inv .5, rw all at (l .inv .4))
 
 pub fill-spec : {M : Type 1} → statement M

@@ -2,6 +2,8 @@
 use mathlib.Core.Path.{ap, _∙_}
 use native.Mathlib.Omega.{arith}
 use borrow.Rule.Slice.PartMut.{putMid, put-same}
+use Rattle.layout.specs.Limits.{mostItems}
+use Rattle.build_memory.specs.Memory.{linksFrom}
 use Rattle.write_numbers.proofs.TableLaws.{links-long, links-empty}
 use borrow.Author.Needs.{needs}
 use Rattle.write_numbers.proofs.table.index_links.Statement.{statement}
@@ -35,7 +37,7 @@ returns : tie.Need-returns
 returns c =
     let ws = c .before .before .before .before .before .before .before .before .before .before .before .before .before .before .args .words .now in
     let call = c .before .before .before .before .before .before .index-by-bucket in
-    (ap (putMid 13576 1024 ws) (call .ensures .1 .1) ∙ put-same 13576 1024 ws, (call .ensures .0, call .ensures .1 .0))
+    (ap (putMid linksFrom mostItems ws) (call .ensures .1 .1) ∙ put-same linksFrom mostItems ws, (call .ensures .0, call .ensures .1 .0))
 
 pub index-links-spec : {M : Type 1} → statement M
 index-links-spec =

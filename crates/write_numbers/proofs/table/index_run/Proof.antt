@@ -8,6 +8,7 @@ use lib.Seq.{length-take-le}
 use Rattle.words.specs.Store.{putAt}
 use Rattle.image.specs.Index.{byBucket}
 use Rattle.write_order.specs.Chain.{starts}
+use Rattle.layout.specs.Limits.{mostItems}
 use Rattle.write_numbers.proofs.TableLaws.{hashes-front}
 use borrow.Author.Needs.{needs}
 use Rattle.write_numbers.proofs.table.index_run.Statement.{statement}
@@ -49,7 +50,7 @@ returns c =
     let s = c .before .before .before .before .before .before .before .before .before .before .before .before .before .before .before .before .before .before .before in
     let call = c .before .before .before .before .before .before .index-links in
     let hashed = c .before .before .before .before .before .before .before .before .before .before .before .before .hash-all in
-    let front = hashes-front (s .args .words .now) (s .args .run .now) (replicate 1024 0) (hashed .last .1 .1 .0) (omega (arith, s .pre .0 .2)) (hashed .ensures) in (
+    let front = hashes-front (s .args .words .now) (s .args .run .now) (replicate mostItems 0) (hashed .last .1 .1 .0) (omega (arith, s .pre .0 .2)) (hashed .ensures) in (
       call .ensures .0,
       (
         call .ensures .1 .0 ∙ ap (λ (l : List ℕ). putAt (s .args .order .now) 0 (byBucket l)) front,

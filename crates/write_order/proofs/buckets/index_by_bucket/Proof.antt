@@ -2,6 +2,7 @@
 use mathlib.Core.Path.{_∙_}
 use native.Mathlib.Omega.{arith}
 use borrow.Author.Needs.{needs}
+use Rattle.layout.specs.Limits.{mostItems}
 use Rattle.write_order.proofs.ChainLaws.{empty-fresh, empty-same}
 use Rattle.write_order.proofs.buckets.index_by_bucket.Statement.{statement}
 use Rattle.write_order.proofs.buckets.index_by_bucket.Tie as tie
@@ -10,7 +11,7 @@ slice-aggregate-chain-all : tie.Need-slice-aggregate-chain-all
 slice-aggregate-chain-all c = search needs
 
 chain-all-requires : tie.Need-chain-all-requires
-chain-all-requires c κs = let s = c .before .before .before .before .before .before in ((omega (arith, s .pre .0), omega (arith, s .pre .0), omega (arith, s .pre .0)), (empty-fresh 1024, s .pre .1))
+chain-all-requires c κs = let s = c .before .before .before .before .before .before in ((omega (arith, s .pre .0), omega (arith, s .pre .0), omega (arith, s .pre .0)), (empty-fresh mostItems, s .pre .1))
 
 slice-aggregate-index-all : tie.Need-slice-aggregate-index-all
 slice-aggregate-index-all c = search needs
