@@ -1,2 +1,3 @@
 pub mod NestLaws
 pub mod AnswerLaws
+pub mod BadLaws

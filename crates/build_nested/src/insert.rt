@@ -12,6 +12,7 @@ use layout::limits::DEEPEST;
 use layout::limits::LONGEST_KEY;
 use layout::refusal::Refusal;
 use model::Inserted;
+use text::utf8::first_bad;
 use text::utf8::is_utf8;
 use words::store::put_words;
 use words::wide::word_size;
@@ -87,7 +88,7 @@ fn nest_at_key(
         return Inserted::Refused(Refusal::TableInItself);
     }
     if !is_utf8(key) {
-        return Inserted::Refused(Refusal::KeyNotUtf8);
+        return Inserted::Refused(Refusal::KeyNotUtf8(first_bad(key)));
     }
     if LONGEST_KEY < key.len() {
         return Inserted::Refused(Refusal::KeyTooLong);

@@ -9,7 +9,7 @@ use lib.ListN.{length}
 use borrow.Author.Tests.{lt-ltb, le-ltb}
 use Rattle.words.specs.Choice.{pick}
 use Rattle.words.proofs.ChoiceLaws.{pick-with}
-use Rattle.text.specs.Utf8.{isUtf8}
+use Rattle.text.specs.Utf8.{firstBad, isUtf8}
 use Rattle.text.specs.Prefix.{endsPast}
 use Rattle.layout.specs.declared.kind.Kind.{Kind}
 use Rattle.layout.specs.declared.refusal.Refusal.{Refusal}
@@ -125,7 +125,7 @@ module _ (ws ar : List ℕ) where
 
     pub keyed-still : (o : Outcome Inserted) → Still o → Still (keyed ws ar key o)
     unfolding keyed
-    keyed-still o s = still _ _ _ (still _ _ _ (refused-still KeyTooLong) s) (refused-still KeyNotUtf8)
+    keyed-still o s = still _ _ _ (still _ _ _ (refused-still KeyTooLong) s) (refused-still (KeyNotUtf8 (firstBad key)))
 
     pub value-still : (value : List ℕ) → Still (insertValue ws ar t key value)
     unfolding insertValue insertAtKey

@@ -6,7 +6,7 @@ use mathlib.Core.List.{List}
 use borrow.Author.Tests.{lt-ltb, le-ltb}
 use lib.ListN.{length}
 use Rattle.words.specs.Choice.{pick}
-use Rattle.text.specs.Utf8.{isUtf8}
+use Rattle.text.specs.Utf8.{firstBad, isUtf8}
 use Rattle.text.specs.Prefix.{endsPast}
 use Rattle.layout.specs.declared.kind.Kind.{Kind}
 use Rattle.layout.specs.declared.refusal.Refusal.the-variants.{MemoryBroken, TableUnknown, KeyNotUtf8, KeyTooLong, NotContainer, TooManyItems, ArenaFull, NestedTooDeep}
@@ -90,9 +90,9 @@ new-added ws ar t key from c parent sep w a above is q m e =
 -- ---- the key: 8, 20
 
 module _ (ws ar key : List ℕ) (next : Outcome Inserted) where
-  pub keyed-bad : isUtf8 key ≡ false → refused KeyNotUtf8 ws ar ≡ keyed ws ar key next
+  pub keyed-bad : isUtf8 key ≡ false → {at : ℕ} → at ≡ firstBad key → refused (KeyNotUtf8 at) ws ar ≡ keyed ws ar key next
   unfolding keyed pick
-  keyed-bad h = simp h
+  keyed-bad h e = simp h (ap (λ (n : ℕ). refused (KeyNotUtf8 n) ws ar) e)
 
   module _ (good : isUtf8 key ≡ true) where
     pub keyed-long : longestKey < length key → refused KeyTooLong ws ar ≡ keyed ws ar key next

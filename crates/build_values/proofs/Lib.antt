@@ -1,3 +1,4 @@
 pub mod WalkLaws
 pub mod InsertLaws
 pub mod AnswerLaws
+pub mod BadLaws

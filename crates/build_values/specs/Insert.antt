@@ -6,7 +6,7 @@ use mathlib.Core.List.{List, [], _∷_}
 use lib.ListN.{length, take}
 use lib.Dec.{ltb}
 use Rattle.words.specs.Choice.{pick}
-use Rattle.text.specs.Utf8.{isUtf8}
+use Rattle.text.specs.Utf8.{firstBad, isUtf8}
 use Rattle.text.specs.Prefix.{endsPast}
 use Rattle.layout.specs.declared.refusal.Refusal.{Refusal}
 use Rattle.layout.specs.declared.refusal.Refusal.the-variants.{MemoryBroken, TableUnknown, KeyNotUtf8, KeyTooLong, NotContainer, TooManyItems, ArenaFull, NestedTooDeep}
@@ -72,10 +72,10 @@ insertBelowPath ws ar t key c deep =
     (pick deep (refused NestedTooDeep ws ar) (insertOrReplace ws ar t key c (wayOf ws ar t key .from) (wayOf ws ar t key .parent)))
     (refused NotContainer ws ar)
 
--- 8, 20
+-- 8 with the offset in the key, 20
 unfoldable pub keyed : List ℕ → List ℕ → List ℕ → Outcome Inserted → Outcome Inserted
 keyed ws ar key next =
-    pick (isUtf8 key) (pick (ltb longestKey (length key)) (refused KeyTooLong ws ar) next) (refused KeyNotUtf8 ws ar)
+    pick (isUtf8 key) (pick (ltb longestKey (length key)) (refused KeyTooLong ws ar) next) (refused (KeyNotUtf8 (firstBad key)) ws ar)
 
 unfoldable pub insertAtKey : List ℕ → List ℕ → ℕ → List ℕ → List ℕ → Outcome Inserted
 insertAtKey ws ar t key value =

@@ -1,3 +1,4 @@
 pub mod Walk
 pub mod Insert
 pub mod Answer
+pub mod Bad

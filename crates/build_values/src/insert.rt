@@ -22,6 +22,7 @@ use layout::limits::MOST_ITEMS;
 use layout::refusal::Refusal;
 use model::Inserted;
 use text::prefix::next_end;
+use text::utf8::first_bad;
 use text::utf8::is_utf8;
 use words::hash::hash_on;
 use words::wide::word_size;
@@ -236,7 +237,7 @@ fn insert_at_key(
         return Inserted::Refused(Refusal::TableUnknown);
     }
     if !is_utf8(key) {
-        return Inserted::Refused(Refusal::KeyNotUtf8);
+        return Inserted::Refused(Refusal::KeyNotUtf8(first_bad(key)));
     }
     if LONGEST_KEY < key.len() {
         return Inserted::Refused(Refusal::KeyTooLong);

@@ -5,6 +5,7 @@ pub mod KeepLaws
 pub mod ChildLaws
 pub mod SurveyLaws
 pub mod FirstLaws
+pub mod ExplainLaws
 pub mod RuleWords
 pub mod SoundLaws
 pub mod BrokenLaws

@@ -21,13 +21,15 @@ use Rattle.layout.specs.Item.{itemAt}
 use Rattle.layout.proofs.OpenLaws.{pointer-inside}
 use Rattle.read.specs.declared.chain.Step.{Step}
 use Rattle.read.specs.declared.lookup.Found.{Found}
+use Rattle.read.specs.declared.listing.Measured.{Measured}
 use Rattle.read.specs.Chain.{Joined, keyOf, parentOf}
 use Rattle.read.specs.Find.{findItem}
+use Rattle.read.specs.Listing.{measure}
 use Rattle.check_keys.specs.declared.tally.JoinedKey.{JoinedKey}
 use Rattle.check_table.specs.declared.check.Checked.{Checked}
 use Rattle.check_keys.specs.Key.{bytesOf, joinedKey}
 use Rattle.check_table.specs.Survey.{keyRule}
-use Rattle.check_table.specs.Rules.{isJoined, isAt, keyLists, keyFinds, isInside, listOpens, valueOpens, childCount, among, childGood, childrenGood, listsIt, parentKeeps, parentGood, brokenRule, firstBroken, checkIn}
+use Rattle.check_table.specs.Rules.{isJoined, isAt, keyLists, keyFinds, isInside, listOpens, valueOpens, childCount, among, childGood, childrenGood, listsIt, parentKeeps, parentGood, brokenRule, firstBroken, unlisted, explained, checkIn}
 use Rattle.check_table.proofs.KeyText.{sought-joined}
 
 -- ---- rules 1 and 2, with the item's joined key at hand
@@ -162,12 +164,20 @@ module _ (rule : ℕ → ℕ) (file : List ℕ) (t : Table) (index : ℕ) where
 -- ---- the search for the first item that breaks a rule
 
 module _ (broken : ℕ → ℕ) where
-  pub broken-turn : (count at : ℕ) → at < count
+  broken-turn : (count at : ℕ) → at < count
       → firstBroken broken (count - at) at ≡ pick (eqb (broken at) 0) (firstBroken broken (count - (at + 1)) (at + 1)) (Checked.Broken (broken at) at)
   unfolding firstBroken
   broken-turn count at h =
       let e : count - at ≡ suc (count - (at + 1)) = omega arith in
       rw e
+
+  pub broken-here : (count at : ℕ) {n : ℕ} → at < count → n ≡ broken at → (n ≡ 0 → ⊥) → Checked.Broken n at ≡ firstBroken broken (count - at) at
+  unfolding pick
+  broken-here count at h is some = sym (broken-turn count at h ∙ rw (← is, ne-eqb _ _ some))
+
+  pub broken-later : (count at : ℕ) {n : ℕ} → at < count → n ≡ broken at → n ≡ 0 → firstBroken broken (count - (at + 1)) (at + 1) ≡ firstBroken broken (count - at) at
+  unfolding pick
+  broken-later count at h is none = sym (broken-turn count at h ∙ rw (← is, eq-eqb _ _ none))
 
   pub broken-over : (count at : ℕ) → count ≤ at → firstBroken broken (count - at) at ≡ Checked.Sound
   unfolding firstBroken
@@ -175,9 +185,34 @@ module _ (broken : ℕ → ℕ) where
       let e : count - at ≡ 0 = omega arith in
       rw e
 
-pub broken-start : (rule : ℕ → ℕ) (file : List ℕ) (t : Table) → firstBroken (brokenRule rule file t) (t .count - 0) 0 ≡ checkIn rule file t
+pub broken-start : (rule : ℕ → ℕ) (file : List ℕ) (t : Table) → explained file t (firstBroken (brokenRule rule file t) (t .count - 0) 0) ≡ checkIn rule file t
 unfolding checkIn
-broken-start rule file t = ap (λ (n : ℕ). firstBroken (brokenRule rule file t) n 0) (sub-zero (t .count))
+broken-start rule file t = ap (λ (n : ℕ). explained file t (firstBroken (brokenRule rule file t) n 0)) (sub-zero (t .count))
+
+-- a broken rule that is not the first, and the first, by what the key measures
+module _ (file : List ℕ) (t : Table) (item : ℕ) where
+  pub explained-other : (n : ℕ) → (n ≡ 1 → ⊥) → Checked.Broken n item ≡ explained file t (Checked.Broken n item)
+  unfolding explained pick
+  explained-other n h = rw (ne-eqb n 1 h)
+
+  unlisted-by : (j : Joined) {why : Refusal} → measure j ≡ Measured.Refused why → Checked.Unlisted why item ≡ unlisted j item
+  unfolding measure unlisted
+  unlisted-by (Joined.joined k) e = let z : _≡_ {A = ℕ} 0 1 = cc in absurd (omega arith)
+  unlisted-by (Joined.broken w) e = cc
+
+  listed-by : (j : Joined) {size : ℕ} → measure j ≡ Measured.Size size → Checked.Broken 1 item ≡ unlisted j item
+  unfolding measure unlisted
+  listed-by (Joined.joined k) e = refl
+  listed-by (Joined.broken w) e = let z : _≡_ {A = ℕ} 0 1 = cc in absurd (omega arith)
+
+  module _ (n : ℕ) (one : n ≡ 1) where
+    pub explained-refused : {why : Refusal} → measure (keyOf file t (t .count) item) ≡ Measured.Refused why → Checked.Unlisted why item ≡ explained file t (Checked.Broken n item)
+    unfolding explained pick
+    explained-refused e = rw (eq-eqb n 1 one) (unlisted-by (keyOf file t (t .count) item) e)
+
+    pub explained-sized : {size : ℕ} → measure (keyOf file t (t .count) item) ≡ Measured.Size size → Checked.Broken 1 item ≡ explained file t (Checked.Broken n item)
+    unfolding explained pick
+    explained-sized e = rw (eq-eqb n 1 one) (listed-by (keyOf file t (t .count) item) e)
 
 -- ---- a parent that lists an index, or does not; rule 5 of a container and of another item; rule 6
 

@@ -18,11 +18,12 @@ use Rattle.layout.proofs.OpenLaws.{opened-in-file}
 use Rattle.read.specs.declared.chain.Step.{Step}
 use Rattle.read.specs.Chain.{parentOf}
 use Rattle.check_table.specs.declared.check.Checked.{Checked}
-use Rattle.check_table.specs.Rules.{keyLists, keyFinds, childAt, childCount, among, childrenGood, listsIt, parentKeeps, parentGood, brokenRule, firstBroken, checkIn, checkOpened, checkTable}
+use Rattle.check_table.specs.Rules.{keyLists, keyFinds, childAt, childCount, among, childrenGood, listsIt, parentKeeps, parentGood, brokenRule, firstBroken, explained, checkIn, checkOpened, checkTable}
 use Rattle.check_table.specs.Sound.{InList, SoundIn, SoundTable, PassesExactlyTheSound}
 use Rattle.check_table.specs.Broken.{Keeps}
 use Rattle.check_table.proofs.KeepLaws.{breaks-none-keeps, keeps-breaks-none}
 use Rattle.check_table.proofs.FirstLaws.{sound-none, none-sound}
+use Rattle.check_table.proofs.ExplainLaws.{sound-explained}
 use Rattle.check_table.proofs.RuleWords.{key-reads, reads-lists, reads-finds, value-good, good-kind, good-value, child-good, good-child, among-at, at-among, children-of, not-before, same-place, up-true, RootOrContained, parent-is, parent-up, few-items}
 
 -- what the rules say together, of a table that lies in the file
@@ -110,15 +111,15 @@ module _ (rule : ℕ → ℕ) (file : List ℕ) (start end : ℕ) where
     t,
     is,
     rules-sound rule file t (opened-in-file file start end is)
-        (λ i h. breaks-none-keeps rule file t i (sound-none (brokenRule rule file t) (t .count) 0 e i (omega arith) (omega arith))),
+        (λ i h. breaks-none-keeps rule file t i (sound-none (brokenRule rule file t) (t .count) 0 (sound-explained file t e) i (omega arith) (omega arith))),
   )
   check-sound (Opened.Refused why) is e = let z : _≡_ {A = ℕ} 0 1 = cc in absurd (omega arith)
 
   sound-check : SoundTable rule file start end → checkTable rule file start end ≡ Checked.Sound
-  unfolding checkTable checkOpened checkIn SoundTable
+  unfolding checkTable checkOpened checkIn explained SoundTable
   sound-check (t, is, s) =
-      rw is (none-sound (brokenRule rule file t) (t .count) 0
-      (λ i _ h. keeps-breaks-none rule file t i (sound-rules rule file t (opened-in-file file start end is) s i (omega arith))))
+      rw is (ap (explained file t) (none-sound (brokenRule rule file t) (t .count) 0
+      (λ i _ h. keeps-breaks-none rule file t i (sound-rules rule file t (opened-in-file file start end is) s i (omega arith)))))
 
 pub passes-exactly-the-sound : PassesExactlyTheSound
 unfolding checkTable
@@ -127,5 +128,5 @@ passes-exactly-the-sound rule file start end = (check-sound rule file start end 
 -- a table without items passes if it opens
 pub empty-passes : (rule : ℕ → ℕ) (file : List ℕ) (start end : ℕ) {t : Table} → openTable file start end ≡ Opened.Table t → t .count ≡ 0
     → checkTable rule file start end ≡ Checked.Sound
-unfolding checkTable checkOpened checkIn firstBroken
+unfolding checkTable checkOpened checkIn explained firstBroken
 empty-passes rule file start end e none = rw (e, none)

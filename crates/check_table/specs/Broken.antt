@@ -1,14 +1,19 @@
--- What is answered with 40: the first item that does not keep every rule, and the first rule that it breaks.
+-- What is answered with 40: the first item that does not keep every rule, and the first rule that it breaks; for rule 1 with what listing that
+-- item refuses.
 use Prim.Native.Nat.{ℕ, _<_}
 use mathlib.Core.Path.{_≡_}
 use mathlib.Core.Logic.{_↔_}
 use mathlib.Core.List.{List}
 use mathlib.Core.Bool.{true, false}
+use Rattle.layout.specs.declared.refusal.Refusal.{Refusal}
 use Rattle.layout.specs.declared.table.Opened.{Opened}
 use Rattle.layout.specs.declared.table.Table.{Table}
 use Rattle.layout.specs.Kind.{kindKnown}
 use Rattle.layout.specs.Table.{openTable}
 use Rattle.layout.specs.Item.{itemAt}
+use Rattle.read.specs.declared.listing.Listed.{Listed}
+use Rattle.read.specs.Chain.{Joined}
+use Rattle.read.specs.Listing.{keyAt, listed}
 use Rattle.check_table.specs.declared.check.Checked.{Checked}
 use Rattle.check_table.specs.Rules.{keyLists, keyFinds, valueOpens, childrenGood, parentGood, checkTable}
 
@@ -42,8 +47,15 @@ pub record BrokenAt (rule : ℕ → ℕ) (file : List ℕ) (start end broken ite
   pub before : (k : ℕ) → k < item → Keeps rule file table k
   pub breaks : Breaks rule file table item broken
 
--- the statement: 40 names the first item and its first broken rule
+-- the statement: 40 names the first item and its first broken rule, which is rule 1 just where it comes with a refusal: that of the item's key
 abbrev pub NamesTheFirst : Type 0
 NamesTheFirst =
-    (rule : ℕ → ℕ) (file : List ℕ) (start end broken item : ℕ)
-    → (checkTable rule file start end ≡ Checked.Broken broken item) ↔ BrokenAt rule file start end broken item
+    (rule : ℕ → ℕ) (file : List ℕ) (start end item : ℕ)
+    → ((broken : ℕ) → (checkTable rule file start end ≡ Checked.Broken broken item) ↔ (BrokenAt rule file start end broken item × (broken ≡ 1 → ⊥)))
+    × ((why : Refusal) → (checkTable rule file start end ≡ Checked.Unlisted why item) ↔ (BrokenAt rule file start end 1 item × (keyAt file start end item ≡ Joined.broken why)))
+
+-- the statement: the refusal of rule 1 is what listing that item refuses with, whatever the room
+abbrev pub UnlistedWhy : Type 0
+UnlistedWhy =
+    (rule : ℕ → ℕ) (file : List ℕ) (start end item room : ℕ) (why : Refusal)
+    → checkTable rule file start end ≡ Checked.Unlisted why item → listed (keyAt file start end item) room item ≡ Listed.Refused why

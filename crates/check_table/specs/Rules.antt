@@ -1,5 +1,6 @@
 -- The table check, from document 01, 'The check's six rules': each rule is a test of an item, and the check answers the first item that
--- breaks one, with the first rule that it breaks. The rule for a byte of the hash is a parameter.
+-- breaks one, with the first rule that it breaks, and for rule 1 with what listing that item refuses. The rule for a byte of the hash is a
+-- parameter.
 use Prim.Native.Nat.{ℕ, zero, suc, _+_, _*_, _-_, _/_, _%_}
 use mathlib.Core.List.{List}
 use mathlib.Core.Bool.{Bool, true, false, not, _&&_}
@@ -120,8 +121,20 @@ firstBroken broken zero at = Checked.Sound
 firstBroken broken (suc more) at =
     pick (eqb (broken at) 0) (firstBroken broken more (at + 1)) (Checked.Broken (broken at) at)
 
+-- rule 1 is answered with the refusal with which listing the item ends
+unfoldable pub unlisted : Joined → ℕ → Checked
+unlisted (Joined.broken why) item = Checked.Unlisted why item
+unlisted (Joined.joined key) item = Checked.Broken 1 item
+
+-- the other answers stand as they are
+unfoldable pub explained : List ℕ → Table → Checked → Checked
+explained file t Checked.Sound = Checked.Sound
+explained file t (Checked.Broken rule item) = pick (eqb rule 1) (unlisted (keyOf file t (t .count) item) item) (Checked.Broken rule item)
+explained file t (Checked.Unlisted why item) = Checked.Unlisted why item
+explained file t (Checked.Refused why) = Checked.Refused why
+
 unfoldable pub checkIn : (ℕ → ℕ) → List ℕ → Table → Checked
-checkIn rule file t = firstBroken (brokenRule rule file t) (t .count) 0
+checkIn rule file t = explained file t (firstBroken (brokenRule rule file t) (t .count) 0)
 
 unfoldable pub checkOpened : (ℕ → ℕ) → List ℕ → Opened → Checked
 checkOpened rule file (Opened.Table t) = checkIn rule file t

@@ -13,18 +13,22 @@ use layout::table::Table;
 use layout::table::open_table;
 use read::chain::Step;
 use read::chain::parent_of;
+use read::listing::Measured;
+use read::listing::key_size;
 ghost use mathlib.Core.Path.{_≡_};
 ghost use Prim.Native.Nat.{_≤_, _<_};
 ghost use Rattle.words.specs.Hash.{plain};
 ghost use Rattle.layout.specs.Table.{InFile};
 ghost use Rattle.layout.specs.Item.{itemAt};
-ghost use Rattle.check_table.specs.Rules.{parentGood, brokenRule, checkIn, checkTable};
+ghost use Rattle.check_table.specs.Rules.{parentGood, brokenRule, explained, checkIn, checkTable};
 ghost use Rattle.check_table.specs.Survey.{Survey};
 
-// Each item keeps every rule, or the first that does not and the first rule that it breaks, or why the table does not open.
+// Each item keeps every rule, or the first that does not and the first rule that it breaks, or why the table does not open. Where the first item breaks
+// rule 1: with what listing it refuses.
 pub enum Checked {
     Sound,
     Broken { rule: u32, item: usize },
+    Unlisted { why: Refusal, item: usize },
     Refused(Refusal),
 }
 
@@ -80,6 +84,20 @@ fn broken_rule(file: &[u8], table: Table, index: usize, stop: usize, bits: &[usi
     0
 }
 
+// A broken rule and its item; for rule 1 with what listing the item refuses.
+fn explain(file: &[u8], table: Table, rule: u32, item: usize) -> Checked
+    requires { ⌜ InFile (now file) table × (item < table .count) ⌝ }
+    ensures { λ r. ⌜ r ≡ explained (now (file .entry)) table (Checked.Broken rule item) ⌝ }
+{
+    if rule != 1 {
+        return Checked::Broken { rule, item };
+    }
+    match key_size(file, table, item) {
+        Measured::Refused(why) => Checked::Unlisted { why, item },
+        Measured::Size(_) => Checked::Broken { rule: 1, item },
+    }
+}
+
 // The first item of an open table that breaks a rule.
 fn check_surveyed(file: &[u8], table: Table, stop: usize, bits: &[usize]) -> Checked
     requires { ⌜ InFile (now file) table ⌝ }
@@ -91,7 +109,7 @@ fn check_surveyed(file: &[u8], table: Table, stop: usize, bits: &[usize]) -> Che
     while at < count {
         let rule = broken_rule(file, table, at, stop, bits);
         if rule != 0 {
-            return Checked::Broken { rule, item: at };
+            return explain(file, table, rule, at);
         }
         at += 1;
     }

@@ -1,5 +1,5 @@
 -- Demand 3: every table in every image that is laid passes; the check passes exactly the sound tables, and names the first item and rule broken.
-use Prim.Native.Nat.{ℕ, zero, suc, _<_}
+use Prim.Native.Nat.{ℕ, zero, suc}
 use mathlib.Core.Path.{_≡_, refl, sym, ap, _∙_, subst}
 use mathlib.Core.Bool.{Bool, true, false}
 use mathlib.Core.List.{List}
@@ -8,24 +8,20 @@ use lib.ListN.{length, take}
 use Rattle.layout.specs.Limits.{deepest}
 use Rattle.layout.specs.Sizes.{headerSize}
 use Rattle.layout.proofs.RefusalLaws.{refused-some}
-use Rattle.words.specs.Choice.{pick}
 use Rattle.words.specs.Hash.{plain}
-use Rattle.words.proofs.ChoiceLaws.{pick-with}
 use Rattle.text.specs.Utf8.{isUtf8}
-use Rattle.layout.specs.declared.refusal.Refusal.{Refusal}
 use Rattle.layout.specs.declared.refusal.Refusal.the-variants.{CheckBroken}
-use Rattle.layout.specs.declared.pointer.Pointed.{Pointed}
 use Rattle.layout.specs.declared.table.Opened.{Opened}
 use Rattle.layout.specs.Answer.{openedNumber}
-use Rattle.layout.specs.Refusal.{number}
-use Rattle.layout.specs.Pointer.{openPointer}
-use Rattle.layout.specs.Table.{whereInside, tableOf, tableIn, openTable}
+use Rattle.layout.specs.Table.{openTable}
+use Rattle.layout.proofs.AnswerLaws.{opened-low}
 use Rattle.read.specs.declared.lookup.Looked.{Looked}
 use Rattle.read.specs.Lookup.{lookupTable}
-use Rattle.read.specs.Answer.{lookedNumber}
+use Rattle.read.specs.declared.listing.Listed.{Listed}
+use Rattle.read.specs.Answer.{lookedNumber, listedNumber, listedAt}
 use Rattle.check_table.specs.declared.check.Checked.{Checked}
 use Rattle.check_table.specs.Rules.{checkTable}
-use Rattle.check_table.specs.Answer.{checkedNumber, checkedRule, checkedItem}
+use Rattle.check_table.specs.Answer.{checkedNumber, checkedRule, checkedItem, checkedWhy, checkedAt}
 use Rattle.check_table.specs.Broken.{BrokenAt}
 use Rattle.check_table.proofs.SoundLaws as sound
 use Rattle.check_table.proofs.BrokenLaws as broken
@@ -38,12 +34,14 @@ use Rattle.write_numbers.specs.Roster.{stateOf}
 use Rattle.write.specs.Write.{imageAfter}
 use Rattle.gvdb.specs.declared.reading.GvdbOpened.{GvdbOpened}
 use Rattle.gvdb.specs.declared.reading.GvdbPlace.{GvdbPlace}
+use Rattle.gvdb.specs.declared.reading.GvdbKey.{GvdbKey}
 use Rattle.gvdb.specs.declared.checking.GvdbCheck.{GvdbCheck}
-use Rattle.gvdb.specs.Reading.{openedAnswer}
+use Rattle.gvdb.specs.Reading.{openedAnswer, listedAnswer}
 use Rattle.gvdb.specs.Checking.{checkedAnswer}
 use Rattle.demands.specs.Last.{Held}
-use Rattle.demands.specs.Demand3.{AllPass, EveryImagePasses, PassesExactlyTheSound, NamesTheFirst, OpensFirst}
-use Rattle.demands.proofs.Contracts.{opening-is, checking-is}
+use Rattle.demands.specs.Demand3.{AllPass, EveryImagePasses, PassesExactlyTheSound, NamesTheFirst, SaysWhy, OpensFirst}
+use Rattle.demands.specs.Readers.{Listing}
+use Rattle.demands.proofs.Contracts.{opening-is, listing-is, checking-is}
 use Rattle.demands.proofs.Told.{told-pointer}
 use Rattle.demands.proofs.HeldLaws.{heldIn}
 use Rattle.demands.proofs.Rows.{ItemOf, item-of, no-item}
@@ -57,6 +55,7 @@ sound-by : (c : Checked) → checkedNumber c ≡ 0 → c ≡ Checked.Sound
 unfolding checkedNumber
 sound-by Checked.Sound e = refl
 sound-by (Checked.Broken rule item) e = absurd (refused-some CheckBroken e)
+sound-by (Checked.Unlisted why item) e = absurd (refused-some CheckBroken e)
 sound-by (Checked.Refused why) e = absurd (refused-some why e)
 
 pub passes-exactly-the-sound : PassesExactlyTheSound
@@ -65,33 +64,6 @@ passes-exactly-the-sound file start end r c =
     let said = ap (λ (x : GvdbCheck). x .number) (checking-is file start end r c) in
     let exactly = sound.passes-exactly-the-sound plain file start end in
     (λ e. exactly .0 (sound-by _ (sym said ∙ e)), λ s. said ∙ ap checkedNumber (exactly .1 s))
-
--- opening refuses with low numbers
-record Low (o : Opened) : Type 0 where
-  pub low : (why : Refusal) → o ≡ Opened.Refused why → number why < 40
-
-no-low : (x : Refusal) → number x < 40 → Low (Opened.Refused x)
-no-low x l = record { low = λ why e. let z : x ≡ why = cc in subst (λ (w : Refusal). number w < 40) z l }
-
-low-by : (b : Bool) (x y : Opened) → Low x → Low y → Low (pick b x y)
-low-by b x y p q = pick-with Low b x y (λ _. p) (λ _. q)
-
-table-low : (file : List ℕ) (start end : ℕ) → Low (tableIn file start end)
-unfolding tableIn tableOf
-table-low file start end =
-    low-by _ _ _ (no-low _ (omega arith))
-    (low-by _ _ _ (no-low _ (omega arith)) (low-by _ _ _ (no-low _ (omega arith)) (low-by _ _ _ (record { low = λ why e. absurd (let z : _≡_ {A = ℕ} 0 1 = cc in omega arith) }) (no-low _ (omega arith)))))
-
-pointer-low : (size start end : ℕ) (o : Opened) → Low o → Low (whereInside (openPointer size start end 4) o)
-unfolding openPointer
-pointer-low size start end o l =
-    pick-with (λ (p : Pointed). Low (whereInside p o)) _ _ _ (λ _. no-low _ (omega arith))
-    (λ _. pick-with (λ (p : Pointed). Low (whereInside p o)) _ _ _
-    (λ _. pick-with (λ (p : Pointed). Low (whereInside p o)) _ _ _ (λ _. no-low _ (omega arith)) (λ _. l)) (λ _. no-low _ (omega arith)))
-
-open-low : (file : List ℕ) (start end : ℕ) → Low (openTable file start end)
-unfolding openTable
-open-low file start end = low-by _ _ _ (no-low _ (omega arith)) (pointer-low (length file) start end _ (table-low file start end))
 
 pub names-the-first : NamesTheFirst
 unfolding checkedAnswer checkedNumber checkedRule checkedItem
@@ -102,8 +74,31 @@ names-the-first file start end r c e =
     by : (a : Checked) → checkTable plain file start end ≡ a → r ≡ checkedAnswer a → checkedNumber a ≡ 40 → BrokenAt plain file start end (r .rule) (r .item)
     by Checked.Sound said is n = absurd (omega arith)
     by (Checked.Broken rule item) said is n =
-        subst (λ (x : GvdbCheck). BrokenAt plain file start end (x .rule) (x .item)) (sym is) (broken.names-the-first plain file start end rule item .0 said)
-    by (Checked.Refused why) said is n = absurd (omega (arith, open-low file start end .low why (broken.refused-as-opening plain file start end why .0 said)))
+        subst (λ (x : GvdbCheck). BrokenAt plain file start end (x .rule) (x .item)) (sym is) (broken.names-the-first plain file start end item .0 rule .0 said .0)
+    by (Checked.Unlisted why item) said is n =
+        subst (λ (x : GvdbCheck). BrokenAt plain file start end (x .rule) (x .item)) (sym is) (broken.names-the-first plain file start end item .1 why .0 said .0)
+    by (Checked.Refused why) said is n = absurd (omega (arith, opened-low file start end (broken.refused-as-opening plain file start end why .0 said)))
+
+pub says-why : SaysWhy
+unfolding checkedAnswer checkedRule checkedItem checkedWhy checkedAt listedAnswer listedNumber listedAt
+says-why file start end r c = by (checkTable plain file start end) refl (checking-is file start end r c)
+  where
+    by : (a : Checked) → checkTable plain file start end ≡ a → r ≡ checkedAnswer a
+        → (r .rule ≡ 1 → (out : List ℕ) (k : GvdbKey) (left : List ℕ) → Listing file start end (r .item) out k left → (r .why ≡ k .number) × (r .at ≡ k .at))
+        × ((r .rule ≡ 1 → ⊥) → (r .why ≡ 0) × (r .at ≡ 0))
+    by Checked.Sound said is = (λ e. absurd (omega (arith, e, ap (λ (x : GvdbCheck). x .rule) is)), λ n. (ap (λ (x : GvdbCheck). x .why) is, ap (λ (x : GvdbCheck). x .at) is))
+    by (Checked.Broken rule item) said is = (
+      λ e. absurd (broken.names-the-first plain file start end item .0 rule .0 said .1 (sym (ap (λ (x : GvdbCheck). x .rule) is) ∙ e)),
+      λ n. (ap (λ (x : GvdbCheck). x .why) is, ap (λ (x : GvdbCheck). x .at) is),
+    )
+    by (Checked.Unlisted why item) said is = (
+      λ e out k left l.
+          let here = subst (λ (i : ℕ). Listing file start end i out k left) (ap (λ (x : GvdbCheck). x .item) is) l in
+          let told : k ≡ listedAnswer (Listed.Refused why) = listing-is file start end item out k left here .0 ∙ ap listedAnswer (broken.unlisted-why plain file start end item (length out) why said) in
+          (ap (λ (x : GvdbCheck). x .why) is ∙ sym (ap (λ (x : GvdbKey). x .number) told), ap (λ (x : GvdbCheck). x .at) is ∙ sym (ap (λ (x : GvdbKey). x .at) told)),
+      λ n. absurd (n (ap (λ (x : GvdbCheck). x .rule) is)),
+    )
+    by (Checked.Refused why) said is = (λ e. absurd (omega (arith, e, ap (λ (x : GvdbCheck). x .rule) is)), λ n. (ap (λ (x : GvdbCheck). x .why) is, ap (λ (x : GvdbCheck). x .at) is))
 
 pub opens-first : OpensFirst
 unfolding openedAnswer openedNumber checkedAnswer checkedNumber

@@ -72,12 +72,12 @@ does-is m call said after left (Does.new-table c) = record {
   lent = refl;
 }
 does-is m call said after left (Does.insert-value c) = record {
-  answer = ap (λ (o : Outcome GvdbInserted). o .answer .number ∷ o .answer .replaced ∷ []) (c .meets);
+  answer = ap (λ (o : Outcome GvdbInserted). o .answer .number ∷ o .answer .replaced ∷ o .answer .at ∷ []) (c .meets);
   memory = ap (λ (o : Outcome GvdbInserted). o .after) (c .meets);
   lent = refl;
 }
 does-is m call said after left (Does.insert-table c) = record {
-  answer = ap (λ (o : Outcome GvdbInserted). o .answer .number ∷ o .answer .replaced ∷ []) (c .meets);
+  answer = ap (λ (o : Outcome GvdbInserted). o .answer .number ∷ o .answer .replaced ∷ o .answer .at ∷ []) (c .meets);
   memory = ap (λ (o : Outcome GvdbInserted). o .after) (c .meets);
   lent = refl;
 }

@@ -28,7 +28,7 @@ use Rattle.image.specs.Image.{imageOf}
 use Rattle.build_memory.specs.Memory.{Memory, memory, leastWords, freshStart}
 use Rattle.build_memory.specs.Answer.{startedNumber}
 use Rattle.build_tables.specs.Answer.{addedNumber, addedTable}
-use Rattle.build_values.specs.Answer.{insertedNumber, insertedKind}
+use Rattle.build_values.specs.Answer.{insertedNumber, insertedKind, insertedAt}
 use Rattle.write.specs.declared.Written.{Written}
 use Rattle.write.specs.Write.{emptyHeld, hasEmpty, tooLong, writtenNumber}
 use Rattle.gvdb.specs.declared.reading.GvdbPlace.{GvdbPlace}
@@ -65,8 +65,8 @@ table-says : says (built 8 []) table ≡ 0 ∷ 0 ∷ []
 unfolding says built newTable separatorOf pick added addedNumber addedTable
 table-says = refl
 
-insert-says : (said : List ℕ) → says (built 8 (event table said ∷ [])) insert ≡ 0 ∷ 0 ∷ []
-unfolding says built makes worked.start inserted insertedNumber insertedKind
+insert-says : (said : List ℕ) → says (built 8 (event table said ∷ [])) insert ≡ 0 ∷ 0 ∷ 0 ∷ []
+unfolding says built makes worked.start inserted insertedNumber insertedKind insertedAt
 insert-says said = ap (λ (r : Result Inserted). inserted (r .answer)) worked.made
 
 built-is : built 8 workedEvents ≡ b
@@ -126,7 +126,7 @@ module _ (start : Memory) (long : leastWords ≤ length (start .words)) (eight :
       let s = subst (λ (n : ℕ). Starts start n m0) (fresh-says start long) (starts start) in
       let h0 = subst (λ (n : ℕ). History n [] m0) eight (History.start start m0 s) in
       let h1 = more 8 [] m0 h0 table (0 ∷ 0 ∷ []) table-says in
-      more 8 (event table (0 ∷ 0 ∷ []) ∷ []) (leaves m0 table) h1 insert (0 ∷ 0 ∷ []) (insert-says (0 ∷ 0 ∷ []))
+      more 8 (event table (0 ∷ 0 ∷ []) ∷ []) (leaves m0 table) h1 insert (0 ∷ 0 ∷ 0 ∷ []) (insert-says (0 ∷ 0 ∷ []))
 
   module _ (buffer : List ℕ) (room : 104 ≤ length buffer) where
     abbrev left : List ℕ

@@ -68,7 +68,7 @@ module _ (m : Builder) (t : ℕ) (key : List ℕ) (content : Content) where
 
   keyed-took : (r : Result Inserted) → Took r → Took (keyed m key r)
   unfolding keyed
-  keyed-took r x = pick-took _ _ _ (pick-took _ _ _ (refused-took KeyTooLong refl) x) (refused-took KeyNotUtf8 refl)
+  keyed-took r x = pick-took _ _ _ (pick-took _ _ _ (refused-took KeyTooLong refl) x) (refused-took (KeyNotUtf8 _) refl)
 
 pub value-took : (m : Builder) (t : ℕ) (key value : List ℕ) → Took m t key (Content.bytes value) (insertValue m t key value)
 unfolding insertValue

@@ -63,7 +63,7 @@ module _ (ws ar : List ℕ) (t : ℕ) (key : List ℕ) where
   keyed-other : (o : Outcome Inserted) → Other insertedNumber (o .answer) → Other insertedNumber (keyed ws ar key o .answer)
   unfolding keyed
   keyed-other o p =
-      other-pick insertedNumber said _ _ _ (other-pick insertedNumber said _ _ _ (no KeyTooLong (λ e. omega arith)) p) (no KeyNotUtf8 (λ e. omega arith))
+      other-pick insertedNumber said _ _ _ (other-pick insertedNumber said _ _ _ (no KeyTooLong (λ e. omega arith)) p) (no (KeyNotUtf8 _) (λ e. omega arith))
 
   value-other : (value : List ℕ) → valid ws (length ar) ≡ true → Other insertedNumber (insertValue ws ar t key value .answer)
   unfolding insertValue insertAtKey

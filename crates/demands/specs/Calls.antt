@@ -46,10 +46,10 @@ pub data Does : Memory → Call → List ℕ → Memory → List ℕ → Type 0 
       (c .answer .number ∷ c .answer .table ∷ []) (memory (now (c .left .0)) (now (c .given .1 .0))) []
   insert-value : (c : Met insert-kinds.ps insert-kinds.r insert-reads.Post)
       → Does (memory (now (c .given .0)) (now (c .given .1 .0))) (Call.insert-value (c .given .1 .1 .0) (now (c .given .1 .1 .1 .0)) (now (c .given .1 .1 .1 .1 .0)))
-      (c .answer .number ∷ c .answer .replaced ∷ []) (memory (now (c .left .0)) (now (c .left .1 .0))) []
+      (c .answer .number ∷ c .answer .replaced ∷ c .answer .at ∷ []) (memory (now (c .left .0)) (now (c .left .1 .0))) []
   insert-table : (c : Met insert-table-kinds.ps insert-table-kinds.r insert-table-reads.Post)
       → Does (memory (now (c .given .0)) (now (c .given .1 .0))) (Call.insert-table (c .given .1 .1 .0) (now (c .given .1 .1 .1 .0)) (c .given .1 .1 .1 .1 .0))
-      (c .answer .number ∷ c .answer .replaced ∷ []) (memory (now (c .left .0)) (now (c .left .1 .0))) []
+      (c .answer .number ∷ c .answer .replaced ∷ c .answer .at ∷ []) (memory (now (c .left .0)) (now (c .left .1 .0))) []
   item-count : (c : Met item-count-kinds.ps item-count-kinds.r item-count-reads.Post)
       → Does (memory (now (c .given .0)) (now (c .given .1 .0))) (Call.item-count (c .given .1 .1 .0))
       (c .answer .number ∷ c .answer .count ∷ []) (memory (now (c .given .0)) (now (c .given .1 .0))) []

@@ -1,5 +1,6 @@
 -- DEMAND 3. 'Every table in every image that our writer lays, nested ones too, after any accepted or refused calls on a fresh builder, passes.' It holds of every memory,
--- reached by calls or not. And the check passes exactly the sound tables; where it passes none, it names the first item and the first rule that it breaks.
+-- reached by calls or not. And the check passes exactly the sound tables; where it passes none, it names the first item and the first rule that it breaks,
+-- and for rule 1 what listing that item refuses with.
 use Prim.Native.Nat.{ℕ, zero, suc}
 use mathlib.Core.Path.{_≡_}
 use mathlib.Core.Logic.{_↔_}
@@ -12,9 +13,10 @@ use Rattle.layout.specs.Limits.{deepest}
 use Rattle.build_memory.specs.Memory.{Memory}
 use Rattle.gvdb.specs.declared.reading.GvdbOpened.{GvdbOpened}
 use Rattle.gvdb.specs.declared.reading.GvdbPlace.{GvdbPlace}
+use Rattle.gvdb.specs.declared.reading.GvdbKey.{GvdbKey}
 use Rattle.gvdb.specs.declared.checking.GvdbCheck.{GvdbCheck}
 use Rattle.demands.specs.Calls.{Call, Does}
-use Rattle.demands.specs.Readers.{Opening, GettingTable, Checking}
+use Rattle.demands.specs.Readers.{Opening, GettingTable, Listing, Checking}
 
 -- the table from `start` to `end` passes, and so does every table that a reader can find in it, at most so many tables deep
 unfoldable pub AllPass : List ℕ → ℕ → ℕ → ℕ → Type 0
@@ -35,6 +37,13 @@ PassesExactlyTheSound = (file : List ℕ) (start end : ℕ) (r : GvdbCheck) → 
 -- 40 with the first item that breaks a rule, and the first rule that it breaks
 abbrev pub NamesTheFirst : Type 0
 NamesTheFirst = (file : List ℕ) (start end : ℕ) (r : GvdbCheck) → Checking file start end r → r .number ≡ 40 → BrokenAt plain file start end (r .rule) (r .item)
+
+-- rule 1 comes with the number and the offset that listing that item answers, whatever the buffer; no other rule and no other answer with either
+abbrev pub SaysWhy : Type 0
+SaysWhy =
+    (file : List ℕ) (start end : ℕ) (r : GvdbCheck) → Checking file start end r
+    → (r .rule ≡ 1 → (out : List ℕ) (k : GvdbKey) (left : List ℕ) → Listing file start end (r .item) out k left → (r .why ≡ k .number) × (r .at ≡ k .at))
+    × ((r .rule ≡ 1 → ⊥) → (r .why ≡ 0) × (r .at ≡ 0))
 
 -- a table that does not open is refused with the number of its opening
 abbrev pub OpensFirst : Type 0

@@ -28,7 +28,7 @@ workedKey = 97 ∷ 47 ∷ 98 ∷ []
 
 -- a table with separator "/", then "a/b" with 07; the latest first
 abbrev pub workedEvents : List Event
-workedEvents = event (Call.insert-value 0 workedKey (7 ∷ [])) (0 ∷ 0 ∷ []) ∷ event (Call.new-table (47 ∷ [])) (0 ∷ 0 ∷ []) ∷ []
+workedEvents = event (Call.insert-value 0 workedKey (7 ∷ [])) (0 ∷ 0 ∷ 0 ∷ []) ∷ event (Call.new-table (47 ∷ [])) (0 ∷ 0 ∷ []) ∷ []
 
 -- a write then answers 24, 88, 104, and "a/b" looks up 07
 abbrev pub WorkedHistory : Type 0

@@ -18,7 +18,7 @@ use Rattle.model.specs.Builder.{Builder, fresh, freeStanding, newTable, insertV
 use Rattle.image.specs.Image.{imageOf}
 use Rattle.build_memory.specs.Memory.{Memory}
 use Rattle.build_tables.specs.Answer.{addedNumber, addedTable, countedNumber, countedItems}
-use Rattle.build_values.specs.Answer.{insertedNumber, insertedKind}
+use Rattle.build_values.specs.Answer.{insertedNumber, insertedKind, insertedAt}
 use Rattle.write.specs.declared.Written.{Written}
 use Rattle.write.specs.Write.{hasEmpty, tooLong, laidBy, writtenNumber}
 use Rattle.gvdb.specs.Writing.{writtenImage}
@@ -45,7 +45,7 @@ unfoldable pub added : Added → List ℕ
 added a = addedNumber a ∷ addedTable a ∷ []
 
 unfoldable pub inserted : Inserted → List ℕ
-inserted a = insertedNumber a ∷ insertedKind a ∷ []
+inserted a = insertedNumber a ∷ insertedKind a ∷ insertedAt a ∷ []
 
 unfoldable pub counted : Counted → List ℕ
 counted a = countedNumber a ∷ countedItems a ∷ []

@@ -4,7 +4,7 @@ use Rattle.model.specs.declared.Added.{Added}
 use Rattle.model.specs.declared.Counted.{Counted}
 use Rattle.build_memory.specs.Memory.{Outcome, outcome}
 use Rattle.build_tables.specs.Answer.{addedNumber, addedTable, countedNumber, countedItems}
-use Rattle.build_values.specs.Answer.{insertedNumber, insertedKind}
+use Rattle.build_values.specs.Answer.{insertedNumber, insertedKind, insertedAt}
 use Rattle.gvdb.specs.declared.building.GvdbTable.{GvdbTable}
 use Rattle.gvdb.specs.declared.building.GvdbInserted.{GvdbInserted}
 use Rattle.gvdb.specs.declared.building.GvdbCount.{GvdbCount}
@@ -17,7 +17,7 @@ unfoldable pub addedAnswer : Added → GvdbTable
 addedAnswer numbered = record { number = addedNumber numbered; table = addedTable numbered }
 
 unfoldable pub insertedAnswer : Inserted → GvdbInserted
-insertedAnswer inserted = record { number = insertedNumber inserted; replaced = insertedKind inserted }
+insertedAnswer inserted = record { number = insertedNumber inserted; replaced = insertedKind inserted; at = insertedAt inserted }
 
 unfoldable pub countedAnswer : Counted → GvdbCount
 countedAnswer counted = record { number = countedNumber counted; count = countedItems counted }

@@ -6,7 +6,7 @@ use Rattle.layout.specs.Answer.{openedNumber}
 use Rattle.read.specs.declared.lookup.Looked.{Looked}
 use Rattle.read.specs.declared.listing.Listed.{Listed}
 use Rattle.read.specs.declared.listing.Valued.{Valued}
-use Rattle.read.specs.Answer.{lookedNumber, lookedPointer, listedNumber, listedKey, valuedNumber, valuedPointer, valuedItem}
+use Rattle.read.specs.Answer.{lookedNumber, lookedPointer, lookedAt, listedNumber, listedKey, listedAt, valuedNumber, valuedPointer, valuedItem}
 use Rattle.gvdb.specs.declared.reading.GvdbOpened.{GvdbOpened}
 use Rattle.gvdb.specs.declared.reading.GvdbPlace.{GvdbPlace}
 use Rattle.gvdb.specs.declared.reading.GvdbKey.{GvdbKey}
@@ -26,10 +26,10 @@ openedAnswer opened = record {
 }
 
 unfoldable pub lookedAnswer : Looked → GvdbPlace
-lookedAnswer looked = record { number = lookedNumber looked; start = lookedPointer looked .0; end = lookedPointer looked .1 }
+lookedAnswer looked = record { number = lookedNumber looked; start = lookedPointer looked .0; end = lookedPointer looked .1; at = lookedAt looked }
 
 unfoldable pub listedAnswer : Listed → GvdbKey
-listedAnswer listed = record { number = listedNumber listed; length = listedKey listed .0; next = listedKey listed .1 }
+listedAnswer listed = record { number = listedNumber listed; length = listedKey listed .0; next = listedKey listed .1; at = listedAt listed }
 
 -- item and next position are told with 2 and 3 of the value's pointer too
 unfoldable pub valuedAnswer : Valued → GvdbValue

@@ -7,16 +7,16 @@ use Rattle.layout.specs.Answer.{openedNumber}
 use Rattle.read.specs.declared.lookup.Looked.{Looked}
 use Rattle.read.specs.declared.listing.Listed.{Listed}
 use Rattle.read.specs.declared.listing.Valued.{Valued}
-use Rattle.read.specs.Answer.{lookedNumber, lookedPointer, listedNumber, listedKey, valuedNumber, valuedPointer, valuedItem}
+use Rattle.read.specs.Answer.{lookedNumber, lookedPointer, lookedAt, listedNumber, listedKey, listedAt, valuedNumber, valuedPointer, valuedItem}
 use Rattle.check_table.specs.declared.check.Checked.{Checked}
-use Rattle.check_table.specs.Answer.{checkedNumber, checkedRule, checkedItem}
+use Rattle.check_table.specs.Answer.{checkedNumber, checkedRule, checkedItem, checkedWhy, checkedAt}
 use Rattle.model.specs.declared.Inserted.{Inserted}
 use Rattle.model.specs.declared.Added.{Added}
 use Rattle.model.specs.declared.Counted.{Counted}
 use Rattle.build_memory.specs.declared.fresh.Started.{Started}
 use Rattle.build_memory.specs.Answer.{startedNumber}
 use Rattle.build_tables.specs.Answer.{addedNumber, addedTable, countedNumber, countedItems}
-use Rattle.build_values.specs.Answer.{insertedNumber, insertedKind}
+use Rattle.build_values.specs.Answer.{insertedNumber, insertedKind, insertedAt}
 use Rattle.write.specs.declared.Written.{Written}
 use Rattle.write.specs.Write.{writtenNumber}
 use Rattle.gvdb.specs.Reading.{openedCount, openedAnswer, lookedAnswer, listedAnswer, valuedAnswer}
@@ -31,15 +31,21 @@ pub opened :
 unfolding openedAnswer openedNumber openedCount
 opened = (refl, refl)
 
--- a pointer from 64 up to 66; or 12
-pub looked : (lookedAnswer (Looked.Pointer 64 66) ≡ record { number = 0; start = 64; end = 66 }) × (lookedAnswer (Looked.Refused Refusal.KeyNotFound) ≡ record { number = 12; start = 0; end = 0 })
-unfolding lookedAnswer lookedNumber lookedPointer
-looked = (refl, refl)
+-- a pointer from 64 up to 66; 12; or 8 of a key that is bad at 3
+pub looked :
+    (lookedAnswer (Looked.Pointer 64 66) ≡ record { number = 0; start = 64; end = 66; at = 0 })
+    × (lookedAnswer (Looked.Refused Refusal.KeyNotFound) ≡ record { number = 12; start = 0; end = 0; at = 0 })
+    × (lookedAnswer (Looked.Refused (Refusal.KeyNotUtf8 3)) ≡ record { number = 8; start = 0; end = 0; at = 3 })
+unfolding lookedAnswer lookedNumber lookedPointer lookedAt
+looked = (refl, refl, refl)
 
--- a key of 5 bytes, the next at 8; or 14
-pub listed : (listedAnswer (Listed.Key 5 (record { at = 8 })) ≡ record { number = 0; length = 5; next = 8 }) × (listedAnswer (Listed.Refused Refusal.BufferTooShort) ≡ record { number = 14; length = 0; next = 0 })
-unfolding listedAnswer listedNumber listedKey
-listed = (refl, refl)
+-- a key of 5 bytes, the next at 8; 14; or 9 of a fragment that is bad at 2
+pub listed :
+    (listedAnswer (Listed.Key 5 (record { at = 8 })) ≡ record { number = 0; length = 5; next = 8; at = 0 })
+    × (listedAnswer (Listed.Refused Refusal.BufferTooShort) ≡ record { number = 14; length = 0; next = 0; at = 0 })
+    × (listedAnswer (Listed.Refused (Refusal.FragmentNotUtf8 2)) ≡ record { number = 9; length = 0; next = 0; at = 2 })
+unfolding listedAnswer listedNumber listedKey listedAt
+listed = (refl, refl, refl)
 
 -- the value of item 7, from 64 up to 66, the next at 8; 3 of its pointer, with item and next; or 15
 pub valued :
@@ -49,13 +55,15 @@ pub valued :
 unfolding valuedAnswer valuedNumber valuedPointer valuedItem
 valued = (refl, refl, refl)
 
--- sound; item 7 breaks rule 5; or 4
+-- sound; item 7 breaks rule 5; item 7 breaks rule 1, for a fragment that is bad at 2, or for its parent; or 4
 pub checked :
-    (checkedAnswer Checked.Sound ≡ record { number = 0; rule = 0; item = 0 })
-    × (checkedAnswer (Checked.Broken 5 7) ≡ record { number = 40; rule = 5; item = 7 })
-    × (checkedAnswer (Checked.Refused Refusal.TableTooShort) ≡ record { number = 4; rule = 0; item = 0 })
-unfolding checkedAnswer checkedNumber checkedRule checkedItem
-checked = (refl, refl, refl)
+    (checkedAnswer Checked.Sound ≡ record { number = 0; rule = 0; item = 0; why = 0; at = 0 })
+    × (checkedAnswer (Checked.Broken 5 7) ≡ record { number = 40; rule = 5; item = 7; why = 0; at = 0 })
+    × (checkedAnswer (Checked.Unlisted (Refusal.FragmentNotUtf8 2) 7) ≡ record { number = 40; rule = 1; item = 7; why = 9; at = 2 })
+    × (checkedAnswer (Checked.Unlisted Refusal.ParentOutside 7) ≡ record { number = 40; rule = 1; item = 7; why = 10; at = 0 })
+    × (checkedAnswer (Checked.Refused Refusal.TableTooShort) ≡ record { number = 4; rule = 0; item = 0; why = 0; at = 0 })
+unfolding checkedAnswer checkedNumber checkedRule checkedItem checkedWhy checkedAt
+checked = (refl, refl, refl, refl, refl)
 
 -- an empty builder; or 29
 pub started : (startedNumber Started.Ready ≡ 0) × (startedNumber (Started.Refused Refusal.MemoryBroken) ≡ 29)
@@ -67,15 +75,16 @@ pub added : (addedAnswer (Added.Table 9) ≡ record { number = 0; table = 9 }) �
 unfolding addedAnswer addedNumber addedTable
 added = (refl, refl)
 
--- a new key; a value ('v'), a table ('H') or a container ('L') replaced; or 21
+-- a new key; a value ('v'), a table ('H') or a container ('L') replaced; 21; or 8 of a key that is bad at 3
 pub inserted :
-    (insertedAnswer Inserted.New ≡ record { number = 0; replaced = 0 })
-    × (insertedAnswer (Inserted.Replaced Kind.Value) ≡ record { number = 0; replaced = 118 })
-    × (insertedAnswer (Inserted.Replaced Kind.Table) ≡ record { number = 0; replaced = 72 })
-    × (insertedAnswer (Inserted.Replaced Kind.Container) ≡ record { number = 0; replaced = 76 })
-    × (insertedAnswer (Inserted.Refused Refusal.NotContainer) ≡ record { number = 21; replaced = 0 })
-unfolding insertedAnswer insertedNumber insertedKind
-inserted = (refl, refl, refl, refl, refl)
+    (insertedAnswer Inserted.New ≡ record { number = 0; replaced = 0; at = 0 })
+    × (insertedAnswer (Inserted.Replaced Kind.Value) ≡ record { number = 0; replaced = 118; at = 0 })
+    × (insertedAnswer (Inserted.Replaced Kind.Table) ≡ record { number = 0; replaced = 72; at = 0 })
+    × (insertedAnswer (Inserted.Replaced Kind.Container) ≡ record { number = 0; replaced = 76; at = 0 })
+    × (insertedAnswer (Inserted.Refused Refusal.NotContainer) ≡ record { number = 21; replaced = 0; at = 0 })
+    × (insertedAnswer (Inserted.Refused (Refusal.KeyNotUtf8 3)) ≡ record { number = 8; replaced = 0; at = 3 })
+unfolding insertedAnswer insertedNumber insertedKind insertedAt
+inserted = (refl, refl, refl, refl, refl, refl)
 
 -- 5 items; or 24
 pub counted : (countedAnswer (Counted.Items 5) ≡ record { number = 0; count = 5 }) × (countedAnswer (Counted.Refused Refusal.TableUnknown) ≡ record { number = 24; count = 0 })

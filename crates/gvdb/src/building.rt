@@ -1,6 +1,7 @@
 // Building tables over lent memory.
 use build_memory::fresh::Started;
 use layout::kind::byte_of;
+use layout::refusal::bad_at;
 use layout::refusal::number_of;
 use model::Added;
 use model::Counted;
@@ -21,11 +22,12 @@ pub struct GvdbTable {
     pub table: u32,
 }
 
-// What an insert replaced: 0 for a new key, else the byte of the old kind.
+// What an insert replaced: 0 for a new key, else the byte of the old kind; with 8 where the given key is bad.
 #[repr(C)]
 pub struct GvdbInserted {
     pub number: u32,
     pub replaced: u32,
+    pub at: usize,
 }
 
 // How many items a table has, containers included.
@@ -77,14 +79,17 @@ fn inserted_of(inserted: Inserted) -> GvdbInserted
         Inserted::New => GvdbInserted {
             number: 0,
             replaced: 0,
+            at: 0,
         },
         Inserted::Replaced(kind) => GvdbInserted {
             number: 0,
             replaced: byte_word(byte_of(kind)),
+            at: 0,
         },
         Inserted::Refused(why) => GvdbInserted {
             number: number_of(why),
             replaced: 0,
+            at: bad_at(why),
         },
     }
 }

@@ -1,4 +1,5 @@
 // Reading a table: opening, lookups, listings.
+use layout::refusal::bad_at;
 use layout::refusal::number_of;
 use layout::table::Opened;
 use read::listing::Cursor;
@@ -8,6 +9,7 @@ use read::lookup::Looked;
 ghost use mathlib.Core.Path.{_≡_};
 ghost use lib.ListN.{length};
 ghost use Rattle.words.specs.Hash.{plain};
+ghost use Rattle.text.specs.Utf8.{firstBad};
 ghost use Rattle.layout.specs.Table.{openTable};
 ghost use Rattle.read.specs.Lookup.{lookupValue, lookupTable};
 ghost use Rattle.read.specs.Listing.{keyAt, listed, written, valueAt};
@@ -22,20 +24,22 @@ pub struct GvdbOpened {
     pub blooms: u32,
 }
 
-// A pointer into the file: to a value, or to a nested table.
+// A pointer into the file: to a value, or to a nested table; with 8 where the given key is bad.
 #[repr(C)]
 pub struct GvdbPlace {
     pub number: u32,
     pub start: u32,
     pub end: u32,
+    pub at: usize,
 }
 
-// A key that was written: its length, and the next position.
+// A key that was written: its length, and the next position; with 9 where the stored fragment is bad.
 #[repr(C)]
 pub struct GvdbKey {
     pub number: u32,
     pub length: usize,
     pub next: usize,
+    pub at: usize,
 }
 
 // A value: its pointer, its item, and the next position; item and position are told with 2 and 3 of its pointer too.
@@ -46,6 +50,14 @@ pub struct GvdbValue {
     pub end: u32,
     pub index: usize,
     pub next: usize,
+}
+
+// Where the first sequence that RFC 3629 does not allow starts, or the length of a good text.
+#[no_mangle]
+pub extern "C" fn gvdb_first_bad(text: &[u8]) -> usize
+    ensures { λ r. ⌜ r ≡ firstBad (now (text .entry)) ⌝ }
+{
+    text::utf8::first_bad(text)
 }
 
 // gvdb-rs: File::read_hash_table.
@@ -79,11 +91,13 @@ fn place_of(looked: Looked) -> GvdbPlace
             number: 0,
             start,
             end,
+            at: 0,
         },
         Looked::Refused(why) => GvdbPlace {
             number: number_of(why),
             start: 0,
             end: 0,
+            at: bad_at(why),
         },
     }
 }
@@ -125,11 +139,13 @@ pub extern "C" fn gvdb_next_key(
             number: 0,
             length: size,
             next: next.at,
+            at: 0,
         },
         Listed::Refused(why) => GvdbKey {
             number: number_of(why),
             length: 0,
             next: 0,
+            at: bad_at(why),
         },
     }
 }

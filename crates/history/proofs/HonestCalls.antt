@@ -12,7 +12,7 @@ use Rattle.words.specs.Choice.{pick}
 use Rattle.words.specs.Store.{putAt}
 use Rattle.words.proofs.ChoiceLaws.{pick-with}
 use Rattle.words.proofs.StoreLaws.{length-put, get-put, get-before, get-after}
-use Rattle.text.specs.Utf8.{isUtf8}
+use Rattle.text.specs.Utf8.{firstBad, isUtf8}
 use Rattle.model.specs.declared.Inserted.{Inserted}
 use Rattle.model.specs.declared.Added.{Added}
 use Rattle.layout.specs.Limits.{longestKey, mostTables}
@@ -76,7 +76,7 @@ pub keyed-after : (g : ℕ → Table) (ws ar : List ℕ) (t : ℕ) (k : List ℕ
     → (isUtf8 k ≡ true → length k ≤ longestKey → After g ws ar t k c o) → After g ws ar t k c (keyed ws ar k o)
 unfolding keyed
 keyed-after g ws ar t k c o f =
-    after-where g ws ar t k c (isUtf8 k) KeyNotUtf8 _ (λ text. after-not g ws ar t k c (ltb longestKey (length k)) KeyTooLong o (λ short. f text (ltb-false longestKey (length k) short)))
+    after-where g ws ar t k c (isUtf8 k) (KeyNotUtf8 (firstBad k)) _ (λ text. after-not g ws ar t k c (ltb longestKey (length k)) KeyTooLong o (λ short. f text (ltb-false longestKey (length k) short)))
 
 module _ (ws ar : List ℕ) (honest : Honest ws ar) (t : ℕ) (k v : List ℕ) where
   abbrev c : Stored

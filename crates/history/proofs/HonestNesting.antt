@@ -11,7 +11,7 @@ use lib.Dec.{eqb, ltb}
 use lib.ListN.{length}
 use Rattle.words.specs.Choice.{pick}
 use Rattle.words.proofs.ChoiceLaws.{pick-with}
-use Rattle.text.specs.Utf8.{isUtf8}
+use Rattle.text.specs.Utf8.{firstBad, isUtf8}
 use Rattle.layout.specs.declared.refusal.Refusal.{Refusal}
 use Rattle.model.specs.declared.Inserted.{Inserted}
 use Rattle.layout.specs.Limits.{longestKey, deepest, mostTables}
@@ -326,7 +326,7 @@ module _ (ws ar : List ℕ) (honest : Honest ws ar) (t : ℕ) (k : List ℕ) (G 
       let r = free-standing-facts ws t b in
       let s = free-standing-facts ws G c in
       nested-honest ws ar honest t k G (r .0) (r .1) (s .0) (s .1) (eqb-false t G d) e (ltb-false longestKey (length k) f)))
-      (λ e. same KeyNotUtf8)))
+      (λ e. same (KeyNotUtf8 (firstBad k)))))
       (λ c. same TableUnknown))
       (λ b. same TableUnknown))
       (λ a. same MemoryBroken)

@@ -6,7 +6,7 @@ use mathlib.Core.Path.{_≡_, refl, sym, ap, _∙_, subst}
 use mathlib.Core.Bool.{Bool, true, false, not, _&&_}
 use borrow.Author.Tests.{eq-eqb, ltb-true, ltb-false, leb-false}
 use lib.Dec.{eqb, ltb, leb}
-use Rattle.text.specs.Utf8.{isUtf8}
+use Rattle.text.specs.Utf8.{firstBad, isUtf8}
 use Rattle.layout.specs.declared.refusal.Refusal.{Refusal}
 use Rattle.model.specs.declared.Inserted.{Inserted}
 use Rattle.layout.specs.Limits.{longestKey, mostTables}
@@ -65,7 +65,7 @@ unfolding keyed told.keyed
 keyed-alike ws ar k o r f =
     alike-pick (isUtf8 k) _ _ _ _
     (λ text. alike-pick (ltb longestKey (length k)) _ _ _ _ (λ b. alike-refused KeyTooLong ws ar) (λ b. f text (ltb-false longestKey (length k) b)))
-    (λ text. alike-refused KeyNotUtf8 ws ar)
+    (λ text. alike-refused (KeyNotUtf8 (firstBad k)) ws ar)
 
 value-content : (v : List ℕ) → contentFrom valueKind v 0 ≡ Content.bytes v
 unfolding contentFrom pick

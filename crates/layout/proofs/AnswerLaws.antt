@@ -1,6 +1,6 @@
 -- The order of refusals in the document's words: for each number, what was passed before it and what it is given for.
 use Prim.Native.Nat.{ℕ, _+_, _*_, _-_, _%_, _≤_, _<_}
-use mathlib.Core.Path.{_≡_, ap, _∙_}
+use mathlib.Core.Path.{_≡_, ap, _∙_, subst}
 use mathlib.Core.List.{List}
 use native.Mathlib.Omega.{arith}
 use lib.ListN.{length}
@@ -8,7 +8,11 @@ use borrow.Author.Tests.{lt-ltb, le-ltb, eq-eqb, ne-eqb}
 use Rattle.words.specs.Choice.{pick}
 use Rattle.words.specs.Field.{wordAt}
 use Rattle.words.specs.Bits.{bloomCount}
+use Rattle.words.proofs.ChoiceLaws.{pick-with}
+use Rattle.layout.specs.declared.refusal.Refusal.{Refusal}
 use Rattle.layout.specs.declared.pointer.Pointed.{Pointed}
+use Rattle.layout.specs.declared.table.Opened.{Opened}
+use Rattle.layout.specs.Refusal.{number}
 use Rattle.layout.specs.Pointer.{openPointer}
 use Rattle.layout.specs.Limits.{longestFile}
 use Rattle.layout.specs.Table.{tableOf, tableIn, whereInside, openTable}
@@ -84,3 +88,40 @@ module _ (file : List ℕ) (start end : ℕ) where
             pub open-0 : (end - start - (8 + 4 * blooms + 4 * buckets)) % 24 ≡ 0 → openedNumber (openTable file start end) ≡ 0
             unfolding tableOf openedNumber pick
             open-0 h = ap openedNumber parted ∙ simp (le-ltb (end - start) (8 + 4 * blooms) bloom, le-ltb (end - start) (8 + 4 * blooms + 4 * buckets) bucket, eq-eqb _ _ h)
+
+-- ---- a pointer is refused with 2 or 3, a table with 1 to 7
+
+pub pointed-below : (size start end alignment : ℕ) → pointedNumber (openPointer size start end alignment) < 4
+unfolding openPointer pointedNumber
+pointed-below size start end alignment =
+    let P : Pointed → Type 0 = λ p. pointedNumber p < 4 in
+    pick-with P _ _ _ (λ _. omega arith)
+    (λ _. pick-with P _ _ _ (λ _. pick-with P _ _ _ (λ _. omega arith) (λ _. omega arith)) (λ _. omega arith))
+
+table-below : (start size blooms buckets : ℕ) → openedNumber (tableOf start size blooms buckets) < 8
+unfolding tableOf openedNumber
+table-below start size blooms buckets =
+    let P : Opened → Type 0 = λ o. openedNumber o < 8 in
+    pick-with P _ _ _ (λ _. omega arith)
+    (λ _. pick-with P _ _ _ (λ _. omega arith) (λ _. pick-with P _ _ _ (λ _. omega arith) (λ _. omega arith)))
+
+inside-below : (file : List ℕ) (start end : ℕ) (p : Pointed) → pointedNumber p < 4 → openedNumber (whereInside p (tableIn file start end)) < 8
+unfolding tableIn openedNumber pointedNumber
+inside-below file start end Pointed.Inside h =
+    let P : Opened → Type 0 = λ o. openedNumber o < 8 in
+    pick-with P _ _ _ (λ _. omega arith) (λ _. table-below start (end - start) _ _)
+inside-below file start end (Pointed.Refused why) h = omega arith
+
+pub opened-below : (file : List ℕ) (start end : ℕ) → openedNumber (openTable file start end) < 8
+unfolding openTable openedNumber
+opened-below file start end =
+    let P : Opened → Type 0 = λ o. openedNumber o < 8 in
+    pick-with P _ _ _ (λ _. omega arith) (λ _. inside-below file start end _ (pointed-below (length file) start end 4))
+
+pub pointed-low : (size start end alignment : ℕ) {why : Refusal} → openPointer size start end alignment ≡ Pointed.Refused why → number why < 4
+unfolding pointedNumber
+pointed-low size start end alignment e = subst (λ (p : Pointed). pointedNumber p < 4) e (pointed-below size start end alignment)
+
+pub opened-low : (file : List ℕ) (start end : ℕ) {why : Refusal} → openTable file start end ≡ Opened.Refused why → number why < 8
+unfolding openedNumber
+opened-low file start end e = subst (λ (o : Opened). openedNumber o < 8) e (opened-below file start end)

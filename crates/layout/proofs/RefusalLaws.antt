@@ -1,4 +1,4 @@
--- No two refusals have the same number, and none has 0.
+-- No two refusals have the same number and the same offset, and none has the number 0.
 use Prim.Native.Nat.{ℕ}
 use mathlib.Core.Path.{_≡_, refl, sym, ap, _∙_}
 use native.Mathlib.Omega.{arith}
@@ -6,11 +6,11 @@ use lib.Dec.{eqb}
 use Rattle.words.specs.Choice.{pick}
 use Rattle.layout.specs.declared.refusal.Refusal.{Refusal}
 use Rattle.layout.specs.declared.refusal.Refusal.the-variants.{FileTooLong, PointerOutside, Misaligned, TableTooShort, BloomTooLong, BucketsTooLong, ItemsUneven, KeyNotUtf8, FragmentNotUtf8, ParentOutside, ParentsEndless, KeyNotFound, OtherKind, BufferTooShort, PastTheLast, HeaderTooShort, SignatureUnknown, ListBroken, VersionUnknown, KeyTooLong, NotContainer, TooManyItems, ArenaFull, TableUnknown, TableInItself, NestedTooDeep, TooManyTables, SeparatorOutside, MemoryBroken, EmptyKey, ImageTooLong, HeadsTooFew, TooManyFilterWords, ReportTooShort, CheckBroken}
-use Rattle.layout.specs.Refusal.{number}
+use Rattle.layout.specs.Refusal.{number, badAt}
 
--- the refusal of a number; the last where it has none
-refusal : ℕ → Refusal
-refusal n =
+-- the refusal of a number and an offset; the last where a number has none
+refusal : ℕ → ℕ → Refusal
+refusal n at =
     pick (eqb n 1) FileTooLong (
     pick (eqb n 2) PointerOutside (
     pick (eqb n 3) Misaligned (
@@ -18,8 +18,8 @@ refusal n =
     pick (eqb n 5) BloomTooLong (
     pick (eqb n 6) BucketsTooLong (
     pick (eqb n 7) ItemsUneven (
-    pick (eqb n 8) KeyNotUtf8 (
-    pick (eqb n 9) FragmentNotUtf8 (
+    pick (eqb n 8) (KeyNotUtf8 at) (
+    pick (eqb n 9) (FragmentNotUtf8 at) (
     pick (eqb n 10) ParentOutside (
     pick (eqb n 11) ParentsEndless (
     pick (eqb n 12) KeyNotFound (
@@ -47,7 +47,7 @@ refusal n =
     pick (eqb n 34) ReportTooShort (
     CheckBroken))))))))))))))))))))))))))))))))))
 
-back : (why : Refusal) → refusal (number why) ≡ why
+back : (why : Refusal) → refusal (number why) (badAt why) ≡ why
 unfolding pick refusal
 back FileTooLong = refl
 back PointerOutside = refl
@@ -56,8 +56,8 @@ back TableTooShort = refl
 back BloomTooLong = refl
 back BucketsTooLong = refl
 back ItemsUneven = refl
-back KeyNotUtf8 = refl
-back FragmentNotUtf8 = refl
+back (KeyNotUtf8 at) = refl
+back (FragmentNotUtf8 at) = refl
 back ParentOutside = refl
 back ParentsEndless = refl
 back KeyNotFound = refl
@@ -85,10 +85,10 @@ back TooManyFilterWords = refl
 back ReportTooShort = refl
 back CheckBroken = refl
 
-pub number-injective : (a b : Refusal) → number a ≡ number b → a ≡ b
-number-injective a b e = sym (back a) ∙ ap refusal e ∙ back b
+pub refusal-by-numbers : (a b : Refusal) → number a ≡ number b → badAt a ≡ badAt b → a ≡ b
+refusal-by-numbers a b e f = sym (back a) ∙ ap (λ (n : ℕ). refusal n (badAt a)) e ∙ ap (refusal (number b)) f ∙ back b
 
 -- no refusal has the number 0: it would be the last one, whose number is 40
 pub refused-some : (why : Refusal) → number why ≡ 0 → ⊥
 unfolding refusal pick
-refused-some why e = let z : _≡_ {A = ℕ} 0 40 = sym e ∙ ap number (sym (back why) ∙ ap refusal e) in omega arith
+refused-some why e = let z : _≡_ {A = ℕ} 0 40 = sym e ∙ ap number (sym (back why) ∙ ap (λ (n : ℕ). refusal n (badAt why)) e) in omega arith

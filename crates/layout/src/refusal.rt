@@ -1,6 +1,6 @@
-// Why a call is refused: one variant for each number of document 01.
+// Why a call is refused: one variant for each number of document 01. A text that is not UTF-8 is refused with the offset at which it is bad.
 ghost use mathlib.Core.Path.{_≡_};
-ghost use Rattle.layout.specs.Refusal.{number};
+ghost use Rattle.layout.specs.Refusal.{number, badAt};
 
 pub enum Refusal {
     FileTooLong,
@@ -10,8 +10,8 @@ pub enum Refusal {
     BloomTooLong,
     BucketsTooLong,
     ItemsUneven,
-    KeyNotUtf8,
-    FragmentNotUtf8,
+    KeyNotUtf8(usize),
+    FragmentNotUtf8(usize),
     ParentOutside,
     ParentsEndless,
     KeyNotFound,
@@ -52,8 +52,8 @@ pub fn number_of(why: Refusal) -> u32
         Refusal::BloomTooLong => 5,
         Refusal::BucketsTooLong => 6,
         Refusal::ItemsUneven => 7,
-        Refusal::KeyNotUtf8 => 8,
-        Refusal::FragmentNotUtf8 => 9,
+        Refusal::KeyNotUtf8(_) => 8,
+        Refusal::FragmentNotUtf8(_) => 9,
         Refusal::ParentOutside => 10,
         Refusal::ParentsEndless => 11,
         Refusal::KeyNotFound => 12,
@@ -80,5 +80,16 @@ pub fn number_of(why: Refusal) -> u32
         Refusal::TooManyFilterWords => 33,
         Refusal::ReportTooShort => 34,
         Refusal::CheckBroken => 40,
+    }
+}
+
+// Where the text is bad, in the refusals that say so.
+pub fn bad_at(why: Refusal) -> usize
+    ensures { λ r. ⌜ r ≡ badAt why ⌝ }
+{
+    match why {
+        Refusal::KeyNotUtf8(at) => at,
+        Refusal::FragmentNotUtf8(at) => at,
+        _ => 0,
     }
 }

@@ -1,1 +1,2 @@
 pub mod PlacedLaws
+pub mod BadLaws

@@ -6,7 +6,7 @@ use mathlib.Core.List.{List, [], _∷_, _++_}
 use lib.Dec.{eqb, ltb, leb}
 use lib.ListN.{length, getD, set, drop}
 use Rattle.words.specs.Choice.{pick}
-use Rattle.text.specs.Utf8.{isUtf8}
+use Rattle.text.specs.Utf8.{firstBad, isUtf8}
 use Rattle.text.specs.Prefix.{prefixes}
 use Rattle.layout.specs.Limits.{longestKey, mostItems, mostTables, deepest}
 use Rattle.layout.specs.declared.refusal.Refusal.{Refusal}
@@ -128,10 +128,10 @@ unfoldable pub put : Builder → ℕ → List ℕ → Content → ℕ → Bool �
 put m t key content size deep =
     atWalked (walk t content (prefixes (standingAt m t .separator) key) (m .items) noItem) deep m t key size
 
--- 8, 20
+-- 8 with the offset in the key, 20
 unfoldable pub keyed : Builder → List ℕ → Result Inserted → Result Inserted
 keyed m key next =
-    pick (isUtf8 key) (pick (ltb longestKey (length key)) (refused KeyTooLong m) next) (refused KeyNotUtf8 m)
+    pick (isUtf8 key) (pick (ltb longestKey (length key)) (refused KeyTooLong m) next) (refused (KeyNotUtf8 (firstBad key)) m)
 
 -- a value: 24, 8, 20, 21, 22, 23
 unfoldable pub insertValue : Builder → ℕ → List ℕ → List ℕ → Result Inserted

@@ -2,3 +2,4 @@ pub mod Table
 pub mod Walk
 pub mod Builder
 pub mod Worked
+pub mod Bad

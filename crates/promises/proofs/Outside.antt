@@ -23,6 +23,8 @@ use Rattle.gvdb.proofs.building.gvdb_item_count.Kinds as item-count-kinds
 use Rattle.gvdb.proofs.building.gvdb_item_count.Reads as item-count-reads
 use Rattle.gvdb.proofs.checking.gvdb_check.Kinds as check-kinds
 use Rattle.gvdb.proofs.checking.gvdb_check.Reads as check-reads
+use Rattle.gvdb.proofs.reading.gvdb_first_bad.Kinds as first-bad-kinds
+use Rattle.gvdb.proofs.reading.gvdb_first_bad.Reads as first-bad-reads
 use Rattle.gvdb.proofs.reading.gvdb_open.Kinds as open-kinds
 use Rattle.gvdb.proofs.reading.gvdb_open.Reads as open-reads
 use Rattle.gvdb.proofs.reading.gvdb_get.Kinds as get-kinds
@@ -65,6 +67,9 @@ item-count-unique κs a s t x y p q = p ∙ sym q
 
 pub check-unique : OneAnswer check-kinds.ps check-kinds.r check-reads.Post
 check-unique κs a s t x y p q = p ∙ sym q
+
+pub first-bad-unique : OneAnswer first-bad-kinds.ps first-bad-kinds.r first-bad-reads.Post
+first-bad-unique κs a s t x y p q = p ∙ sym q
 
 pub open-unique : OneAnswer open-kinds.ps open-kinds.r open-reads.Post
 open-unique κs a s t x y p q = p ∙ sym q

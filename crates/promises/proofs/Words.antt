@@ -50,6 +50,8 @@ use Rattle.layout.proofs.kind.kind_known.Kinds as kind-known-kinds
 use Rattle.layout.proofs.kind.kind_known.Reads as kind-known-reads
 use Rattle.layout.proofs.pointer.open_pointer.Kinds as open-pointer-kinds
 use Rattle.layout.proofs.pointer.open_pointer.Reads as open-pointer-reads
+use Rattle.layout.proofs.refusal.bad_at.Kinds as bad-at-kinds
+use Rattle.layout.proofs.refusal.bad_at.Reads as bad-at-reads
 use Rattle.layout.proofs.refusal.number_of.Kinds as number-of-kinds
 use Rattle.layout.proofs.refusal.number_of.Reads as number-of-reads
 use Rattle.layout.proofs.table.open_table.Kinds as open-table-kinds
@@ -129,6 +131,9 @@ open-pointer-unique κs a s t x y p q = p ∙ sym q
 
 pub number-of-unique : OneAnswer number-of-kinds.ps number-of-kinds.r number-of-reads.Post
 number-of-unique κs a s t x y p q = p ∙ sym q
+
+pub bad-at-unique : OneAnswer bad-at-kinds.ps bad-at-kinds.r bad-at-reads.Post
+bad-at-unique κs a s t x y p q = p ∙ sym q
 
 pub read-header-unique : OneAnswer read-header-kinds.ps read-header-kinds.r read-header-reads.Post
 read-header-unique κs a s t x y p q = p ∙ sym q

@@ -7,7 +7,7 @@ use native.Mathlib.Omega.{arith}
 use lib.ListN.{length}
 use borrow.Author.Tests.{lt-ltb, le-ltb, le-leb, lt-leb, eq-eqb, ne-eqb}
 use Rattle.words.specs.Choice.{pick}
-use Rattle.text.specs.Utf8.{isUtf8}
+use Rattle.text.specs.Utf8.{firstBad, isUtf8}
 use Rattle.layout.specs.declared.refusal.Refusal.{Refusal}
 use Rattle.layout.specs.declared.refusal.Refusal.the-variants.{PointerOutside, FragmentNotUtf8, ParentOutside, ParentsEndless}
 use Rattle.layout.specs.declared.pointer.Pointed.{Pointed}
@@ -31,12 +31,12 @@ use Rattle.read.proofs.ChainLaws.{climb-on}
 
 -- ---- the number of an answer is that of the pointer or the table behind it
 
-pointed-looked : (p : Pointed) (item : Item) → lookedNumber (atPointer p item) ≡ pointedNumber p
+pub pointed-looked : (p : Pointed) (item : Item) → lookedNumber (atPointer p item) ≡ pointedNumber p
 unfolding lookedNumber atPointer pointedNumber
 pointed-looked Pointed.Inside item = refl
 pointed-looked (Pointed.Refused why) item = refl
 
-nested-looked : (o : Opened) (item : Item) → lookedNumber (atNested o item) ≡ openedNumber o
+pub nested-looked : (o : Opened) (item : Item) → lookedNumber (atNested o item) ≡ openedNumber o
 unfolding lookedNumber atNested openedNumber
 nested-looked (Opened.Table t) item = refl
 nested-looked (Opened.Refused why) item = refl
@@ -132,7 +132,7 @@ module _ (file : List ℕ) (t : Table) (steps i : ℕ) where
   key-2 past = rw (fragment-outside file (itemAt file t i .key) (itemAt file t i .size) past)
 
   module _ (inside : itemAt file t i .key + itemAt file t i .size ≤ length file) where
-    pub key-9 : isUtf8 (fragmentOf file (itemAt file t i)) ≡ false → keyOf file t (suc steps) i ≡ Joined.broken FragmentNotUtf8
+    pub key-9 : isUtf8 (fragmentOf file (itemAt file t i)) ≡ false → keyOf file t (suc steps) i ≡ Joined.broken (FragmentNotUtf8 (firstBad (fragmentOf file (itemAt file t i))))
     unfolding keyOf climbFrom afterPointer joinStep pick
     key-9 bad = rw (fragment-inside file (itemAt file t i .key) (itemAt file t i .size) inside, bad)
 
@@ -179,7 +179,7 @@ module _ (file : List ℕ) (start end at room : ℕ) where
       pub list-2 : keyOf file t (t .count) at ≡ Joined.broken PointerOutside → listedNumber (listed (keyAt file start end at) room at) ≡ 2
       list-2 e = list-broken e
 
-      pub list-9 : keyOf file t (t .count) at ≡ Joined.broken FragmentNotUtf8 → listedNumber (listed (keyAt file start end at) room at) ≡ 9
+      pub list-9 : {bad : ℕ} → keyOf file t (t .count) at ≡ Joined.broken (FragmentNotUtf8 bad) → listedNumber (listed (keyAt file start end at) room at) ≡ 9
       list-9 e = list-broken e
 
       pub list-10 : keyOf file t (t .count) at ≡ Joined.broken ParentOutside → listedNumber (listed (keyAt file start end at) room at) ≡ 10

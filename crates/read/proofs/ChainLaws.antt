@@ -10,7 +10,7 @@ use borrow.Author.Tests.{ltb-true}
 use Rattle.words.specs.Choice.{pick}
 use Rattle.words.proofs.ChoiceLaws.{pick-with}
 use Rattle.words.proofs.StoreLaws.{length-part}
-use Rattle.text.specs.Utf8.{isUtf8}
+use Rattle.text.specs.Utf8.{firstBad, isUtf8}
 use Rattle.text.proofs.CompareLaws.{same-equal, same-refl}
 use Rattle.layout.specs.declared.refusal.Refusal.{Refusal}
 use Rattle.layout.specs.declared.refusal.Refusal.the-variants.{FragmentNotUtf8, ParentsEndless}
@@ -55,7 +55,7 @@ unfolding climbFrom StepFits afterPointer
 climb-fits file count item = by-pointer (openPointer (length file) (item .key) (item .key + item .size) 1) refl
   where
     by-pointer : (p : Pointed) → openPointer (length file) (item .key) (item .key + item .size) 1 ≡ p
-        → StepFits file count item (afterPointer p (pick (isUtf8 (fragmentOf file item)) (parentOf count (item .parent)) (Step.Refused FragmentNotUtf8)))
+        → StepFits file count item (afterPointer p (pick (isUtf8 (fragmentOf file item)) (parentOf count (item .parent)) (Step.Refused (FragmentNotUtf8 (firstBad (fragmentOf file item))))))
     by-pointer Pointed.Inside e =
         pick-with (StepFits file count item) _ _ _ (λ _. parent-fits file count item (pointer-inside _ _ _ _ e .1)) (λ _. tt)
     by-pointer (Pointed.Refused why) e = tt
@@ -75,9 +75,9 @@ climb-or file count item = by-pointer (openPointer (length file) (item .key) (it
     P s = ((why : Refusal) → s ≡ Step.Refused why → ⊥) → Climbs file count item s
 
     by-pointer : (p : Pointed) → openPointer (length file) (item .key) (item .key + item .size) 1 ≡ p
-        → P (afterPointer p (pick (isUtf8 (fragmentOf file item)) (parentOf count (item .parent)) (Step.Refused FragmentNotUtf8)))
+        → P (afterPointer p (pick (isUtf8 (fragmentOf file item)) (parentOf count (item .parent)) (Step.Refused (FragmentNotUtf8 (firstBad (fragmentOf file item))))))
     by-pointer Pointed.Inside e =
-        pick-with P _ _ _ (λ good n. record { is = refl; inside = pointer-inside _ _ _ _ e .1; text = good }) (λ _ n. absurd (n FragmentNotUtf8 refl))
+        pick-with P _ _ _ (λ good n. record { is = refl; inside = pointer-inside _ _ _ _ e .1; text = good }) (λ _ n. absurd (n (FragmentNotUtf8 (firstBad (fragmentOf file item))) refl))
     by-pointer (Pointed.Refused why) e = λ n. absurd (n why refl)
 
 -- an item whose fragment opens and is UTF-8 goes on to its parent
@@ -96,7 +96,7 @@ module _ (file : List ℕ) (count : ℕ) (item : Item) {start size : ℕ} (s : s
   climb-refused e = rw (same-place ∙ e)
 
   module _ (inside : openPointer (length file) start (start + size) 1 ≡ Pointed.Inside) where
-    pub climb-inside : climbFrom file count item ≡ pick (isUtf8 (fragmentOf file item)) (parentOf count (item .parent)) (Step.Refused FragmentNotUtf8)
+    pub climb-inside : climbFrom file count item ≡ pick (isUtf8 (fragmentOf file item)) (parentOf count (item .parent)) (Step.Refused (FragmentNotUtf8 (firstBad (fragmentOf file item))))
     unfolding climbFrom afterPointer
     climb-inside = rw (same-place ∙ inside)
 
@@ -104,9 +104,12 @@ module _ (file : List ℕ) (count : ℕ) (item : Item) {start size : ℕ} (s : s
     unfolding climbFrom afterPointer pick
     climb-text good = rw (same-place ∙ inside, sym (ap isUtf8 (fragment-taken file item s z)) ∙ good)
 
-    pub climb-no-text : isUtf8 (take (start + size - start) (drop start file)) ≡ false → Step.Refused FragmentNotUtf8 ≡ climbFrom file count item
+    pub climb-no-text : isUtf8 (take (start + size - start) (drop start file)) ≡ false → {at : ℕ} → at ≡ firstBad (take (start + size - start) (drop start file))
+        → Step.Refused (FragmentNotUtf8 at) ≡ climbFrom file count item
     unfolding climbFrom afterPointer pick
-    climb-no-text bad = rw (same-place ∙ inside, sym (ap isUtf8 (fragment-taken file item s z)) ∙ bad)
+    climb-no-text bad e =
+        let same = fragment-taken file item s z in
+        rw (same-place ∙ inside, sym (ap isUtf8 same) ∙ bad) (ap (λ (n : ℕ). Step.Refused (FragmentNotUtf8 n)) (e ∙ ap firstBad same))
 
 -- ---- a key
 

@@ -10,3 +10,4 @@ pub mod Plain
 pub mod SelfParent
 pub mod TwoFilterWords
 pub mod AnswerLaws
+pub mod BadLaws

@@ -12,7 +12,7 @@ use borrow.Author.Tests.{le-leb, eqb-true, eqb-false}
 use Rattle.words.specs.Choice.{pick}
 use Rattle.words.proofs.ChoiceLaws.{pick-with, pick-same, both}
 use Rattle.text.specs.Ascii.{isAscii}
-use Rattle.text.specs.Utf8.{isUtf8}
+use Rattle.text.specs.Utf8.{firstBad, isUtf8}
 use Rattle.text.specs.Compare.{sameBytes, endsAt}
 use Rattle.text.proofs.AsciiLaws.{ascii-append}
 use Rattle.text.proofs.CompareLaws.{same-equal, same-refl, equal-same, same-lengths, ends-split}
@@ -104,7 +104,7 @@ module _ (f key : List ℕ) where
 
   pub match-other : (step : Step) → endsAt key (length key) f ≡ false → Matched.Ended false ≡ matchText step f key
   unfolding matchText
-  match-other step other = step-other other (pick (isUtf8 f) step (Step.Refused FragmentNotUtf8))
+  match-other step other = step-other other (pick (isUtf8 f) step (Step.Refused (FragmentNotUtf8 (firstBad f))))
 
   pub match-no-text : (step : Step) → isUtf8 f ≡ false → Matched.Ended false ≡ matchText step f key
   unfolding matchText matchStep pick

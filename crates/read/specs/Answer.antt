@@ -2,7 +2,7 @@
 use Prim.Native.Nat.{ℕ, _-_}
 use mathlib.Core.List.{List, []}
 use Rattle.words.specs.Store.{part}
-use Rattle.layout.specs.Refusal.{number}
+use Rattle.layout.specs.Refusal.{number, badAt}
 use Rattle.read.specs.declared.lookup.Looked.{Looked}
 use Rattle.read.specs.declared.listing.Listed.{Listed}
 use Rattle.read.specs.declared.listing.Valued.{Valued}
@@ -10,6 +10,11 @@ use Rattle.read.specs.declared.listing.Valued.{Valued}
 unfoldable pub lookedNumber : Looked → ℕ
 lookedNumber (Looked.Pointer start end) = 0
 lookedNumber (Looked.Refused why) = number why
+
+-- where the given key is bad, told with 8
+unfoldable pub lookedAt : Looked → ℕ
+lookedAt (Looked.Pointer start end) = 0
+lookedAt (Looked.Refused why) = badAt why
 
 -- start and end of the pointer
 unfoldable pub lookedPointer : Looked → ℕ × ℕ
@@ -24,6 +29,11 @@ lookedBytes file (Looked.Refused why) = []
 unfoldable pub listedNumber : Listed → ℕ
 listedNumber (Listed.Key size next) = 0
 listedNumber (Listed.Refused why) = number why
+
+-- where the stored fragment is bad, told with 9
+unfoldable pub listedAt : Listed → ℕ
+listedAt (Listed.Key size next) = 0
+listedAt (Listed.Refused why) = badAt why
 
 -- the key's length, and the next position
 unfoldable pub listedKey : Listed → ℕ × ℕ

@@ -7,7 +7,7 @@ use lib.Dec.{ltb, eqb}
 use Rattle.words.specs.Choice.{pick}
 use Rattle.words.specs.Store.{part}
 use Rattle.text.specs.Compare.{sameBytes, endsAt}
-use Rattle.text.specs.Utf8.{isUtf8}
+use Rattle.text.specs.Utf8.{firstBad, isUtf8}
 use Rattle.layout.specs.declared.refusal.Refusal.{Refusal}
 use Rattle.layout.specs.declared.refusal.Refusal.the-variants.{FragmentNotUtf8, ParentOutside, ParentsEndless}
 use Rattle.layout.specs.declared.pointer.Pointed.{Pointed}
@@ -32,11 +32,11 @@ unfoldable pub afterPointer : Pointed → Step → Step
 afterPointer Pointed.Inside step = step
 afterPointer (Pointed.Refused why) step = Step.Refused why
 
--- for each item 2, 9, then 10 for its parent
+-- for each item 2, 9 with the offset in its fragment, then 10 for its parent
 unfoldable pub climbFrom : List ℕ → ℕ → Item → Step
 climbFrom file count item =
     afterPointer (openPointer (length file) (item .key) (item .key + item .size) 1)
-    (pick (isUtf8 (fragmentOf file item)) (parentOf count (item .parent)) (Step.Refused FragmentNotUtf8))
+    (pick (isUtf8 (fragmentOf file item)) (parentOf count (item .parent)) (Step.Refused (FragmentNotUtf8 (firstBad (fragmentOf file item)))))
 
 -- the fragments from root to item, joined; or why there is no such key
 pub data Joined : Type 0 where
@@ -75,7 +75,7 @@ matchStep (Step.Up parent) fragment key = matchTail fragment parent key
 
 -- the same of a fragment that has to be UTF-8
 unfoldable pub matchText : Step → List ℕ → List ℕ → Matched
-matchText step fragment key = matchStep (pick (isUtf8 fragment) step (Step.Refused FragmentNotUtf8)) fragment key
+matchText step fragment key = matchStep (pick (isUtf8 fragment) step (Step.Refused (FragmentNotUtf8 (firstBad fragment)))) fragment key
 
 unfoldable pub matchItem : List ℕ → Table → ℕ → List ℕ → Matched
 matchItem file t index key =

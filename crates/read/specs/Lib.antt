@@ -3,3 +3,4 @@ pub mod Find
 pub mod Lookup
 pub mod Listing
 pub mod Answer
+pub mod Bad

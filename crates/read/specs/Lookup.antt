@@ -5,7 +5,7 @@ use mathlib.Core.List.{List}
 use lib.ListN.{length}
 use lib.Dec.{eqb}
 use Rattle.words.specs.Choice.{pick}
-use Rattle.text.specs.Utf8.{isUtf8}
+use Rattle.text.specs.Utf8.{firstBad, isUtf8}
 use Rattle.layout.specs.declared.refusal.Refusal.the-variants.{KeyNotUtf8, KeyNotFound, OtherKind}
 use Rattle.layout.specs.declared.kind.Kind.{Kind}
 use Rattle.layout.specs.declared.pointer.Pointed.{Pointed}
@@ -26,9 +26,9 @@ unfoldable pub atFound : List ℕ → Table → Found → Sought
 atFound file t (Found.At index) = Sought.Item (itemAt file t index)
 atFound file t Found.Nothing = Sought.Refused KeyNotFound
 
--- 8, 12, or the item, in an open table
+-- 8 with the offset in the key, 12, or the item, in an open table
 unfoldable pub lookupIn : (ℕ → ℕ) → List ℕ → List ℕ → Table → Sought
-lookupIn rule file key t = pick (isUtf8 key) (atFound file t (findItem rule file t key)) (Sought.Refused KeyNotUtf8)
+lookupIn rule file key t = pick (isUtf8 key) (atFound file t (findItem rule file t key)) (Sought.Refused (KeyNotUtf8 (firstBad key)))
 
 unfoldable pub atOpened : Opened → (Table → Sought) → Sought
 atOpened (Opened.Table t) sought = sought t

@@ -8,6 +8,7 @@ use layout::refusal::Refusal;
 use layout::table::Table;
 use text::ascii::is_ascii;
 use text::compare::ends_with;
+use text::utf8::first_bad;
 use text::utf8::is_utf8;
 use words::align::Alignment;
 use words::wide::half_size;
@@ -49,7 +50,7 @@ pub fn parent_of(count: usize, parent: u32) -> Step
 }
 
 // gvdb-rs: key_for_item.
-// The step from an item, whose fragment has to open and be UTF-8: 2, 9, then 10 for its parent.
+// The step from an item, whose fragment has to open and be UTF-8: 2, 9 with the offset in the fragment, then 10 for its parent.
 pub fn climb(file: &[u8], count: usize, item: Item) -> Step
     ensures { λ r. ⌜ r ≡ climbFrom (now (file .entry)) count item ⌝ }
 {
@@ -61,7 +62,7 @@ pub fn climb(file: &[u8], count: usize, item: Item) -> Step
             if is_utf8(&file[start..end]) {
                 parent_of(count, item.parent)
             } else {
-                Step::Refused(Refusal::FragmentNotUtf8)
+                Step::Refused(Refusal::FragmentNotUtf8(first_bad(&file[start..end])))
             }
         }
     }

@@ -11,6 +11,7 @@ use layout::table::Opened;
 use layout::table::Table;
 use layout::table::open_table;
 use text::ascii::is_ascii;
+use text::utf8::first_bad;
 use text::utf8::is_utf8;
 use words::align::Alignment;
 use words::bits::bit_set;
@@ -149,7 +150,7 @@ fn is_key(key: &[u8]) -> bool
     is_utf8(key)
 }
 
-// The item of a key in an open table: 8, 12, or the item.
+// The item of a key in an open table: 8 with the offset in the key, 12, or the item.
 fn lookup_in(file: &[u8], table: Table, key: &[u8]) -> Sought
     requires { ⌜ InFile (now file) table ⌝ }
     ensures { λ r. ⌜ r ≡ lookupIn plain (now (file .entry)) (now (key .entry)) table ⌝ }
@@ -160,7 +161,7 @@ fn lookup_in(file: &[u8], table: Table, key: &[u8]) -> Sought
             Found::At(index) => Sought::Item(item_at(file, table, index)),
         }
     } else {
-        Sought::Refused(Refusal::KeyNotUtf8)
+        Sought::Refused(Refusal::KeyNotUtf8(first_bad(key)))
     }
 }
 

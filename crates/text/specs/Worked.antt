@@ -85,3 +85,19 @@ none-allowed = refl
 pub where-bad : firstBad (0xC3 ∷ 0xA9 ∷ 0x61 ∷ 0xC3 ∷ []) ≡ 3
 unfolding between tail isTwo startsThree startsFour firstOf sequenceLen stepLen oneMore goodFrom firstBad isUtf8
 where-bad = refl
+
+-- a Latin-1 "é" at the end, at the start, a cut character, a surrogate, a cut "🌍", an overlong zero, a byte that begins none
+abbrev pub badTexts : List (List ℕ)
+badTexts =
+    (0x63 ∷ 0x61 ∷ 0x66 ∷ 0xE9 ∷ [])
+    ∷ (0xE9 ∷ 0x74 ∷ 0xE9 ∷ [])
+    ∷ (0x61 ∷ 0xC3 ∷ [])
+    ∷ (0xED ∷ 0xA0 ∷ 0x80 ∷ [])
+    ∷ (0xF0 ∷ 0x9F ∷ 0x8C ∷ [])
+    ∷ (0x6F ∷ 0x6B ∷ 0xC0 ∷ 0x80 ∷ [])
+    ∷ (0xC3 ∷ 0xA9 ∷ 0xFF ∷ [])
+    ∷ []
+
+pub where-each-bad : map firstBad badTexts ≡ (3 ∷ 0 ∷ 1 ∷ 0 ∷ 0 ∷ 2 ∷ 2 ∷ [])
+unfolding between tail isTwo startsThree startsFour firstOf sequenceLen stepLen oneMore goodFrom firstBad isUtf8
+where-each-bad = refl

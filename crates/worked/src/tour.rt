@@ -1,11 +1,23 @@
 // A walk through each file of data/: what its root table opens as, its keys and values as they list, and what lookups answer.
 use crate::say;
 use check_table::check::Checked;
+use layout::refusal::Refusal;
+use layout::refusal::bad_at;
 use layout::refusal::number_of;
 use read::listing::Cursor;
 use read::listing::Listed;
 use read::listing::Valued;
 use read::lookup::Looked;
+
+// A refusal's number; with 8 and 9 where the text is bad.
+fn refusal(why: Refusal) {
+    let number = number_of(why);
+    say::number(number as u64);
+    if (number == 8) | (number == 9) {
+        say::text(b" at ");
+        say::size(bad_at(why));
+    }
+}
 
 // Lists the key at a position into a buffer of 64 bytes that held dots.
 fn key(file: &[u8], start: u32, end: u32, at: usize) {
@@ -20,7 +32,7 @@ fn key(file: &[u8], start: u32, end: u32, at: usize) {
             say::text(b"\", next ");
             say::size(next.at);
         }
-        Listed::Refused(why) => say::number(number_of(why) as u64),
+        Listed::Refused(why) => refusal(why),
     }
     if out[63] != b'.' {
         say::text(b", written to its end");
@@ -63,7 +75,7 @@ fn looked(answer: Looked) {
         Looked::Pointer { start, end } => say::place(start, end),
         Looked::Refused(why) => {
             say::text(b" ");
-            say::number(number_of(why) as u64);
+            refusal(why);
         }
     }
 }
@@ -90,6 +102,12 @@ fn check(file: &[u8], start: u32, end: u32) {
             say::text(b" broken by item ");
             say::size(item);
         }
+        Checked::Unlisted { why, item } => {
+            say::text(b"rule 1 broken by item ");
+            say::size(item);
+            say::text(b": ");
+            refusal(why);
+        }
         Checked::Refused(why) => say::number(number_of(why) as u64),
     }
     say::end();
@@ -103,6 +121,7 @@ fn lookups(file: &[u8], start: u32, end: u32) {
     lookup(file, start, end, b"a/b");
     lookup(file, start, end, b"c/b");
     lookup(file, start, end, b"\xc3");
+    lookup(file, start, end, b"caf\xe9");
 }
 
 // The keys of the nested tables made by hand, and those of the files that gvdb-rs laid.

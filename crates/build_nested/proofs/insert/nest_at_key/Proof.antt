@@ -45,6 +45,9 @@ returns-3 c = in-itself _ _ _ _ _ (sym (c .before .before .before .before .befor
 is-utf8-requires : tie.Need-is-utf8-requires
 is-utf8-requires c κs = search needs
 
+first-bad-requires : tie.Need-first-bad-requires
+first-bad-requires c κs = search needs
+
 same-length-7 : tie.Need-same-length-7
 same-length-7 c = search needs
 
@@ -52,9 +55,9 @@ same-length-8 : tie.Need-same-length-8
 same-length-8 c = search needs
 
 returns-4 : tie.Need-returns-4
-returns-4 c = keyed-bad _ _ _ _ (sym (c .before .is-utf8 .ensures) ∙ not-true _ (c .if4 .taken))
-    ∙ two-tables _ _ _ _ _ (sym (c .before .before .before .before .before .before .before .before .is-free-standing .ensures) ∙ not-false _ (c .before .before .before .before .before .before .before .if1 .left))
-    (sym (c .before .before .before .before .is-free-standing2 .ensures) ∙ not-false _ (c .before .before .before .if2 .left)) (c .before .before .if3 .left)
+returns-4 c = keyed-bad _ _ _ _ (sym (c .before .before .is-utf8 .ensures) ∙ not-true _ (c .before .if4 .taken)) (c .first-bad .ensures)
+    ∙ two-tables _ _ _ _ _ (sym (c .before .before .before .before .before .before .before .before .before .is-free-standing .ensures) ∙ not-false _ (c .before .before .before .before .before .before .before .before .if1 .left))
+    (sym (c .before .before .before .before .before .is-free-standing2 .ensures) ∙ not-false _ (c .before .before .before .before .if2 .left)) (c .before .before .before .if3 .left)
 
 same-length-9 : tie.Need-same-length-9
 same-length-9 c = search needs
@@ -104,6 +107,7 @@ nest-at-key-spec =
     same-length-6
     returns-3
     is-utf8-requires
+    first-bad-requires
     same-length-7
     same-length-8
     returns-4

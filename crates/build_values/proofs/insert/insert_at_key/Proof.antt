@@ -22,6 +22,9 @@ returns c = valid-unknown _ _ _ _ _ (sym (c .before .is-free-standing .ensures) 
 is-utf8-requires : tie.Need-is-utf8-requires
 is-utf8-requires c κs = search needs
 
+first-bad-requires : tie.Need-first-bad-requires
+first-bad-requires c κs = search needs
+
 same-length-3 : tie.Need-same-length-3
 same-length-3 c = search needs
 
@@ -29,8 +32,8 @@ same-length-4 : tie.Need-same-length-4
 same-length-4 c = search needs
 
 returns-2 : tie.Need-returns-2
-returns-2 c = keyed-bad _ _ _ _ (sym (c .before .is-utf8 .ensures) ∙ not-true _ (c .if2 .taken))
-    ∙ valid-known _ _ _ _ _ (sym (c .before .before .before .is-free-standing .ensures) ∙ not-false _ (c .before .before .if1 .left))
+returns-2 c = keyed-bad _ _ _ _ (sym (c .before .before .is-utf8 .ensures) ∙ not-true _ (c .before .if2 .taken)) (c .first-bad .ensures)
+    ∙ valid-known _ _ _ _ _ (sym (c .before .before .before .before .is-free-standing .ensures) ∙ not-false _ (c .before .before .before .if1 .left))
 
 same-length-5 : tie.Need-same-length-5
 same-length-5 c = search needs
@@ -68,6 +71,7 @@ insert-at-key-spec =
     same-length-2
     returns
     is-utf8-requires
+    first-bad-requires
     same-length-3
     same-length-4
     returns-2

@@ -1,6 +1,6 @@
 -- `gvdb::reading::place_of` meets its contract: each arm by the variant that it matched.
 use mathlib.Core.Path.{sym, ap}
-use Rattle.read.specs.Answer.{lookedNumber, lookedPointer}
+use Rattle.read.specs.Answer.{lookedNumber, lookedPointer, lookedAt}
 use Rattle.gvdb.specs.Reading.{lookedAnswer}
 use borrow.Author.Needs.{needs}
 use Rattle.gvdb.proofs.reading.place_of.Statement.{statement}
@@ -15,14 +15,24 @@ enum-known-looked-2 c = search needs
 number-of-requires : tie.Need-number-of-requires
 number-of-requires c κs = search needs
 
+bad-at-requires : tie.Need-bad-at-requires
+bad-at-requires c κs = search needs
+
 returns : tie.Need-returns
-unfolding lookedAnswer lookedNumber lookedPointer
+unfolding lookedAnswer lookedNumber lookedPointer lookedAt
 returns c = sym (ap lookedAnswer (c .before .looked .given .1))
 
 returns-2 : tie.Need-returns-2
-unfolding lookedAnswer lookedNumber lookedPointer
-returns-2 c = rw (c .number-of .ensures) (sym (ap lookedAnswer (c .before .before .looked2 .given .1)))
+unfolding lookedAnswer lookedNumber lookedPointer lookedAt
+returns-2 c = rw (c .before .number-of .ensures, c .bad-at .ensures) (sym (ap lookedAnswer (c .before .before .before .looked2 .given .1)))
 
 pub place-of-spec : {M : Type 1} → statement M
 place-of-spec =
-    tie.close (tie.spec enum-known-looked enum-known-looked-2 number-of-requires returns returns-2)
+    tie.close
+    (tie.spec
+    enum-known-looked
+    enum-known-looked-2
+    number-of-requires
+    bad-at-requires
+    returns
+    returns-2)

@@ -39,6 +39,20 @@ is-utf8-requires c κs = search needs
 parent-of-requires : tie.Need-parent-of-requires
 parent-of-requires c κs = search needs
 
+sub-first-bad : tie.Need-sub-first-bad
+sub-first-bad c = search needs
+
+part-first-bad-start : tie.Need-part-first-bad-start
+part-first-bad-start c = search needs
+
+part-first-bad-end : tie.Need-part-first-bad-end
+part-first-bad-end c =
+    let at-told = c .before .before .before in
+    pointer-inside _ _ _ _ (sym (at-told .before .before .open-pointer .ensures) ∙ at-told .enum-told .given .1) .1
+
+first-bad-requires : tie.Need-first-bad-requires
+first-bad-requires c κs = search needs
+
 returns : tie.Need-returns
 returns c =
     let at-open = c .before .before .before in
@@ -54,10 +68,10 @@ returns-2 c =
 
 returns-3 : tie.Need-returns-3
 returns-3 c =
-    let at-utf8 = c .before in
+    let at-utf8 = c .before .before .before in
     let at-told = at-utf8 .before .before in
     let at-open = at-told .before .before in
-    climb-no-text _ _ _ (at-open .before .before .word-size .ensures .0) (at-open .before .half-size .ensures .0) (sym (at-open .open-pointer .ensures) ∙ at-told .enum-told .given .1) (sym (at-utf8 .is-utf8 .ensures) ∙ c .if1 .left)
+    climb-no-text _ _ _ (at-open .before .before .word-size .ensures .0) (at-open .before .half-size .ensures .0) (sym (at-open .open-pointer .ensures) ∙ at-told .enum-told .given .1) (sym (at-utf8 .is-utf8 .ensures) ∙ c .before .before .if1 .left) (c .first-bad .ensures)
 
 pub climb-spec : {M : Type 1} → statement M
 climb-spec =
@@ -74,6 +88,10 @@ climb-spec =
     part-is-utf8-end
     is-utf8-requires
     parent-of-requires
+    sub-first-bad
+    part-first-bad-start
+    part-first-bad-end
+    first-bad-requires
     returns
     returns-2
     returns-3)

@@ -1,8 +1,10 @@
 -- `read::lookup::lookup_in` meets its contract: what is found is an item of the table.
 use mathlib.Core.Path.{sym, ap, _∙_, subst}
+use Prim.Native.Nat.{ℕ}
 use borrow.Author.Needs.{needs}
 use Rattle.words.specs.Choice.{pick}
 use Rattle.words.specs.Hash.{plain}
+use Rattle.layout.specs.declared.refusal.Refusal.the-variants.{KeyNotUtf8}
 use Rattle.read.specs.declared.lookup.Sought.{Sought}
 use Rattle.read.specs.Lookup.{lookupIn, atFound}
 use Rattle.read.proofs.FindLaws.{FoundBelow, found-below}
@@ -25,6 +27,9 @@ item-at-requires : tie.Need-item-at-requires
 unfolding FoundBelow
 item-at-requires c κs = (c .before .before .before .before .before .before .before .before .pre, subst (FoundBelow _) (sym (c .before .before .before .find-item .ensures) ∙ c .before .index .given .1) (found-below plain _ _ _))
 
+first-bad-requires : tie.Need-first-bad-requires
+first-bad-requires c κs = search needs
+
 returns : tie.Need-returns
 unfolding lookupIn atFound pick
 returns c = simp (sym (c .before .before .before .before .is-key .ensures) ∙ c .before .before .before .if1 .taken, sym (c .before .before .find-item .ensures) ∙ c .enum-told .given .1)
@@ -37,7 +42,7 @@ returns-2 c =
 
 returns-3 : tie.Need-returns-3
 unfolding lookupIn pick
-returns-3 c = simp (sym (c .before .is-key .ensures) ∙ c .if1 .left)
+returns-3 c = simp (sym (c .before .before .is-key .ensures) ∙ c .before .if1 .left) (ap (λ (at : ℕ). Sought.Refused (KeyNotUtf8 at)) (c .first-bad .ensures))
 
 pub lookup-in-spec : {M : Type 1} → statement M
 lookup-in-spec =
@@ -48,6 +53,7 @@ lookup-in-spec =
     enum-told
     enum-known-index
     item-at-requires
+    first-bad-requires
     returns
     returns-2
     returns-3)
