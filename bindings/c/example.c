@@ -37,7 +37,7 @@ static uint32_t new_table(const char *separator)
     return made.table;
 }
 
-/* Prints what is done to a key, other bytes than letters as numbers. */
+/* Prints what is done to a text, other bytes than letters as numbers. */
 static void say_key(const char *call, const char *key)
 {
     printf("%s \"", call);
@@ -51,10 +51,19 @@ static void say_key(const char *call, const char *key)
     printf("\": ");
 }
 
+/* The number of an answer, and where the text is bad. */
+static void say_number(uint32_t number, size_t at)
+{
+    printf("%" PRIu32, number);
+    if (number == GVDB_KEY_NOT_UTF8 || number == GVDB_FRAGMENT_NOT_UTF8) {
+        printf(" at byte %zu", at);
+    }
+}
+
 static void say_inserted(const char *key, gvdb_inserted news)
 {
     say_key("insert", key);
-    printf("%" PRIu32, news.number);
+    say_number(news.number, news.at);
     if (news.replaced != 0) {
         printf(", replaced '%c'", (char)news.replaced);
     }
@@ -81,7 +90,8 @@ static void get(gvdb_image at, const char *key)
 {
     gvdb_place place = gvdb_get(image, at.length, at.start, at.end, BYTES(key));
     say_key("get", key);
-    printf("%" PRIu32 ", \"%.*s\"\n", place.number, (int)(place.end - place.start), (const char *)image + place.start);
+    say_number(place.number, place.at);
+    printf(", \"%.*s\"\n", (int)(place.end - place.start), (const char *)image + place.start);
 }
 
 static void list_keys(gvdb_image at)
@@ -93,7 +103,9 @@ static void list_keys(gvdb_image at)
         if (listed.number == GVDB_PAST_THE_LAST) {
             return;
         }
-        printf("key %zu: %" PRIu32 ", \"%.*s\"\n", position, listed.number, (int)listed.length, (const char *)key);
+        printf("key %zu: ", position);
+        say_number(listed.number, listed.at);
+        printf(", \"%.*s\"\n", (int)listed.length, (const char *)key);
         position += 1;
     }
 }
@@ -110,7 +122,12 @@ static void list_values(gvdb_image at)
 static void check(const char *what, gvdb_image at)
 {
     gvdb_checked checked = gvdb_check(image, at.length, at.start, at.end);
-    printf("check of %s: %" PRIu32 ", rule %" PRIu32 ", item %zu\n", what, checked.number, checked.rule, checked.item);
+    printf("check of %s: %" PRIu32 ", rule %" PRIu32 ", item %zu", what, checked.number, checked.rule, checked.item);
+    if (checked.why != 0) {
+        printf(", its key: ");
+        say_number(checked.why, checked.at);
+    }
+    printf("\n");
 }
 
 static void read_back(gvdb_image root)
@@ -120,7 +137,11 @@ static void read_back(gvdb_image root)
     get(root, "parcel/12/year");
     get(root, "parcel/12/");
     get(root, "parcel/12");
-    get(root, "\xC3");
+    get(root, "a\xC3");
+    gvdb_place lost = gvdb_get_table(image, root.length, root.start, root.end, BYTES("\xC3\xA9\xFF"));
+    say_key("get table", "\xC3\xA9\xFF");
+    say_number(lost.number, lost.at);
+    printf("\n");
     list_keys(root);
     list_values(root);
     check("the root table", root);
@@ -161,6 +182,27 @@ static void lay_header(uint32_t big)
     read_header("a file with a bit of its signature changed", header, sizeof header);
 }
 
+/* Where texts are not UTF-8: Latin-1, a character that is cut, a surrogate, a zero in two bytes. */
+static void say_first_bad(void)
+{
+    static const char *const texts[] = {"caf\xC3\xA9", "caf\xE9", "\xE9t\xE9", "a\xC3", "\xED\xA0\x80", "\xF0\x9F\x8C", "ok\xC0\x80", "\xC3\xA9\xFF"};
+    for (size_t i = 0; i < sizeof texts / sizeof texts[0]; i++) {
+        say_key("first bad byte of", texts[i]);
+        printf("%zu of %zu\n", gvdb_first_bad(BYTES(texts[i])), strlen(texts[i]));
+    }
+}
+
+/* The first place of a text in the image. */
+static uint8_t *find(const char *text, size_t length)
+{
+    for (size_t i = 0; i + strlen(text) <= length; i++) {
+        if (memcmp(image + i, text, strlen(text)) == 0) {
+            return image + i;
+        }
+    }
+    exit(1);
+}
+
 int main(void)
 {
     printf("interface: %s\n", gvdb_abi() == GVDB_ABI ? "of the library's number" : "of another number than the library");
@@ -173,7 +215,9 @@ int main(void)
     insert(register_table, "parcel/12/stand/3", "spruce");
     insert(register_table, "kept", "");
     insert(register_table, "\xFF", "no text");
+    insert(register_table, "caf\xE9", "Latin-1");
     insert(owner, "name", "A. Forester");
+    insert_table(register_table, "own\xE9r", owner);
     insert_table(register_table, "owner", owner);
     insert_table(register_table, "owner", owner);
     insert_table(register_table, "self", register_table);
@@ -193,6 +237,12 @@ int main(void)
     read_back(written);
     image[written.end - 1] ^= 1;
     check("an image with a bit changed", written);
+    find("year", written.length)[3] = 0xE9;
+    check("an image with a Latin-1 key", written);
+    find("parcel/", written.length)[0] = 0xFF;
+    check("an image with a Latin-1 key below another", written);
+    list_keys(written);
+    say_first_bad();
     insert(register_table, "parcel/12/year", "2000");
     insert(register_table, "parcel/12/stand/", "none");
     insert(register_table, "parcel/12/stand/4", "pine");

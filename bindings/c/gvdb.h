@@ -34,10 +34,11 @@ extern "C" {
 
 /*
  * The number of this interface. It goes up by one with each request that changes a function or a struct; what came with which number:
- *   1: all that 2 does not name
+ *   1: all that the later numbers do not name
  *   2: gvdb_abi, gvdb_read_header with gvdb_header, gvdb_lay_header; the numbers 16, 17 and 19
+ *   3: gvdb_first_bad; the field at, which is last, in gvdb_place, gvdb_key and gvdb_inserted; the fields why and at, which are last, in gvdb_checked
  */
-#define GVDB_ABI 2
+#define GVDB_ABI 3
 
 /* The number of the library that is linked. Another than GVDB_ABI is a library of other structs than those below. */
 uint32_t gvdb_abi(void);
@@ -94,18 +95,26 @@ typedef struct gvdb_opened {
     uint32_t blooms;
 } gvdb_opened;
 
-/* A place in the file: its bytes from start up to end. */
+/*
+ * The field at of an answer is where a text is not UTF-8: the offset, in that text, at which the first sequence begins that RFC 3629 does not allow. With
+ * GVDB_KEY_NOT_UTF8 the text is the given key, with GVDB_FRAGMENT_NOT_UTF8 the stored fragment, that of the item or of a parent. With every other number at
+ * is 0; since 0 is an offset too, look at the number first.
+ */
+
+/* A place in the file: its bytes from start up to end. With GVDB_KEY_NOT_UTF8, where the given key is bad. */
 typedef struct gvdb_place {
     uint32_t number;
     uint32_t start;
     uint32_t end;
+    size_t at;
 } gvdb_place;
 
-/* A listed key: its length, and the position of the next one. */
+/* A listed key: its length, and the position of the next one. With GVDB_FRAGMENT_NOT_UTF8, where the fragment is bad. */
 typedef struct gvdb_key {
     uint32_t number;
     size_t length;
     size_t next;
+    size_t at;
 } gvdb_key;
 
 /* A listed value: its place in the file, the index of its item, and the position to go on from. */
@@ -117,11 +126,16 @@ typedef struct gvdb_value {
     size_t next;
 } gvdb_value;
 
-/* What the check says: with GVDB_CHECK_BROKEN the first item that breaks a rule, and its first broken rule, 1 to 6. */
+/*
+ * What the check says: with GVDB_CHECK_BROKEN the first item that breaks a rule, and its first broken rule, 1 to 6. With rule 1, why is the number that
+ * listing the item ends with, given room: 2, 9, 10 or 11; and with 9, at is where the fragment is bad. Else why and at are 0.
+ */
 typedef struct gvdb_checked {
     uint32_t number;
     uint32_t rule;
     size_t item;
+    uint32_t why;
+    size_t at;
 } gvdb_checked;
 
 /* A new table's number. */
@@ -130,10 +144,14 @@ typedef struct gvdb_table {
     uint32_t table;
 } gvdb_table;
 
-/* The news of an insert: replaced is 0 for a new key, else the kind that was there: 'v' a value, 'H' a table, 'L' a container. */
+/*
+ * The news of an insert: replaced is 0 for a new key, else the kind that was there: 'v' a value, 'H' a table, 'L' a container. With GVDB_KEY_NOT_UTF8, where the
+ * given key is bad.
+ */
 typedef struct gvdb_inserted {
     uint32_t number;
     uint32_t replaced;
+    size_t at;
 } gvdb_inserted;
 
 /* How many items a table has, containers included. */
@@ -166,6 +184,12 @@ gvdb_header gvdb_read_header(const uint8_t *file, size_t file_length);
 uint32_t gvdb_lay_header(uint8_t *target, size_t target_length, uint32_t big, uint32_t start, uint32_t end);
 
 /*
+ * Where a text is not UTF-8: the offset at which the first sequence begins that RFC 3629 does not allow, or the length of a good text. The text may have any
+ * length.
+ */
+size_t gvdb_first_bad(const uint8_t *text, size_t text_length);
+
+/*
  * Reading. A table is named by the file's bytes and the pointer to it, from start up to end; that of the root table is gvdb_read_header's answer.
  * Opening refuses with 1, then 2 and 3 of the pointer, then 4 to 7; every call below opens the table first and refuses with the same numbers.
  */
@@ -173,15 +197,15 @@ uint32_t gvdb_lay_header(uint8_t *target, size_t target_length, uint32_t big, ui
 /* Opens a table. */
 gvdb_opened gvdb_open(const uint8_t *file, size_t file_length, uint32_t start, uint32_t end);
 
-/* Looks a value up. The answer is its place in the file, or 8, 12, 13, or 2 and 3 of its own pointer. */
+/* Looks a value up. The answer is its place in the file, or 8 with at, 12, 13, or 2 and 3 of its own pointer. */
 gvdb_place gvdb_get(const uint8_t *file, size_t file_length, uint32_t start, uint32_t end, const uint8_t *key, size_t key_length);
 
-/* Looks a nested table up. The answer is its pointer, once it opens; or 8, 12, 13, or what opening it refuses. */
+/* Looks a nested table up. The answer is its pointer, once it opens; or 8 with at, 12, 13, or what opening it refuses. */
 gvdb_place gvdb_get_table(const uint8_t *file, size_t file_length, uint32_t start, uint32_t end, const uint8_t *key, size_t key_length);
 
 /*
  * Writes the key of the item at a position, counted from 0, to the front of out; bytes of out past the key stay. Refuses with 15 past the last item;
- * 2, 9, 10 or 11 of a key that does not read; 14 for one that is too long. After any of these but 15 a caller may go on at position + 1.
+ * 2, 9 with at, 10 or 11 of a key that does not read; 14 for one that is too long. After any of these but 15 a caller may go on at position + 1.
  */
 gvdb_key gvdb_next_key(const uint8_t *file, size_t file_length, uint32_t start, uint32_t end, size_t position, uint8_t *out, size_t out_length);
 
@@ -195,7 +219,7 @@ gvdb_value gvdb_next_value(const uint8_t *file, size_t file_length, uint32_t sta
  * Checks a table, not those nested in it. The rules, for each item: (1) its key would list; (2) lookup of that key answers this item; (3) its kind is
  * known; (4) its value pointer opens, for 'H' as a table, for 'L' with a length divisible by 4; (5) of an 'L', each child index is below the count,
  * names this item as parent and appears once; (6) its parent, if any, is an 'L' that keeps rule 4 and lists it.
- * What it costs is linear for ordinary tables; of a hostile file see 'time' above.
+ * With 40 and rule 1, why and at say what listing the item refuses with. What it costs is linear for ordinary tables; of a hostile file see 'time' above.
  */
 gvdb_checked gvdb_check(const uint8_t *file, size_t file_length, uint32_t start, uint32_t end);
 
@@ -218,14 +242,14 @@ gvdb_table gvdb_new_table(size_t *words, size_t words_length, const uint8_t *are
 
 /*
  * Inserts a value, or replaces what the key had. With a separator, each prefix of the key that ends at one is a container, made if missing.
- * Refuses with 24, 8, 20, 21, 22, 23.
+ * Refuses with 24, 8 with at, 20, 21, 22, 23.
  */
 gvdb_inserted gvdb_insert(size_t *words, size_t words_length, uint8_t *arena, size_t arena_length, uint32_t table, const uint8_t *key, size_t key_length,
                           const uint8_t *value, size_t value_length);
 
 /*
  * Inserts a table, the guest, under a key of another. The guest is placed by that, and takes no more inserts; so it stays if it is replaced.
- * Refuses with 24 for the table, 24 for the guest, 25, 8, 20, 21, 26, 22, 23.
+ * Refuses with 24 for the table, 24 for the guest, 25, 8 with at, 20, 21, 26, 22, 23.
  */
 gvdb_inserted gvdb_insert_table(size_t *words, size_t words_length, uint8_t *arena, size_t arena_length, uint32_t table, const uint8_t *key,
                                 size_t key_length, uint32_t guest);

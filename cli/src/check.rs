@@ -21,7 +21,7 @@ struct Verdict {
 /// A rule that a table breaks.
 pub struct Broken {
     unsound: Unsound,
-    /// The item's key, or why it does not read.
+    /// The item's key, or why it does not read: for rule 1 what the check says.
     key: Result<String, Refusal>,
 }
 
@@ -147,7 +147,7 @@ impl Broken {
     /// The first rule that a table breaks, if it breaks one.
     pub fn of(table: &Table) -> Option<Broken> {
         let unsound = table.check().err()?;
-        Some(Broken { unsound, key: table.key_at(unsound.item) })
+        Some(Broken { unsound, key: unsound.why.map_or_else(|| table.key_at(unsound.item), Err) })
     }
 
     /// Where a table breaks what, and what to do or to know, as a failure.
@@ -160,7 +160,7 @@ impl Broken {
         let (item, meaning) = (self.unsound.item, self.unsound.meaning());
         match &self.key {
             Ok(key) => format!("item {item}, key {}: {meaning}", text::cut(&text::quoted(key))),
-            Err(refusal) => format!("item {item}: {meaning}: {}", refusal.sentence()),
+            Err(refusal) => format!("item {item}: {meaning}: {}", refusal.message()),
         }
     }
 
@@ -175,6 +175,8 @@ impl Broken {
             ("item", Json::Number(self.unsound.item)),
             ("key", self.key.as_ref().map_or(Json::Null, Json::text)),
             ("key_refusal", Json::number(self.key.as_ref().err().map(|refusal| refusal.number()))),
+            ("why", Json::number(self.unsound.why.map(Refusal::number))),
+            ("at", Json::offset(self.unsound.why.and_then(Refusal::at))),
             ("meaning", Json::text(self.unsound.meaning())),
         ]
     }

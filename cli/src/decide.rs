@@ -5,6 +5,7 @@ use crate::both::Side;
 use crate::content::Place;
 use crate::failure::Failure;
 use crate::text;
+use std::borrow::Cow;
 use std::cell::Cell;
 use std::collections::BTreeMap;
 
@@ -57,7 +58,7 @@ impl Decisions {
                     false => return Err(bad("it begins neither with own nor with other (a line of notes begins with #)")),
                 }
             };
-            let place = place(rest.trim_ascii_start()).map_err(bad)?;
+            let place = place(rest.trim_ascii_start()).map_err(|why| bad(&why))?;
             let rule = decisions.rules.entry(place).or_insert(Rule { side: Some(side), line: at + 1, used: Cell::new(false) });
             rule.side = rule.side.filter(|decided| *decided == side);
         }
@@ -88,10 +89,10 @@ fn covers(named: &str, key: &str, separator: Option<u8>) -> bool {
 }
 
 /// A key as `gvdb dump` writes it, with those of the tables around it in front and a TAB between; or in quotes, as the report has it.
-fn place(field: &[u8]) -> Result<Place, &'static str> {
+fn place(field: &[u8]) -> Result<Place, Cow<'static, str>> {
     let mut keys = if field.starts_with(b"\"") { quoted(field)? } else { field.split(|&byte| byte == b'\t').map(text::unescaped).collect::<Result<_, _>>()? };
     let key = keys.pop().filter(|key| !field.is_empty() || !key.is_empty()).ok_or("no key behind the side")?;
-    let read = |key| String::from_utf8(key).map_err(|_| "the key is not UTF-8");
+    let read = |key| String::from_utf8(key).map_err(|error| text::bad_key(error.as_bytes(), error.utf8_error().valid_up_to()));
     Ok((keys.into_iter().map(read).collect::<Result<_, _>>()?, read(key)?))
 }
 
@@ -122,7 +123,7 @@ fn quoted(mut rest: &[u8]) -> Result<Vec<Vec<u8>>, &'static str> {
 mod tests {
     use super::*;
 
-    fn keys(field: &str) -> Result<Vec<String>, &'static str> {
+    fn keys(field: &str) -> Result<Vec<String>, Cow<'static, str>> {
         place(field.as_bytes()).map(|(path, key)| path.into_iter().chain([key]).collect())
     }
 
@@ -138,6 +139,7 @@ mod tests {
         for bad in ["", "\"a", "\"a\\", "\"a\\\"", "\"a\"b", "\"a\" > b", "\\q", "\"a\" >", "\\xff"] {
             assert!(keys(bad).is_err(), "{bad}");
         }
+        assert_eq!(keys("t\tcaf\\xe9"), Err("the key is not UTF-8 at byte 3 (E9)".into()));
     }
 
     #[test]

@@ -33,10 +33,18 @@ impl Failure {
 
     /// A refusal, with what was refused before it.
     pub fn refused(status: u8, what: &str, refusal: Refusal) -> Failure {
-        let (number, sentence) = (refusal.number(), refusal.sentence());
-        match advice::of(number) {
-            "" => Failure::told(status, what, number, sentence),
-            advice => Failure::told(status, what, number, &format!("{sentence}; {advice}")),
+        Failure::advised(status, what, refusal.number(), &refusal.message(), advice::of(refusal.number()))
+    }
+
+    /// A key that was given and is not UTF-8: where, with the byte that stands there, and what to do.
+    pub fn bad_key(what: &str, key: &[u8], at: usize, advice: &str) -> Failure {
+        Failure::advised(NO, what, Refusal::KeyNotUtf8 { at }.number(), &text::bad_key(key, at), advice)
+    }
+
+    fn advised(status: u8, what: &str, number: u32, words: &str, advice: &str) -> Failure {
+        match advice {
+            "" => Failure::told(status, what, number, words),
+            advice => Failure::told(status, what, number, &format!("{words}; {advice}")),
         }
     }
 

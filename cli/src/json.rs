@@ -30,7 +30,11 @@ impl Json {
     }
 
     pub fn number(number: Option<u32>) -> Json {
-        number.map_or(Json::Null, |number| Json::Number(number as usize))
+        Json::offset(number.map(|number| number as usize))
+    }
+
+    pub fn offset(offset: Option<usize>) -> Json {
+        offset.map_or(Json::Null, Json::Number)
     }
 }
 

@@ -12,7 +12,7 @@ use crate::out::Out;
 use crate::report::{lost_line, told, why_unmade};
 use crate::source::Source;
 use crate::target::{self, Target};
-use crate::{replace, text};
+use crate::{advice, replace, text};
 use gvdb::{ByteOrder, Refusal, MAX_NESTING};
 use std::borrow::Cow;
 use std::collections::BTreeMap;
@@ -156,7 +156,7 @@ impl Lines {
         let mut keys = Vec::new();
         for field in fields {
             let key = text::unescaped(field).map_err(bad)?;
-            keys.push(String::from_utf8(key).map_err(|_| Failure::refused(NO, &what, Refusal::KeyNotUtf8))?);
+            keys.push(String::from_utf8(key).map_err(|error| not_text(&what, field, error.as_bytes()))?);
         }
         let key = keys.pop().ok_or_else(|| bad("no TAB between key and value"))?;
         if keys.len() >= MAX_NESTING {
@@ -217,6 +217,18 @@ impl Lines {
         let number = self.number(&(path.to_vec(), key.to_string()));
         format!("line {number}: key {}", text::cut(&text::path(path, key)))
     }
+}
+
+/// A key that is not UTF-8, and the field that it stands in. Bytes that stand there as they are may be those of another list; what escapes say does not change with
+/// the list's encoding.
+fn not_text(what: &str, field: &[u8], key: &[u8]) -> Failure {
+    let at = gvdb::first_bad(key).unwrap_or(key.len());
+    let advice = match (text::latin1(field), gvdb::first_bad(field)) {
+        (true, _) => "if the list is in Latin-1, iconv -f latin1 -t utf8 turns it into UTF-8",
+        (false, Some(_)) => advice::of(Refusal::KeyNotUtf8 { at }.number()),
+        (false, None) => "its escapes give other bytes than UTF-8",
+    };
+    Failure::bad_key(what, key, at, advice)
 }
 
 fn kind(node: &Node) -> &'static str {

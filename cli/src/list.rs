@@ -106,13 +106,15 @@ pub fn item_json(entry: &Entry) -> Vec<(&'static str, Json)> {
     let mut fields = vec![("index", Json::Number(entry.index))];
     match &entry.key {
         Ok(key) => fields.push(("key", Json::text(key))),
-        Err(refusal) => fields.extend([("key", Json::Null), ("key_refusal", Json::number(Some(refusal.number())))]),
+        Err(refusal) => {
+            fields.extend([("key", Json::Null), ("key_refusal", Json::number(Some(refusal.number()))), ("at", Json::offset(refusal.at()))]);
+        }
     }
     match &entry.item {
         Ok(item) => fields.push(("kind", Json::text(kind(item)))),
         Err(refusal) => {
             let number = Json::number(Some(refusal.number()));
-            fields.extend([("kind", Json::Null), ("refusal", number), ("sentence", Json::text(refusal.sentence()))]);
+            fields.extend([("kind", Json::Null), ("refusal", number), ("sentence", Json::text(refusal.message()))]);
         }
     }
     fields
@@ -128,7 +130,7 @@ fn kind(item: &Item) -> &'static str {
 
 /// What stands in place of a key that does not read.
 pub fn unread(index: usize, refusal: Refusal) -> String {
-    format!("item {index}, whose key does not read: {} ({})", refusal.sentence(), refusal.number())
+    format!("item {index}, whose key does not read: {} ({})", refusal.message(), refusal.number())
 }
 
 /// `gvdb get`: the value's bytes, as they are to a pipe or file, in hex to a terminal.

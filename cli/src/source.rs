@@ -2,7 +2,7 @@
 
 use crate::failure::{name, Failure, NO, UNREADABLE};
 use crate::json::Json;
-use crate::{input, out, text};
+use crate::{advice, input, out, text};
 use gvdb::{Entry, Header, Refusal, Table, MAX_FILE};
 use std::ffi::OsStr;
 use std::path::PathBuf;
@@ -67,8 +67,10 @@ impl Source {
 
 /// Why a lookup is refused. Where something else stands under the key, it is said what that is and how to see it.
 pub fn not_found(what: &str, table: &Table, key: &[u8], refusal: Refusal) -> Failure {
-    if refusal != Refusal::OtherKind {
-        return Failure::refused(NO, what, refusal);
+    match refusal {
+        Refusal::OtherKind => {}
+        Refusal::KeyNotUtf8 { at } => return Failure::bad_key(what, key, at, advice::of(refusal.number())),
+        _ => return Failure::refused(NO, what, refusal),
     }
     let there = match (table.get(key), table.get_table(key)) {
         (Ok(_), _) => "it is a value; gvdb get FILE KEY writes it",

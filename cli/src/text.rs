@@ -72,6 +72,24 @@ pub fn quoted_bytes(key: &[u8]) -> String {
     format!("\"{}\"", escaped_bytes(key).replace('"', "\\\""))
 }
 
+/// Where a key is not UTF-8: `the key is not UTF-8 at byte 3 (E9)`.
+pub fn bad_key(key: &[u8], at: usize) -> String {
+    let byte = key.get(at).map_or(String::new(), |byte| format!(" ({byte:02X})"));
+    format!("the key is not UTF-8 at byte {at}{byte}")
+}
+
+/// Whether a text is not UTF-8, and each byte that makes it so would be a letter in Latin-1.
+pub fn latin1(text: &[u8]) -> bool {
+    let mut rest = text;
+    while let Some(at) = gvdb::first_bad(rest) {
+        if !char::from(rest[at]).is_alphabetic() {
+            return false;
+        }
+        rest = &rest[at + 1..];
+    }
+    rest.len() < text.len()
+}
+
 /// The keys of nested tables and a key in the last of them.
 pub fn path(tables: &[String], key: &str) -> String {
     tables.iter().map(String::as_str).chain([key]).map(quoted).collect::<Vec<_>>().join(" > ")
@@ -174,6 +192,25 @@ mod tests {
         assert_eq!(escaped("\u{9b}\t\\"), "\\xc2\\x9b\\t\\\\");
         for bad in ["\\", "\\q", "\\x", "\\x1", "\\xg0"] {
             assert!(unescaped(bad.as_bytes()).is_err(), "{bad}");
+        }
+    }
+
+    #[test]
+    fn where_a_key_is_bad() {
+        for (key, words) in
+            [(&b"caf\xe9"[..], "3 (E9)"), (b"\xe9t\xe9", "0 (E9)"), (b"a\xc3", "1 (C3)"), (b"ok\xc0\x80", "2 (C0)"), (b"\xc3\xa9\xff", "2 (FF)")]
+        {
+            assert_eq!(bad_key(key, gvdb::first_bad(key).unwrap()), format!("the key is not UTF-8 at byte {words}"));
+        }
+    }
+
+    #[test]
+    fn letters_of_latin1() {
+        for letters in [&b"caf\xe9"[..], b"\xe9t\xe9", b"Gr\xfc\xdfe", b"\xc3\xa9\xff", b"\xaa\xb5\xba"] {
+            assert!(latin1(letters), "{letters:?}");
+        }
+        for other in [&b""[..], b"cafe", "caf\u{e9}".as_bytes(), b"2 \xd7 3", b"caf\xe9 \xa4", b"\xe2\x82", b"\xed\xa0\x80", b"\x80"] {
+            assert!(!latin1(other), "{other:?}");
         }
     }
 

@@ -172,7 +172,7 @@ impl Branch<'_> {
             Ok(Item::Value(bytes)) => format!("{name}  {}", text::count(bytes.len(), "byte")),
             Ok(Item::Table(nested)) => format!("{}  table, {}{}", out.paint(Colour::Blue, &name), text::count(nested.len(), "item"), self.below.note(out)),
             Ok(Item::Container) => out.paint(Colour::Blue, &name),
-            Err(refusal) => name + "  " + &out.paint(Colour::Red, &format!("{} ({})", refusal.sentence(), refusal.number())),
+            Err(refusal) => name + "  " + &out.paint(Colour::Red, &format!("{} ({})", refusal.message(), refusal.number())),
         }
     }
 

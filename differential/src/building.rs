@@ -8,7 +8,7 @@ use crate::lent::Memory;
 use crate::make;
 use crate::ours;
 use crate::reading::{hex, Case};
-use crate::tally::{Difference, Outcome, Tally, Who};
+use crate::tally::{number, Difference, Outcome, Tally, Who};
 use crate::theirs;
 
 /// The value of a call's answer, 0 for a write, or the number of a refusal.
@@ -182,6 +182,7 @@ impl State {
     fn insert(&mut self, table: u32, key: &[u8], value: &[u8], tally: &mut Tally) -> Result<Answer, Difference> {
         let (ours, paper) = (self.memory.insert(table, key, value), self.paper.insert(table, key, value));
         tally.same(Who::Document, "insert", &ours, &paper, String::new)?;
+        let ours = ours.map_err(|why| why.number);
         if ours.is_ok() || ours == Err(21) {
             let text = std::str::from_utf8(key).expect("accepted");
             let rust = self.rust.insert(table as usize, text, value);
@@ -193,6 +194,7 @@ impl State {
     fn insert_table(&mut self, table: u32, key: &[u8], guest: u32, tally: &mut Tally) -> Result<Answer, Difference> {
         let (ours, paper) = (self.memory.insert_table(table, key, guest), self.paper.insert_table(table, key, guest));
         tally.same(Who::Document, "insert table", &ours, &paper, String::new)?;
+        let ours = ours.map_err(|why| why.number);
         if ours.is_ok() || ours == Err(21) {
             let text = std::str::from_utf8(key).expect("accepted");
             let rust = self.rust.insert_table(table as usize, text, guest as usize);
@@ -258,9 +260,10 @@ impl State {
         tally.same(Who::Document, "image passes", &ours::check(image, start, end), &Ok(None), String::new)?;
         let items = &self.paper.tables[table].items;
         for (key, held) in items {
-            let found = match ours::get(image, start, end, key) {
+            let place = ours::get(image, start, end, key);
+            let found = match place {
                 Ok((from, to)) => Ok(Held::Value(image[from as usize..to as usize].to_vec())),
-                Err(number) => Err(number),
+                Err(_) => Err(number(&place)),
             };
             let expected = if matches!(held, Held::Value(_)) { Ok(held.clone()) } else { Err(13) };
             tally.same(Who::Document, "image reads back", &found, &expected, || hex(key))?;

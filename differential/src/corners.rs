@@ -4,7 +4,7 @@ use crate::document;
 use crate::ffi::{memory_words, MAX_FILE};
 use crate::lent::{File, Memory};
 use crate::ours;
-use crate::tally::{Outcome, Tally};
+use crate::tally::{Outcome, Tally, Why};
 use crate::theirs;
 use gvdb::write::{FileWriter, HashTableBuilder};
 use std::process::{Command, Stdio};
@@ -79,11 +79,11 @@ fn loops_of_parents() {
     assert!(never_answers());
     let empty = File::new(&own_parent(b"", 5381));
     assert_eq!(empty.bytes().len(), 60);
-    assert_eq!((ours::get(empty.bytes(), 24, 60, b""), ours::key(empty.bytes(), 24, 60, 0, 9)), (Err(12), Err(11)));
-    assert_eq!(theirs::with_root(empty.bytes(), |opened| theirs::keys(opened.expect("opens"))), [Err(11)]);
+    assert_eq!((ours::get(empty.bytes(), 24, 60, b""), ours::key(empty.bytes(), 24, 60, 0, 9)), (Err(12.into()), Err(11.into())));
+    assert_eq!(theirs::with_root(empty.bytes(), |opened| theirs::keys(opened.expect("opens"))), [Err(11.into())]);
     let full = File::new(&own_parent(b"a", document::hash(b"a")));
-    assert_eq!((ours::get(full.bytes(), 24, 60, b"a"), ours::key(full.bytes(), 24, 60, 0, 9)), (Err(12), Err(11)));
-    assert_eq!(theirs::with_root(full.bytes(), |opened| theirs::get(full.bytes(), opened.expect("opens"), "a")), Err(12));
+    assert_eq!((ours::get(full.bytes(), 24, 60, b"a"), ours::key(full.bytes(), 24, 60, 0, 9)), (Err(12.into()), Err(11.into())));
+    assert_eq!(theirs::with_root(full.bytes(), |opened| theirs::get(full.bytes(), opened.expect("opens"), "a")), Err(12.into()));
 }
 
 fn builder(room: usize) -> (Memory, theirs::Builder) {
@@ -99,11 +99,12 @@ fn small_ones() {
     let (mut memory, mut rust) = builder(2);
     assert_eq!((memory.insert(0, b"a", b""), rust.insert(0, "a", b"")), (Ok(0), Ok(1)));
     assert_eq!((memory.insert(0, b"a", b"v"), rust.insert(0, "a", b"v")), (Ok(118), Ok(1)));
-    assert_eq!((memory.insert(0, b"a", b"v"), rust.insert(0, "a", b"v")), (Err(23), Ok(1)));
-    assert_eq!(memory.insert(0, b"\xff", b""), Err(8));
+    assert_eq!((memory.insert(0, b"a", b"v"), rust.insert(0, "a", b"v")), (Err(23.into()), Ok(1)));
+    assert_eq!(memory.insert(0, b"\xff", b""), Err(Why { number: 8, at: 0 }));
+    assert_eq!(memory.insert(0, b"caf\xe9", b""), Err(Why { number: 8, at: 3 }));
     let (image, end) = memory.write(0, 999).expect("an image");
-    assert_eq!((ours::key(&image, 24, end, 0, 1), ours::key(&image, 24, end, 0, 0)), (Ok(b"a".to_vec()), Err(14)));
-    assert_eq!(ours::get(&image, 24, end, b"\xff"), Err(8));
+    assert_eq!((ours::key(&image, 24, end, 0, 1), ours::key(&image, 24, end, 0, 0)), (Ok(b"a".to_vec()), Err(14.into())));
+    assert_eq!(ours::get(&image, 24, end, b"caf\xe9"), Err(Why { number: 8, at: 3 }));
 }
 
 /// The header of an image, which a call of its own lays, a buffer that is too short for it, and a builder that goes on after a write.

@@ -6,7 +6,7 @@ use crate::ffi::{memory_words, MAX_ITEMS, MAX_KEY, MAX_NESTING, MAX_TABLES};
 use crate::lent::Memory;
 use crate::make;
 use crate::ours;
-use crate::tally::{Difference, Outcome, Tally, Who};
+use crate::tally::{number, Difference, Outcome, Tally, Who, Why};
 
 /// Where the words of a builder's memory stand: header, tables of 4 words, heads of buckets, items of 12 words, links.
 const TABLES: usize = 8;
@@ -121,12 +121,12 @@ fn any_call(dice: &Dice) -> Call {
 
 /// The number of a call's answer, and the image that it wrote.
 fn answer(memory: &mut Memory, call: &Call, room: usize) -> (u32, Option<(Vec<u8>, u32)>) {
-    let told = |answer: Result<u32, u32>| (answer.err().unwrap_or(0), None);
+    let told = |answer: Result<u32, Why>| (number(&answer), None);
     match call {
-        Call::NewTable(separator) => told(memory.new_table(separator)),
+        Call::NewTable(separator) => told(memory.new_table(separator).map_err(Why::from)),
         Call::Insert(table, key, value) => told(memory.insert(*table, key, value)),
         Call::InsertTable(table, key, guest) => told(memory.insert_table(*table, key, *guest)),
-        Call::Count(table) => told(memory.item_count(*table)),
+        Call::Count(table) => told(memory.item_count(*table).map_err(Why::from)),
         Call::Write(table) => match memory.write(*table, room) {
             Ok(written) => (0, Some(written)),
             Err(number) => (number, None),

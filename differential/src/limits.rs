@@ -75,7 +75,7 @@ fn key_bytes(tally: &mut Tally) -> Outcome {
         limit.only_here(insert(0, key(size), b"v"), 20)?;
     }
     let there = File::new(&limit.state.rust.write(0).expect("an image"));
-    let found = |key: &str| theirs::with_root(there.bytes(), |opened| theirs::get(there.bytes(), opened.expect("opens"), key).err());
+    let found = |key: &str| theirs::with_root(there.bytes(), |opened| theirs::get(there.bytes(), opened.expect("opens"), key).err().map(|why| why.number));
     assert_eq!((found(&key(MAX_KEY + 1)), found(&key(65_537)), found("k")), (None, Some(12), Some(12)));
     limit.read()
 }

@@ -1,6 +1,6 @@
 //! This library, gvdb-rs and a third reading of the documents, asked the same questions in one process.
 //! Use: differential [--lists FOLDER] [--seeds A..B] [--minutes N]. The lists are the oracle's stored questions. A seed is a history of builder calls with its images and damaged copies of them, tables made by hand and
-//! at random, a header, and a builder on garbage memory. With --minutes it goes on from the last seed for that long.
+//! at random, a header, texts that may be no UTF-8, and a builder on garbage memory. With --minutes it goes on from the last seed for that long.
 
 mod building;
 mod corners;
@@ -17,6 +17,7 @@ mod ours;
 mod reading;
 mod stored;
 mod tally;
+mod texts;
 mod theirs;
 
 use building::History;
@@ -157,11 +158,12 @@ impl Run {
         }
     }
 
-    fn header(&mut self, seed: u64, dice: &Dice) {
+    /// What a seed has once, by chance.
+    fn chance(&mut self, seed: u64, dice: &Dice, random: fn(&Dice, &mut Tally) -> Outcome, input: &str) {
         let tally = &mut self.tally;
-        let Err(difference) = caught(|| headers::random(dice, tally)) else { return };
+        let Err(difference) = caught(|| random(dice, tally)) else { return };
         if self.counted() {
-            say(seed, &difference, "a header by chance");
+            say(seed, &difference, input);
         }
     }
 
@@ -190,7 +192,8 @@ impl Run {
         if dice.one_in(12) {
             self.garbage(seed, dice, garbage::slightly);
         }
-        self.header(seed, dice);
+        self.chance(seed, dice, headers::random, "a header by chance");
+        self.chance(seed, dice, texts::random, "texts by chance");
     }
 }
 
@@ -227,6 +230,7 @@ fn all(arguments: Arguments) -> Run {
     run.fixed(limits::show, "a limit is not as it should be");
     run.fixed(headers::show, "a header is not read or laid as it should be");
     run.fixed(garbage::rules, "a write takes memory that breaks a rule");
+    run.fixed(texts::show, "a text is bad elsewhere than is said");
     for list in arguments.lists.iter().flat_map(|folder| std::fs::read_dir(folder).expect("the lists")) {
         run.stored(&std::fs::read_to_string(list.expect("a list").path()).expect("a list"));
     }

@@ -3,7 +3,7 @@
 use crate::document::header::Headed;
 use crate::ffi;
 use crate::lent::{buffer, untouched, Memory};
-use crate::tally::Place;
+use crate::tally::{Broken, Place, Why};
 
 pub fn header(file: &[u8]) -> Headed {
     let header = ffi::read_header(file);
@@ -33,8 +33,19 @@ fn refused<T: PartialEq + std::fmt::Debug>(number: u32, values: T, zeros: T) -> 
     Err(number)
 }
 
+/// The same with an offset, which only these refusals may have.
+fn refused_at<T: PartialEq + std::fmt::Debug>(number: u32, at: usize, said: &[u32], values: T, zeros: T) -> Result<T, Why> {
+    assert!(at == 0 || said.contains(&number), "an offset beside {number}");
+    refused(number, values, zeros).map_err(|number| Why { number, at })
+}
+
 fn place(place: ffi::Place) -> Place {
-    refused(place.number, (place.start, place.end), (0, 0))
+    refused_at(place.number, place.at, &[8], (place.start, place.end), (0, 0))
+}
+
+/// Where a text is bad, or its length.
+pub fn first_bad(text: &[u8]) -> usize {
+    ffi::first_bad(text)
 }
 
 pub fn get(file: &[u8], start: u32, end: u32, key: &[u8]) -> Place {
@@ -46,9 +57,9 @@ pub fn get_table(file: &[u8], start: u32, end: u32, key: &[u8]) -> Place {
 }
 
 /// The key at a position, listed into a buffer of so many bytes.
-pub fn key(file: &[u8], start: u32, end: u32, position: usize, room: usize) -> Result<Vec<u8>, u32> {
+pub fn key(file: &[u8], start: u32, end: u32, position: usize, room: usize) -> Result<Vec<u8>, Why> {
     let (listed, mut bytes) = buffer(room, |out| ffi::next_key(file, start, end, position, out));
-    let size = refused(listed.number, (listed.length, listed.next), (0, 0)).map(|(size, next)| {
+    let size = refused_at(listed.number, listed.at, &[9], (listed.length, listed.next), (0, 0)).map(|(size, next)| {
         assert_eq!(next, position + 1, "the next position");
         size
     });
@@ -67,18 +78,21 @@ pub fn values(file: &[u8], start: u32, end: u32) -> Vec<(usize, Place)> {
             return values;
         }
         assert!(value.index >= position && value.next == value.index + 1, "the next position");
-        values.push((value.index, refused(value.number, (value.start, value.end), (0, 0))));
+        values.push((value.index, refused(value.number, (value.start, value.end), (0, 0)).map_err(Why::from)));
         position = value.next;
     }
 }
 
-/// None for a sound table, or the rule and the item.
-pub fn check(file: &[u8], start: u32, end: u32) -> Result<Option<(u32, usize)>, u32> {
+/// None for a sound table, or the rule, the item and what is said of rule 1.
+pub fn check(file: &[u8], start: u32, end: u32) -> Result<Option<Broken>, u32> {
     let checked = ffi::check(file, start, end);
+    let why = Why { number: checked.why, at: checked.at };
+    assert!(why.at == 0 || why.number == 9, "an offset beside {}", why.number);
     if checked.number == 40 {
-        return Ok(Some((checked.rule, checked.item)));
+        return Ok(Some((checked.rule, checked.item, Some(why).filter(|why| why.number != 0))));
     }
-    refused(checked.number, (checked.rule, checked.item), (0, 0)).map(|_| None)
+    assert_eq!((checked.rule, checked.item, why), (0, 0, Why::from(0)), "values beside no broken rule");
+    refused(checked.number, None, None)
 }
 
 impl Memory {
@@ -91,14 +105,14 @@ impl Memory {
         refused(made.number, made.table, 0)
     }
 
-    pub fn insert(&mut self, table: u32, key: &[u8], value: &[u8]) -> Result<u32, u32> {
+    pub fn insert(&mut self, table: u32, key: &[u8], value: &[u8]) -> Result<u32, Why> {
         let news = self.lend(|words, arena| ffi::insert(words, arena, table, key, value));
-        refused(news.number, news.replaced, 0)
+        refused_at(news.number, news.at, &[8], news.replaced, 0)
     }
 
-    pub fn insert_table(&mut self, table: u32, key: &[u8], guest: u32) -> Result<u32, u32> {
+    pub fn insert_table(&mut self, table: u32, key: &[u8], guest: u32) -> Result<u32, Why> {
         let news = self.lend(|words, arena| ffi::insert_table(words, arena, table, key, guest));
-        refused(news.number, news.replaced, 0)
+        refused_at(news.number, news.at, &[8], news.replaced, 0)
     }
 
     pub fn item_count(&mut self, table: u32) -> Result<u32, u32> {

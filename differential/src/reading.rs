@@ -3,7 +3,7 @@
 use crate::document::read as document;
 use crate::lent::File;
 use crate::ours;
-use crate::tally::{Outcome, Tally, Who};
+use crate::tally::{number, Outcome, Tally, Who, Why};
 use crate::theirs;
 use gvdb::read::HashTable;
 
@@ -78,24 +78,24 @@ impl Case {
         tally.same(Who::Document, "open", &ours, &parts, String::new)?;
         let check = ours::check(bytes, start, end);
         match check {
-            Ok(Some((rule, _))) => tally.rule(rule),
+            Ok(Some((rule, _, why))) => tally.rule(rule, why),
             Ok(None) => tally.number(0),
             Err(number) => tally.number(number),
         }
         tally.same(Who::Document, "check", &check, &paper.as_ref().map(|table| table.check()).map_err(|number| *number), String::new)?;
         for key in keys {
             let place = ours::get(bytes, start, end, key);
-            tally.number(place.err().unwrap_or(0));
-            let other = paper.as_ref().map_err(|number| *number);
+            tally.number(number(&place));
+            let other = paper.as_ref().map_err(|number| Why::from(*number));
             tally.same(Who::Document, "get", &place, &other.and_then(|table| table.get(key)), || hex(key))?;
             let nested = ours::get_table(bytes, start, end, key);
-            tally.number(nested.err().unwrap_or(0));
+            tally.number(number(&nested));
             tally.same(Who::Document, "get table", &nested, &other.and_then(|table| table.get_table(key)), || hex(key))?;
         }
         match paper {
             Ok(table) => self.lists_with_document(tally, bytes, &table),
             Err(number) => {
-                tally.same(Who::Document, "keys", &ours::key(bytes, start, end, 0, 8), &Err(number), String::new)?;
+                tally.same(Who::Document, "keys", &ours::key(bytes, start, end, 0, 8), &Err(Why::from(number)), String::new)?;
                 tally.same(Who::Document, "values", &crate::ffi::next_value(bytes, start, end, 0).number, &number, String::new)
             }
         }
@@ -108,20 +108,20 @@ impl Case {
             let key = table.key(index);
             let size = key.as_ref().map_or(0, Vec::len);
             let ours = ask(index, size + 16);
-            tally.number(*ours.as_ref().err().unwrap_or(&0));
+            tally.number(number(&ours));
             tally.same(Who::Document, "keys", &ours, &key, || format!("item {index}"))?;
             tally.same(Who::Document, "keys", &ask(index, size), &key, || format!("item {index}, exact room"))?;
             if size > 0 {
                 tally.number(14);
-                tally.same(Who::Document, "keys", &ask(index, size - 1), &Err(14), || format!("item {index}, a byte too few"))?;
+                tally.same(Who::Document, "keys", &ask(index, size - 1), &Err(Why::from(14)), || format!("item {index}, a byte too few"))?;
             }
         }
         tally.number(15);
-        tally.same(Who::Document, "keys", &ask(table.count, 64), &Err(15), || "past the last".into())?;
-        tally.same(Who::Document, "keys", &ask(usize::MAX, 64), &Err(15), || "far past the last".into())?;
+        tally.same(Who::Document, "keys", &ask(table.count, 64), &Err(Why::from(15)), || "past the last".into())?;
+        tally.same(Who::Document, "keys", &ask(usize::MAX, 64), &Err(Why::from(15)), || "far past the last".into())?;
         tally.same(Who::Document, "values", &crate::ffi::next_value(bytes, self.start, self.end, usize::MAX).number, &15, || "far past the last".into())?;
         let values = ours::values(bytes, self.start, self.end);
-        values.iter().for_each(|(_, place)| tally.number(place.err().unwrap_or(0)));
+        values.iter().for_each(|(_, place)| tally.number(number(place)));
         tally.same(Who::Document, "values", &values, &table.values(), String::new)
     }
 
@@ -147,7 +147,7 @@ impl Case {
             }
             let place = ours::get(bytes, self.start, self.end, key);
             tally.same(Who::Rust, "get", &place, &theirs::get(bytes, table, text), || hex(key))?;
-            let nested = theirs::as_theirs(ours::get_table(bytes, self.start, self.end, key));
+            let nested = theirs::place_as_theirs(ours::get_table(bytes, self.start, self.end, key));
             tally.same(Who::Rust, "get table", &nested, &theirs::get_table(table, text), || hex(key))?;
         }
         Ok(())

@@ -8,6 +8,8 @@ use std::fmt::Debug;
 pub enum Who {
     Rust,
     Document,
+    /// `Utf8Error::valid_up_to` of Rust's own library.
+    Std,
 }
 
 impl Who {
@@ -15,6 +17,7 @@ impl Who {
         match self {
             Who::Rust => "gvdb-rs",
             Who::Document => "the documents",
+            Who::Std => "Rust's from_utf8",
         }
     }
 }
@@ -27,8 +30,29 @@ pub struct Difference {
     pub theirs: String,
 }
 
-/// Start and end of a stretch of a file, or the number of a refusal.
-pub type Place = Result<(u32, u32), u32>;
+/// A refusal: its number, and with 8 and 9 where the text is bad.
+#[derive(Clone, Copy, PartialEq, Eq, Debug)]
+pub struct Why {
+    pub number: u32,
+    pub at: usize,
+}
+
+impl From<u32> for Why {
+    fn from(number: u32) -> Why {
+        Why { number, at: 0 }
+    }
+}
+
+/// The number of an answer.
+pub fn number<T>(answer: &Result<T, Why>) -> u32 {
+    answer.as_ref().err().map_or(0, |why| why.number)
+}
+
+/// Start and end of a stretch of a file, or a refusal.
+pub type Place = Result<(u32, u32), Why>;
+
+/// The first broken rule of a table, the item that breaks it, and for rule 1 with what listing that item ends.
+pub type Broken = (u32, usize, Option<Why>);
 
 pub type Outcome = Result<(), Difference>;
 
@@ -37,6 +61,7 @@ pub struct Tally {
     counts: BTreeMap<(Who, &'static str), u64>,
     numbers: BTreeMap<u32, u64>,
     rules: BTreeMap<u32, u64>,
+    whys: BTreeMap<u32, u64>,
     alone: BTreeMap<&'static str, u64>,
 }
 
@@ -55,10 +80,13 @@ impl Tally {
         *self.numbers.entry(number).or_default() += 1;
     }
 
-    /// Counts a rule of the check that was broken.
-    pub fn rule(&mut self, rule: u32) {
+    /// Counts a rule of the check that was broken, and what is said of rule 1.
+    pub fn rule(&mut self, rule: u32, why: Option<Why>) {
         self.number(40);
         *self.rules.entry(rule).or_default() += 1;
+        if let Some(why) = why {
+            *self.whys.entry(why.number).or_default() += 1;
+        }
     }
 
     /// Counts a case that gvdb-rs cannot be asked.
@@ -71,13 +99,13 @@ impl Tally {
     }
 
     pub fn print(&self) {
-        for who in [Who::Rust, Who::Document] {
+        for who in [Who::Rust, Who::Document, Who::Std] {
             let list: Vec<String> = self.counts.iter().filter(|((w, _), _)| *w == who).map(|((_, kind), count)| format!("{kind} {count}")).collect();
             println!("compared with {}: {}", who.name(), list.join(", "));
         }
         let list: Vec<String> = self.alone.iter().map(|(what, count)| format!("{what} {count}")).collect();
         println!("here alone: {}", list.join(", "));
         let listed = |map: &BTreeMap<u32, u64>| map.iter().map(|(number, count)| format!("{number}: {count}")).collect::<Vec<_>>().join(", ");
-        println!("our answers by number: {}; rules broken with 40: {}", listed(&self.numbers), listed(&self.rules));
+        println!("our answers by number: {}; rules broken with 40: {}; said of rule 1: {}", listed(&self.numbers), listed(&self.rules), listed(&self.whys));
     }
 }

@@ -1,7 +1,7 @@
 //! gvdb-rs's answers, with the documents' numbers for its errors.
 
 use crate::document::header::Headed;
-use crate::tally::Place;
+use crate::tally::{Place, Why};
 use gvdb::read::{oracle as raw, Error, File, HashTable};
 use gvdb::write::{FileWriter, HashTableBuilder};
 use std::borrow::Cow;
@@ -29,9 +29,28 @@ fn number(error: &Error) -> u32 {
     }
 }
 
+/// A refusal of gvdb-rs. Of a fragment it says the offset too: its error has that of `str::from_utf8`.
+fn why(error: Error) -> Why {
+    let at = if let Error::Utf8(error) = &error { error.valid_up_to() } else { 0 };
+    Why { number: number(&error), at }
+}
+
 /// Our answer with 5 and 6 as gvdb-rs has them.
 pub fn as_theirs<T>(ours: Result<T, u32>) -> Result<T, u32> {
-    ours.map_err(|number| if number == 5 || number == 6 { FIVE_OR_SIX } else { number })
+    ours.map_err(five_or_six)
+}
+
+fn five_or_six(number: u32) -> u32 {
+    if number == 5 || number == 6 {
+        FIVE_OR_SIX
+    } else {
+        number
+    }
+}
+
+/// The same for the place of a nested table.
+pub fn place_as_theirs(ours: Place) -> Place {
+    ours.map_err(|why| Why { number: five_or_six(why.number), ..why })
 }
 
 /// What gvdb-rs makes of a header, which it does not hand out: the byte order is what a file prints of itself. A file prints its whole root table too, so this is asked
@@ -62,22 +81,22 @@ fn place(bytes: &[u8], at: usize, size: usize) -> (u32, u32) {
 }
 
 pub fn get(bytes: &[u8], table: &HashTable, key: &str) -> Place {
-    raw::raw_value(table, key).map(|(at, size)| place(bytes, at, size)).map_err(|error| number(&error))
+    raw::raw_value(table, key).map(|(at, size)| place(bytes, at, size)).map_err(why)
 }
 
 pub fn get_table(table: &HashTable, key: &str) -> Place {
-    table.get_hash_table(key).map_err(|error| number(&error))?;
+    table.get_hash_table(key).map_err(why)?;
     let item = raw::item(table, key).expect("found before");
     let word = |at: usize| u32::from_le_bytes(item[at..at + 4].try_into().expect("four bytes"));
     Ok((word(16), word(20)))
 }
 
-pub fn keys(table: &HashTable) -> Vec<Result<Vec<u8>, u32>> {
-    table.keys().map(|key| key.map(String::into_bytes).map_err(|error| number(&error))).collect()
+pub fn keys(table: &HashTable) -> Vec<Result<Vec<u8>, Why>> {
+    table.keys().map(|key| key.map(String::into_bytes).map_err(why)).collect()
 }
 
 pub fn values(bytes: &[u8], table: &HashTable) -> Vec<Place> {
-    raw::raw_values(table).into_iter().map(|value| value.map(|(at, size)| place(bytes, at, size)).map_err(|error| number(&error))).collect()
+    raw::raw_values(table).into_iter().map(|value| value.map(|(at, size)| place(bytes, at, size)).map_err(why)).collect()
 }
 
 /// An accepted insert.

@@ -3,7 +3,7 @@
 
 mod ffi;
 
-use ffi::{abi, check, get, get_table, lay_header, memory_words, next_key, next_value, open, read_header, Builder, ABI};
+use ffi::{abi, check, first_bad, get, get_table, lay_header, memory_words, next_key, next_value, open, read_header, Builder, ABI};
 use std::process::{Command, Stdio};
 
 const HEADER: &str = include_str!("../../bindings/c/gvdb.h");
@@ -56,6 +56,7 @@ fn make(call: &str, kib: usize) {
         "gvdb_abi" => u32::from(abi() != ABI),
         "gvdb_read_header" => read_header(&image).number,
         "gvdb_lay_header" => lay_header(&mut image, 1, start, end),
+        "gvdb_first_bad" => u32::from(first_bad(&key) != key.len()),
         "gvdb_open" => open(&image, start, end).number,
         "gvdb_get" => get(&image, start, end, &key).number,
         "gvdb_get_table" => get_table(&image, start, end, b"t").number,

@@ -3,7 +3,7 @@
 use crate::ffi;
 use crate::header::{ByteOrder, Header};
 use crate::limits::{MAX_FILE, MAX_ITEMS, MAX_TABLES};
-use crate::refusal::{accepted, Refusal};
+use crate::refusal::{accepted, accepted_at, Refusal};
 use crate::table::Pointer;
 use std::fmt;
 
@@ -170,7 +170,7 @@ impl fmt::Debug for Builder {
 }
 
 fn outcome(answer: ffi::Inserted) -> Result<Inserted, Refusal> {
-    accepted(answer.number)?;
+    accepted_at(answer.number, answer.at)?;
     Ok(match u8::try_from(answer.replaced) {
         Ok(0) => Inserted::New,
         Ok(b'H') => Inserted::Replaced(Kind::Table),

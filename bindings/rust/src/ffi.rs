@@ -3,7 +3,7 @@
 #![allow(unsafe_code)]
 
 /// The number of the interface that this crate is written for, `GVDB_ABI` of gvdb.h. The build holds it to that and to the library's.
-pub const ABI: u32 = 2;
+pub const ABI: u32 = 3;
 
 #[repr(C)]
 pub struct Headed {
@@ -26,6 +26,7 @@ pub struct Place {
     pub number: u32,
     pub start: u32,
     pub end: u32,
+    pub at: usize,
 }
 
 #[repr(C)]
@@ -33,6 +34,7 @@ pub struct Key {
     pub number: u32,
     pub length: usize,
     pub next: usize,
+    pub at: usize,
 }
 
 #[repr(C)]
@@ -49,6 +51,8 @@ pub struct Checked {
     pub number: u32,
     pub rule: u32,
     pub item: usize,
+    pub why: u32,
+    pub at: usize,
 }
 
 #[repr(C)]
@@ -61,6 +65,7 @@ pub struct Numbered {
 pub struct Inserted {
     pub number: u32,
     pub replaced: u32,
+    pub at: usize,
 }
 
 #[repr(C)]
@@ -81,6 +86,7 @@ extern "C" {
     fn gvdb_abi() -> u32;
     fn gvdb_read_header(file: *const u8, size: usize) -> Headed;
     fn gvdb_lay_header(target: *mut u8, size: usize, big: u32, start: u32, end: u32) -> u32;
+    fn gvdb_first_bad(text: *const u8, length: usize) -> usize;
     fn gvdb_open(file: *const u8, size: usize, start: u32, end: u32) -> Opened;
     fn gvdb_get(file: *const u8, size: usize, start: u32, end: u32, key: *const u8, length: usize) -> Place;
     fn gvdb_get_table(file: *const u8, size: usize, start: u32, end: u32, key: *const u8, length: usize) -> Place;
@@ -118,6 +124,10 @@ pub fn read_header(file: &[u8]) -> Headed {
 
 pub fn lay_header(target: &mut [u8], big: u32, start: u32, end: u32) -> u32 {
     unsafe { gvdb_lay_header(target.as_mut_ptr(), target.len(), big, start, end) }
+}
+
+pub fn first_bad(text: &[u8]) -> usize {
+    unsafe { gvdb_first_bad(text.as_ptr(), text.len()) }
 }
 
 pub fn open(file: &[u8], start: u32, end: u32) -> Opened {

@@ -5,7 +5,7 @@
 //!   [`check`](Table::check).
 //! - [`Builder`] builds and lays: [`insert`](Builder::insert), [`insert_table`](Builder::insert_table),
 //!   [`write`](Builder::write), and a whole file by [`write_file`](Builder::write_file).
-//! - [`Refusal`] says why a call was refused, by the number of documents 01 and 02. No bytes, pointer, key or order of calls can make a call fail otherwise.
+//! - [`Refusal`] says why a call was refused, by the number of documents 01 and 02, and where a text is not UTF-8, as [`first_bad`] does. No bytes, pointer, key or order of calls can make a call fail otherwise.
 //!
 //! ```
 //! use gvdb::{Builder, ByteOrder, Header, Inserted, Table};
@@ -54,6 +54,7 @@ mod header;
 mod limits;
 mod refusal;
 mod table;
+mod text;
 
 pub use builder::{Builder, Image, Inserted, Kind, TableNumber};
 pub use ffi::{abi, ABI};
@@ -61,3 +62,4 @@ pub use header::{ByteOrder, Header};
 pub use limits::{MAX_FILE, MAX_ITEMS, MAX_KEY, MAX_NESTING, MAX_TABLES};
 pub use refusal::{Refusal, Unsound};
 pub use table::{Entries, Entry, Item, Keys, Pointer, Table, Tables, Values};
+pub use text::first_bad;

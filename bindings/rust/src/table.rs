@@ -1,7 +1,7 @@
 //! Reading: a table of a file, its items, and the check.
 
 use crate::ffi;
-use crate::refusal::{accepted, Refusal, Unsound};
+use crate::refusal::{accepted, accepted_at, Refusal, Unsound};
 use std::fmt;
 
 /// The longest key that a listing has room for. A longer one is refused with 14; only a file whose fragments overlap has one.
@@ -33,6 +33,7 @@ pub struct Pointer {
 /// assert_eq!(table.get("/parcel/12/year"), Ok(&[0xE9, 0x07][..]));
 /// assert_eq!(table.get("/parcel/13/year"), Err(Refusal::KeyNotFound));
 /// assert_eq!(table.get("/parcel/12/"), Err(Refusal::OtherKind)); // a container
+/// assert_eq!(table.get(b"/parcel/\xE9"), Err(Refusal::KeyNotUtf8 { at: 8 }));
 /// assert_eq!(table.len(), 4); // "/", "/parcel/", "/parcel/12/" and the value
 /// assert_eq!(table.check(), Ok(()));
 ///
@@ -85,14 +86,14 @@ impl<'a> Table<'a> {
     /// The value at a key: a part of the file. Refusals: 8, 12, 13, then 2 or 3 of the value's pointer.
     pub fn get(&self, key: impl AsRef<[u8]>) -> Result<&'a [u8], Refusal> {
         let place = ffi::get(self.file, self.pointer.start, self.pointer.end, key.as_ref());
-        accepted(place.number)?;
+        accepted_at(place.number, place.at)?;
         self.part(place.start, place.end)
     }
 
     /// The nested table at a key. Refusals: 8, 12, 13, then 2 to 7 of the nested table.
     pub fn get_table(&self, key: impl AsRef<[u8]>) -> Result<Table<'a>, Refusal> {
         let place = ffi::get_table(self.file, self.pointer.start, self.pointer.end, key.as_ref());
-        accepted(place.number)?;
+        accepted_at(place.number, place.at)?;
         Table::open(self.file, place.start, place.end)
     }
 
@@ -192,28 +193,33 @@ impl<'a> Table<'a> {
         Tables { entries: self.entries() }
     }
 
-    /// The table check: whether every item keeps the six rules; else the first item that breaks one, and its first broken rule.
-    /// It covers this table; nested ones are checked by themselves.
+    /// The table check: whether every item keeps the six rules; else the first item that breaks one, its first broken rule, and for rule 1 what listing that
+    /// item refuses with. It covers this table; nested ones are checked by themselves.
     ///
     /// ```
     /// # use gvdb::{Builder, Refusal, Table, Unsound};
     /// # fn main() -> Result<(), Refusal> {
     /// # let mut builder = Builder::new(4096);
     /// # let root = builder.new_table(None)?;
-    /// # builder.insert(root, "a", [1, 2])?;
+    /// # builder.insert(root, "cafe", [1, 2])?;
     /// # let mut image = builder.write(root)?;
     /// image.bytes[50] = b'x'; // the kind of the first item
     /// let table = Table::open(&image.bytes, image.root.start, image.root.end)?;
-    /// assert_eq!(table.check(), Err(Unsound { rule: 3, item: 0 }));
+    /// assert_eq!(table.check(), Err(Unsound { rule: 3, item: 0, why: None }));
+    ///
+    /// image.bytes[63] = 0xE9; // the last byte of its key, "cafe"
+    /// let table = Table::open(&image.bytes, image.root.start, image.root.end)?;
+    /// let why = Refusal::FragmentNotUtf8 { at: 3 };
+    /// assert_eq!(table.check(), Err(Unsound { rule: 1, item: 0, why: Some(why) }));
+    /// assert_eq!(table.key_at(0), Err(why));
     /// # Ok(())
     /// # }
     /// ```
     pub fn check(&self) -> Result<(), Unsound> {
         let checked = ffi::check(self.file, self.pointer.start, self.pointer.end);
-        match accepted(checked.number) {
-            Ok(()) => Ok(()),
-            Err(Refusal::CheckBroken) => Err(Unsound { rule: checked.rule, item: checked.item }),
-            Err(refusal) => unreachable!("the table is open, and the check says {refusal}"),
+        match checked.number {
+            0 => Ok(()),
+            _ => Err(Unsound::of(&checked)),
         }
     }
 
@@ -226,13 +232,16 @@ impl<'a> Table<'a> {
     fn key_in(&self, index: usize, buffer: &mut Vec<u8>) -> Result<String, Refusal> {
         loop {
             let key = ffi::next_key(self.file, self.pointer.start, self.pointer.end, index, buffer);
-            match accepted(key.number) {
+            match accepted_at(key.number, key.at) {
                 Err(Refusal::BufferTooShort) if buffer.len() < KEY_ROOM => {
                     let room = (buffer.len() * 2).clamp(crate::MAX_KEY, KEY_ROOM);
                     buffer.resize(room, 0);
                 }
                 Err(refusal) => return Err(refusal),
-                Ok(()) => return String::from_utf8(buffer[..key.length].to_vec()).map_err(|_| Refusal::FragmentNotUtf8),
+                Ok(()) => {
+                    let text = String::from_utf8(buffer[..key.length].to_vec());
+                    return text.map_err(|error| Refusal::FragmentNotUtf8 { at: error.utf8_error().valid_up_to() });
+                }
             }
         }
     }
@@ -302,13 +311,16 @@ impl<'a> Iterator for ValuePlaces<'a> {
 
     fn next(&mut self) -> Option<Self::Item> {
         let Table { file, pointer, .. } = self.table;
+        if self.position >= self.table.len() {
+            return None;
+        }
         let value = ffi::next_value(file, pointer.start, pointer.end, self.position);
         let bytes = match accepted(value.number) {
             Err(Refusal::PastTheLast) => return None,
             Err(refusal) => Err(refusal),
             Ok(()) => self.table.part(value.start, value.end),
         };
-        self.position = value.next;
+        self.position = value.next.max(self.position + 1);
         Some((value.index, bytes))
     }
 }

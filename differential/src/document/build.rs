@@ -1,6 +1,8 @@
 //! The builder: what each call answers, from what was accepted before.
 
+use super::read::utf8;
 use crate::ffi::{MAX_ITEMS, MAX_KEY, MAX_NESTING, MAX_TABLES};
+use crate::tally::Why;
 use std::collections::BTreeMap;
 
 #[derive(Clone, PartialEq, Eq, Debug)]
@@ -67,15 +69,15 @@ impl Builder {
     }
 
     /// 8, 20, 21.
-    fn path<'k>(&self, table: usize, key: &'k [u8]) -> Result<Vec<&'k [u8]>, u32> {
-        std::str::from_utf8(key).map_err(|_| 8u32)?;
+    fn path<'k>(&self, table: usize, key: &'k [u8]) -> Result<Vec<&'k [u8]>, Why> {
+        utf8(key, 8)?;
         if key.len() > MAX_KEY {
-            return Err(20);
+            return Err(Why::from(20));
         }
         let path = prefixes(key, self.tables[table].separator);
         let other = |prefix: &&&[u8]| self.tables[table].items.get(**prefix).is_some_and(|held| *held != Held::Container);
         match path[..path.len() - 1].iter().find(other) {
-            Some(_) => Err(21),
+            Some(_) => Err(Why::from(21)),
             None => Ok(path),
         }
     }
@@ -107,22 +109,22 @@ impl Builder {
     }
 
     /// 24, 8, 20, 21, 22, 23.
-    pub fn insert(&mut self, table: u32, key: &[u8], value: &[u8]) -> Result<u32, u32> {
+    pub fn insert(&mut self, table: u32, key: &[u8], value: &[u8]) -> Result<u32, Why> {
         let table = self.usable(table)?;
         let path = self.path(table, key)?;
-        self.news(table, path, Held::Value(value.to_vec()))
+        Ok(self.news(table, path, Held::Value(value.to_vec()))?)
     }
 
     /// 24 for the receiver, 24 for the guest, 25, 8, 20, 21, 26, 22, 23.
-    pub fn insert_table(&mut self, table: u32, key: &[u8], guest: u32) -> Result<u32, u32> {
+    pub fn insert_table(&mut self, table: u32, key: &[u8], guest: u32) -> Result<u32, Why> {
         let table = self.usable(table)?;
         let guest = self.usable(guest)?;
         if table == guest {
-            return Err(25);
+            return Err(Why::from(25));
         }
         let path = self.path(table, key)?;
         if self.height(guest) + 1 > MAX_NESTING {
-            return Err(26);
+            return Err(Why::from(26));
         }
         let news = self.news(table, path, Held::Table(guest))?;
         self.tables[guest].placed = true;

@@ -2,7 +2,7 @@
 
 use super::hash;
 use crate::ffi::MAX_FILE;
-use crate::tally::Place;
+use crate::tally::{Broken, Place, Why};
 
 const ROOT: u32 = u32::MAX;
 
@@ -26,6 +26,14 @@ fn pointer(file: &[u8], start: usize, end: usize, alignment: usize) -> Result<()
         return Err(2);
     }
     Ok(())
+}
+
+/// A text, or the number of its refusal with the offset of the first sequence that RFC 3629 does not allow.
+pub fn utf8(text: &[u8], number: u32) -> Result<&[u8], Why> {
+    match std::str::from_utf8(text) {
+        Ok(_) => Ok(text),
+        Err(error) => Err(Why { number, at: error.valid_up_to() }),
+    }
 }
 
 pub struct Table<'f> {
@@ -85,18 +93,15 @@ impl<'f> Table<'f> {
     }
 
     /// 2, then 9.
-    fn fragment(&self, index: usize) -> Result<&'f [u8], u32> {
+    fn fragment(&self, index: usize) -> Result<&'f [u8], Why> {
         let start = word(self.file, self.item(index) + 8) as usize;
         let end = start + half(self.file, self.item(index) + 12) as usize;
         pointer(self.file, start, end, 1)?;
-        match std::str::from_utf8(&self.file[start..end]) {
-            Ok(text) => Ok(text.as_bytes()),
-            Err(_) => Err(9),
-        }
+        utf8(&self.file[start..end], 9)
     }
 
     /// The key of an item: 2, 9, 10 from the item towards the root, 11 where that never ends.
-    pub fn key(&self, index: usize) -> Result<Vec<u8>, u32> {
+    pub fn key(&self, index: usize) -> Result<Vec<u8>, Why> {
         let (mut at, mut fragments) = (index, Vec::new());
         for _ in 0..self.count {
             fragments.push(self.fragment(at)?);
@@ -105,11 +110,11 @@ impl<'f> Table<'f> {
                     fragments.reverse();
                     return Ok(fragments.concat());
                 }
-                parent if parent as usize >= self.count => return Err(10),
+                parent if parent as usize >= self.count => return Err(Why::from(10)),
                 parent => at = parent as usize,
             }
         }
-        Err(11)
+        Err(Why::from(11))
     }
 
     /// The items whose hashes are compared for a key.
@@ -136,16 +141,17 @@ impl<'f> Table<'f> {
     }
 
     fn found(&self, key: &[u8], kind: u8) -> Place {
-        std::str::from_utf8(key).map_err(|_| 8u32)?;
+        utf8(key, 8)?;
         let index = self.find(key).ok_or(12u32)?;
         if self.kind(index) != kind {
-            return Err(13);
+            return Err(Why::from(13));
         }
         Ok(self.value(index))
     }
 
     fn value_opens(&self, (start, end): (u32, u32)) -> Place {
-        pointer(self.file, start as usize, end as usize, 8).map(|()| (start, end))
+        pointer(self.file, start as usize, end as usize, 8)?;
+        Ok((start, end))
     }
 
     pub fn get(&self, key: &[u8]) -> Place {
@@ -154,7 +160,8 @@ impl<'f> Table<'f> {
 
     pub fn get_table(&self, key: &[u8]) -> Place {
         let (start, end) = self.found(key, b'H')?;
-        open(self.file, start, end).map(|_| (start, end))
+        open(self.file, start, end)?;
+        Ok((start, end))
     }
 
     /// Each item of kind 'v', with its place or 2 or 3.
@@ -225,10 +232,9 @@ impl<'f> Table<'f> {
         self.kind(parent) == b'L' && self.keeps_four(parent) && self.children(parent).contains(&(index as u32))
     }
 
-    /// The first rule that an item breaks.
-    fn broken(&self, index: usize) -> Option<u32> {
-        let Ok(key) = self.key(index) else { return Some(1) };
-        if self.find(&key) != Some(index) {
+    /// The first rule that an item breaks, but for the first rule, which `check` asks.
+    fn broken(&self, index: usize, key: &[u8]) -> Option<u32> {
+        if self.find(key) != Some(index) {
             return Some(2);
         }
         if !b"vHL".contains(&self.kind(index)) {
@@ -246,8 +252,11 @@ impl<'f> Table<'f> {
         None
     }
 
-    /// The first item that breaks a rule, with its first broken rule.
-    pub fn check(&self) -> Option<(u32, usize)> {
-        (0..self.count).find_map(|index| self.broken(index).map(|rule| (rule, index)))
+    /// The first item that breaks a rule, with its first broken rule; where its key does not list, with what listing says.
+    pub fn check(&self) -> Option<Broken> {
+        (0..self.count).find_map(|index| match self.key(index) {
+            Ok(key) => self.broken(index, &key).map(|rule| (rule, index, None)),
+            Err(why) => Some((1, index, Some(why))),
+        })
     }
 }
