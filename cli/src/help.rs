@@ -30,9 +30,10 @@ Checks each table of each file, nested ones too, against six rules: (1) the key 
 item reads, (2) a lookup of it finds the item, (3) its kind is known, (4) its value opens,
 (5) a container's children are there, name it and stand once, (6) the parent of an item is
 a container that lists it. Of a table that is not sound the first broken rule is told, as
-soon as it is found. Exit status: 0 all sound, 1 one is not, 2 one cannot be read.
+soon as it is found; of rule 1 why the key does not read, and at which byte of its fragment
+it is not UTF-8. Exit status: 0 all sound, 1 one is not, 2 one cannot be read.
 
-    --json    one list, with an object for each file
+    --json    one list, with an object for each file; `why` and `at` are those of rule 1
 
     gvdb check owners/*.gvdb
 ";
@@ -171,8 +172,9 @@ Lays a file from lines on standard input, as `gvdb dump --help` describes them. 
 plays no part. A key that stands twice is refused, and so is one that is both a value and a
 table, and a container that cannot be laid. Empty lines are passed over. Input without a
 line of content, with a byte order mark, or whose last line has no end is refused: it may be
-cut, or no such lines. OUT is checked and read back before it is put in place; what changed
-there since the run began refuses it.
+cut, or no such lines. Keys are UTF-8: of another the line and the byte are told, and a list
+in Latin-1 is turned by iconv -f latin1 -t utf8. OUT is checked and read back before it is
+put in place; what changed there since the run began refuses it.
 
     -o OUT           the file to write; - is standard output
     --replace        OUT may be there: each value of it that the new one does not have is named

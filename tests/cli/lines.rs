@@ -99,8 +99,8 @@ fn lines_that_are_refused() {
         (b"a\t 01\n", 2, "line 1: the value is neither"),
         (b"a\\q\t01\n", 2, "line 1: a backslash"),
         (b"a\\x1\t01\n", 2, "line 1: \\x wants"),
-        (b"\xff\t01\n", 1, "line 1: the given key is not UTF-8"),
-        (b"\\xff\t01\n", 1, "line 1: the given key is not UTF-8"),
+        (b"\xff\t01\n", 1, "line 1: the key is not UTF-8 at byte 0 (FF); if the list is in Latin-1"),
+        (b"\\xff\t01\n", 1, "line 1: the key is not UTF-8 at byte 0 (FF); its escapes"),
         (b"a\t01\n\t01\n", 1, "line 2: key \"\": an item has the empty key"),
         (b"a\t01\nt\t\tx\t01\n", 1, "line 2: key \"t\" > \"\": an item has the empty key"),
         (

@@ -19,4 +19,5 @@ mod reading;
 mod script;
 mod tour;
 mod usage;
+mod utf8;
 mod writers;

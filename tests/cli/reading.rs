@@ -75,7 +75,10 @@ value           59  /gvdb/rs/test/test.css
         .says("it is a container; gvdb list FILE KEY shows what is below (13)\n");
     // a table that is not sound is listed as far as it reads, and it is said
     let ran = gvdb(["list".as_ref(), worked("refusals.gvdb").as_os_str()]).ends(0).says("not sound: item 0: its key does not read: ");
-    assert!(ran.text().contains("item 1, whose key does not read: a stored key fragment is not UTF-8 (9)\n") && ran.text().contains("refused        (3)  a\n"));
+    assert!(
+        ran.text().contains("item 1, whose key does not read: a stored key fragment is not UTF-8 at byte 0 (9)\n")
+            && ran.text().contains("refused        (3)  a\n")
+    );
 }
 
 #[test]
@@ -114,7 +117,7 @@ fn get_of_values_and_refusals() {
     get(&["b".as_ref()]).ends(1).says("key \"b\": the table has no such key; gvdb list FILE shows those that are there (12)\n");
     get(&["t".as_ref()]).ends(1).says("key \"t\": it is a table; gvdb list FILE --table KEY shows what it holds (13)\n");
     get(&["x".as_ref(), "--table".as_ref(), "a".as_ref()]).ends(1).says("table \"a\": it is a value; gvdb get FILE KEY writes it (13)\n");
-    get(&[OsStr::from_bytes(b"\xff")]).ends(1).says("key \"\\xff\": the given key is not UTF-8; ");
+    get(&[OsStr::from_bytes(b"\xff")]).ends(1).says("key \"\\xff\": the key is not UTF-8 at byte 0 (FF); ");
 }
 
 #[test]
