@@ -1,6 +1,6 @@
 //! The crate from outside: growth of buffers, items that are passed over, and the refusals.
 
-use gvdb::{Builder, Image, Inserted, Item, Kind, Refusal, Table, MAX_KEY};
+use gvdb::{Builder, Image, Inserted, Item, Kind, Refusal, Table, Unsound, MAX_KEY};
 
 fn flat(entries: &[(&str, &[u8])]) -> Image {
     let mut builder = Builder::new(1 << 20);
@@ -115,6 +115,36 @@ fn other_refusals_of_the_builder() {
     assert_eq!(builder.insert_table(root, "1", root), Err(Refusal::TableInItself));
     for separator in [0, 128] {
         assert_eq!(builder.new_table(Some(separator)), Err(Refusal::SeparatorOutside));
+    }
+}
+
+/// The offset comes with both lookups, both inserts, a listing and the check, of an item's own fragment and of one above.
+#[test]
+fn where_a_text_is_bad() {
+    let worked: [(&[u8], usize); 7] =
+        [(b"caf\xE9", 3), (b"\xE9t\xE9", 0), (b"a\xC3", 1), (b"\xED\xA0\x80", 0), (b"\xF0\x9F\x8C", 0), (b"ok\xC0\x80", 2), (b"\xC3\xA9\xFF", 2)];
+    let mut builder = Builder::new(4096);
+    let (root, guest) = (builder.new_table(Some(b'/')).unwrap(), builder.new_table(None).unwrap());
+    assert_eq!(builder.insert(root, "wood/oaks", "1"), Ok(Inserted::New));
+    let image = builder.write(root).unwrap();
+    for (text, at) in worked {
+        let refusal = Refusal::KeyNotUtf8 { at };
+        assert_eq!(gvdb::first_bad(text), Some(at));
+        assert_eq!((builder.insert(root, text, ""), builder.insert_table(root, text, guest)), (Err(refusal), Err(refusal)));
+        assert_eq!((open(&image).get(text), open(&image).get_table(text).err()), (Err(refusal), Some(refusal)));
+        for fragment in [&b"wood/"[..], b"oaks"] {
+            let mut bad = image.clone();
+            let from = bad.bytes.windows(fragment.len()).position(|part| part == fragment).unwrap();
+            bad.bytes[from..from + fragment.len()].fill(b'.');
+            bad.bytes[from..from + text.len()].copy_from_slice(text);
+            let table = open(&bad);
+            let why = Refusal::FragmentNotUtf8 { at };
+            let item = table.keys().position(|key| key.is_err()).unwrap();
+            assert!(table.keys().filter_map(Result::err).all(|refusal| refusal == why));
+            assert_eq!(table.keys().filter(Result::is_err).count(), if fragment == b"oaks" { 1 } else { 2 });
+            assert_eq!(table.check(), Err(Unsound { rule: 1, item, why: Some(why) }));
+            assert_eq!(table.get("wood/oaks"), Err(Refusal::KeyNotFound));
+        }
     }
 }
 
