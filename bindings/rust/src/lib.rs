@@ -37,6 +37,7 @@
 //! | `HashTableBuilder::insert_table` | [`Builder::insert_table`] | says what was replaced |
 //! | `HashTableBuilder::len` | [`Builder::item_count`] | - |
 //! | `FileWriter::write_to_vec_with_table` | [`Builder::write_file`] | leaves the builder usable |
+//! | `read::Error::Utf8` | [`Refusal::FragmentNotUtf8`], [`Refusal::KeyNotUtf8`] | keys are given as bytes, and may be bad too |
 //! | `FileWriter::for_big_endian` | [`ByteOrder::Big`] | is said of the values, which are already encoded |
 //!
 //! # Building
