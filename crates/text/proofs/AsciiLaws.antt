@@ -20,7 +20,7 @@ use Rattle.text.specs.Utf8.{goodFrom, firstBad, isUtf8, oneMore}
 use Rattle.text.proofs.Utf8Parts.{step-ascii, whole-utf8}
 
 -- ASCII is UTF-8
-ascii-good : (s : List ℕ) → isAscii s ≡ true → goodFrom 0 s ≡ length s
+pub ascii-good : (s : List ℕ) → isAscii s ≡ true → goodFrom 0 s ≡ length s
 unfolding isAscii goodFrom oneMore
 ascii-good [] e = refl
 ascii-good (b ∷ s) e =

@@ -79,8 +79,8 @@ fn step_len(s: &[u8], at: usize) -> usize
     sequence_len(b0, b1, b2, b3)
 }
 
-// Where the first sequence that RFC 3629 does not allow starts, or the length of a valid text.
-pub fn first_bad(s: &[u8]) -> usize
+// The same where it is not known to be ASCII: sequence by sequence.
+fn scan(s: &[u8]) -> usize
     ensures { λ r. ⌜ r ≡ firstBad (now (s .entry)) ⌝ }
 {
     let mut at = 0;
@@ -94,12 +94,19 @@ pub fn first_bad(s: &[u8]) -> usize
     at
 }
 
-// Whether a text is UTF-8. Most are ASCII, which takes less time to tell.
+// Where the first sequence that RFC 3629 does not allow starts, or the length of a valid text. Most texts are ASCII, which takes less time to tell.
+pub fn first_bad(s: &[u8]) -> usize
+    ensures { λ r. ⌜ r ≡ firstBad (now (s .entry)) ⌝ }
+{
+    if is_ascii(s) {
+        return s.len();
+    }
+    scan(s)
+}
+
+// Whether a text is UTF-8.
 pub fn is_utf8(s: &[u8]) -> bool
     ensures { λ r. ⌜ r ≡ isUtf8 (now (s .entry)) ⌝ }
 {
-    if is_ascii(s) {
-        return true;
-    }
     first_bad(s) == s.len()
 }
