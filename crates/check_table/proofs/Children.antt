@@ -43,7 +43,7 @@ key-more file t (suc steps) index k e =
     (λ p above is. key-more file t steps p above is) e
 
 -- an item that reads and names a parent: its key is the parent's with its fragment behind it
-not-refused : (s : Step) (f : List ℕ) (keyAt : ℕ → Joined) {k : List ℕ} → joinStep s f keyAt ≡ Joined.joined k → (why : Refusal) → s ≡ Step.Refused why → ⊥
+pub not-refused : (s : Step) (f : List ℕ) (keyAt : ℕ → Joined) {k : List ℕ} → joinStep s f keyAt ≡ Joined.joined k → (why : Refusal) → s ≡ Step.Refused why → ⊥
 unfolding joinStep
 not-refused s f keyAt e why is =
     let z : joinStep (Step.Refused why) f keyAt ≡ Joined.joined _ = ap (λ (x : Step). joinStep x f keyAt) (sym is) ∙ e in

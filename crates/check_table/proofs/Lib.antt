@@ -11,3 +11,4 @@ pub mod SoundLaws
 pub mod BrokenLaws
 pub mod AnswerLaws
 pub mod Children
+pub mod ChildrenLaws

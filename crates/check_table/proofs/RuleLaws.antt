@@ -29,7 +29,8 @@ use Rattle.check_keys.specs.declared.tally.JoinedKey.{JoinedKey}
 use Rattle.check_table.specs.declared.check.Checked.{Checked}
 use Rattle.check_keys.specs.Key.{bytesOf, joinedKey}
 use Rattle.check_table.specs.Survey.{keyRule}
-use Rattle.check_table.specs.Rules.{isJoined, isAt, keyLists, keyFinds, isInside, listOpens, valueOpens, childCount, among, childGood, childrenGood, listsIt, parentKeeps, parentGood, brokenRule, firstBroken, unlisted, explained, checkIn}
+use Rattle.read.specs.Children.{childCount}
+use Rattle.check_table.specs.Rules.{isJoined, isAt, keyLists, keyFinds, isInside, listOpens, valueOpens, among, childGood, childrenGood, listsIt, parentKeeps, parentGood, brokenRule, firstBroken, unlisted, explained, checkIn}
 use Rattle.check_table.proofs.KeyText.{sought-joined}
 
 -- ---- rules 1 and 2, with the item's joined key at hand

@@ -4,3 +4,4 @@ pub mod Survey
 pub mod Answer
 pub mod Sound
 pub mod Broken
+pub mod Children

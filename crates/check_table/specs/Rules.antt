@@ -1,14 +1,13 @@
 -- The table check, from document 01, 'The check's six rules': each rule is a test of an item, and the check answers the first item that
 -- breaks one, with the first rule that it breaks, and for rule 1 with what listing that item refuses. The rule for a byte of the hash is a
 -- parameter.
-use Prim.Native.Nat.{ℕ, zero, suc, _+_, _*_, _-_, _/_, _%_}
+use Prim.Native.Nat.{ℕ, zero, suc, _+_, _-_, _%_}
 use mathlib.Core.List.{List}
 use mathlib.Core.Bool.{Bool, true, false, not, _&&_}
 use lib.ListN.{length}
 use lib.Dec.{ltb, eqb}
 use Rattle.words.specs.Choice.{pick}
 use Rattle.words.specs.Below.{allBelow, someBelow}
-use Rattle.words.specs.Field.{wordAt}
 use Rattle.text.specs.Utf8.{isUtf8}
 use Rattle.layout.specs.declared.kind.Kind.{Kind}
 use Rattle.layout.specs.declared.pointer.Pointed.{Pointed}
@@ -23,6 +22,7 @@ use Rattle.read.specs.declared.chain.Step.{Step}
 use Rattle.read.specs.declared.lookup.Found.{Found}
 use Rattle.read.specs.Chain.{Joined, keyOf, parentOf}
 use Rattle.read.specs.Find.{findItem}
+use Rattle.read.specs.Children.{childAt, childCount}
 use Rattle.check_table.specs.declared.check.Checked.{Checked}
 
 -- (1) its key would list, given room
@@ -68,13 +68,6 @@ valueOpens file item =
     pick (eqb (item .kind) (kindByte Kind.Value)) (isInside (openPointer (length file) (item .from) (item .to) 8))
     (pick (eqb (item .kind) (kindByte Kind.Table)) (isTable (openTable file (item .from) (item .to)))
     (pick (eqb (item .kind) (kindByte Kind.Container)) (listOpens file item) false))
-
--- the child indices of a container: a word each, from an offset on
-unfoldable pub childAt : List ℕ → ℕ → ℕ → ℕ
-childAt file from k = wordAt file (from + 4 * k)
-
-unfoldable pub childCount : Item → ℕ
-childCount item = (item .to - item .from) / 4
 
 -- whether an index is among the first n children
 unfoldable pub among : List ℕ → ℕ → ℕ → ℕ → Bool

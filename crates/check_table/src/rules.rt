@@ -12,6 +12,7 @@ use layout::pointer::open_pointer;
 use layout::table::Opened;
 use layout::table::Table;
 use layout::table::open_table;
+use read::children::child_count;
 use read::lookup::Found;
 use words::align::Alignment;
 use words::field::word_at;
@@ -22,7 +23,8 @@ ghost use lib.ListN.{length};
 ghost use Rattle.words.specs.Hash.{plain};
 ghost use Rattle.layout.specs.Table.{InFile, openTable};
 ghost use Rattle.layout.specs.Pointer.{openPointer};
-ghost use Rattle.check_table.specs.Rules.{isInside, isTable, listOpens, valueOpens, among, childCount, listsIt};
+ghost use Rattle.read.specs.Children.{childCount};
+ghost use Rattle.check_table.specs.Rules.{isInside, isTable, listOpens, valueOpens, among, listsIt};
 ghost use Rattle.check_table.specs.Survey.{keyRule};
 
 // Which of rules 1 and 2 the item's key breaks first; 0 for neither.
@@ -86,14 +88,6 @@ pub fn value_opens(file: &[u8], item: Item) -> bool
         return list_opens(file, item);
     }
     false
-}
-
-// How many children a container lists.
-pub fn child_count(item: Item) -> usize
-    requires { ⌜ item .from ≤ item .to ⌝ }
-    ensures { λ r. ⌜ r ≡ childCount item ⌝ }
-{
-    (word_size(item.to) - word_size(item.from)) / 4
 }
 
 // Whether an index is among the n child words from `from` on.

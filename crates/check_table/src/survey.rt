@@ -1,12 +1,12 @@
 // One walk over all containers, which sets the bit of each child that its container lists. A child names one parent, so one set of bits serves all.
 use crate::bits::has_bit;
 use crate::bits::set_bit;
-use crate::rules::child_count;
 use crate::rules::value_opens;
 use layout::item::Item;
 use layout::item::item_at;
 use layout::kind::CONTAINER_BYTE;
 use layout::table::Table;
+use read::children::child_count;
 use words::field::word_at;
 use words::wide::word_size;
 ghost use mathlib.Core.Path.{_≡_};

@@ -6,11 +6,13 @@ use Rattle.layout.specs.Answer.{openedNumber}
 use Rattle.read.specs.declared.lookup.Looked.{Looked}
 use Rattle.read.specs.declared.listing.Listed.{Listed}
 use Rattle.read.specs.declared.listing.Valued.{Valued}
-use Rattle.read.specs.Answer.{lookedNumber, lookedPointer, lookedAt, listedNumber, listedKey, listedAt, valuedNumber, valuedPointer, valuedItem}
+use Rattle.read.specs.declared.children.Childed.{Childed}
+use Rattle.read.specs.Answer.{lookedNumber, lookedPointer, lookedAt, listedNumber, listedKey, listedAt, valuedNumber, valuedPointer, valuedItem, childedNumber, childedKind, childedPointer, childedChild, childedAt}
 use Rattle.gvdb.specs.declared.reading.GvdbOpened.{GvdbOpened}
 use Rattle.gvdb.specs.declared.reading.GvdbPlace.{GvdbPlace}
 use Rattle.gvdb.specs.declared.reading.GvdbKey.{GvdbKey}
 use Rattle.gvdb.specs.declared.reading.GvdbValue.{GvdbValue}
+use Rattle.gvdb.specs.declared.reading.GvdbChild.{GvdbChild}
 
 -- one count of a table that opened; 0 on a refusal
 unfoldable pub openedCount : (Table → ℕ) → Opened → ℕ
@@ -39,4 +41,15 @@ valuedAnswer valued = record {
   end = valuedPointer valued .1;
   index = valuedItem valued .0;
   next = valuedItem valued .1;
+}
+
+unfoldable pub childedAnswer : Childed → GvdbChild
+childedAnswer childed = record {
+  number = childedNumber childed;
+  kind = childedKind childed;
+  start = childedPointer childed .0;
+  end = childedPointer childed .1;
+  index = childedChild childed .0;
+  next = childedChild childed .1;
+  at = childedAt childed;
 }

@@ -7,7 +7,8 @@ use Rattle.layout.specs.Answer.{openedNumber}
 use Rattle.read.specs.declared.lookup.Looked.{Looked}
 use Rattle.read.specs.declared.listing.Listed.{Listed}
 use Rattle.read.specs.declared.listing.Valued.{Valued}
-use Rattle.read.specs.Answer.{lookedNumber, lookedPointer, lookedAt, listedNumber, listedKey, listedAt, valuedNumber, valuedPointer, valuedItem}
+use Rattle.read.specs.declared.children.Childed.{Childed}
+use Rattle.read.specs.Answer.{lookedNumber, lookedPointer, lookedAt, listedNumber, listedKey, listedAt, valuedNumber, valuedPointer, valuedItem, childedNumber, childedKind, childedPointer, childedChild, childedAt}
 use Rattle.check_table.specs.declared.check.Checked.{Checked}
 use Rattle.check_table.specs.Answer.{checkedNumber, checkedRule, checkedItem, checkedWhy, checkedAt}
 use Rattle.model.specs.declared.Inserted.{Inserted}
@@ -19,7 +20,7 @@ use Rattle.build_tables.specs.Answer.{addedNumber, addedTable, countedNumber, c
 use Rattle.build_values.specs.Answer.{insertedNumber, insertedKind, insertedAt}
 use Rattle.write.specs.declared.Written.{Written}
 use Rattle.write.specs.Write.{writtenNumber}
-use Rattle.gvdb.specs.Reading.{openedCount, openedAnswer, lookedAnswer, listedAnswer, valuedAnswer}
+use Rattle.gvdb.specs.Reading.{openedCount, openedAnswer, lookedAnswer, listedAnswer, valuedAnswer, childedAnswer}
 use Rattle.gvdb.specs.Checking.{checkedAnswer}
 use Rattle.gvdb.specs.Building.{addedAnswer, insertedAnswer, countedAnswer}
 use Rattle.gvdb.specs.Writing.{writtenImage, writtenAnswer}
@@ -54,6 +55,14 @@ pub valued :
     × (valuedAnswer (Valued.Refused Refusal.PastTheLast) ≡ record { number = 15; start = 0; end = 0; index = 0; next = 0 })
 unfolding valuedAnswer valuedNumber valuedPointer valuedItem
 valued = (refl, refl, refl)
+
+-- item 7 of kind 'v', its fragment from 64 up to 66, the next at 1; 15; or 9 of a fragment that is bad at 2
+pub childed :
+    (childedAnswer (Childed.Child 7 118 64 66 (record { at = 1 })) ≡ record { number = 0; kind = 118; start = 64; end = 66; index = 7; next = 1; at = 0 })
+    × (childedAnswer (Childed.Refused Refusal.PastTheLast) ≡ record { number = 15; kind = 0; start = 0; end = 0; index = 0; next = 0; at = 0 })
+    × (childedAnswer (Childed.Refused (Refusal.FragmentNotUtf8 2)) ≡ record { number = 9; kind = 0; start = 0; end = 0; index = 0; next = 0; at = 2 })
+unfolding childedAnswer childedNumber childedKind childedPointer childedChild childedAt
+childed = (refl, refl, refl)
 
 -- sound; item 7 breaks rule 5; item 7 breaks rule 1, for a fragment that is bad at 2, or for its parent; or 4
 pub checked :

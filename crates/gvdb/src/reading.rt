@@ -2,10 +2,12 @@
 use layout::refusal::bad_at;
 use layout::refusal::number_of;
 use layout::table::Opened;
+use read::children::Childed;
 use read::listing::Cursor;
 use read::listing::Listed;
 use read::listing::Valued;
 use read::lookup::Looked;
+use words::wide::byte_word;
 ghost use mathlib.Core.Path.{_≡_};
 ghost use lib.ListN.{length};
 ghost use Rattle.words.specs.Hash.{plain};
@@ -13,7 +15,8 @@ ghost use Rattle.text.specs.Utf8.{firstBad};
 ghost use Rattle.layout.specs.Table.{openTable};
 ghost use Rattle.read.specs.Lookup.{lookupValue, lookupTable};
 ghost use Rattle.read.specs.Listing.{keyAt, listed, written, valueAt};
-ghost use Rattle.gvdb.specs.Reading.{openedAnswer, lookedAnswer, listedAnswer, valuedAnswer};
+ghost use Rattle.read.specs.Children.{nextChild};
+ghost use Rattle.gvdb.specs.Reading.{openedAnswer, lookedAnswer, listedAnswer, valuedAnswer, childedAnswer};
 
 // What a table opens as.
 #[repr(C)]
@@ -50,6 +53,19 @@ pub struct GvdbValue {
     pub end: u32,
     pub index: usize,
     pub next: usize,
+}
+
+// A child of a container: the byte of its kind, the pointer of its fragment, its index, and the next position; with 8 where the given key is bad, with 9 where the
+// fragment is.
+#[repr(C)]
+pub struct GvdbChild {
+    pub number: u32,
+    pub kind: u32,
+    pub start: u32,
+    pub end: u32,
+    pub index: usize,
+    pub next: usize,
+    pub at: usize,
 }
 
 // Where the first sequence that RFC 3629 does not allow starts, or the length of a good text.
@@ -183,6 +199,46 @@ pub extern "C" fn gvdb_next_value(file: &[u8], start: u32, end: u32, position: u
             end: 0,
             index: 0,
             next: 0,
+        },
+    }
+}
+
+// The child at a position of the container of a key, in stored order.
+#[no_mangle]
+pub extern "C" fn gvdb_next_child(
+    file: &[u8],
+    start: u32,
+    end: u32,
+    key: &[u8],
+    position: usize,
+) -> GvdbChild
+    ensures { λ r. ⌜ r ≡ childedAnswer (nextChild plain (now (file .entry)) start end (now (key .entry)) position) ⌝ }
+{
+    let cursor = Cursor { at: position };
+    match cursor.next_child(file, start, end, key) {
+        Childed::Child {
+            index,
+            kind,
+            start: from,
+            end: to,
+            next,
+        } => GvdbChild {
+            number: 0,
+            kind: byte_word(kind),
+            start: from,
+            end: to,
+            index,
+            next: next.at,
+            at: 0,
+        },
+        Childed::Refused(why) => GvdbChild {
+            number: number_of(why),
+            kind: 0,
+            start: 0,
+            end: 0,
+            index: 0,
+            next: 0,
+            at: bad_at(why),
         },
     }
 }

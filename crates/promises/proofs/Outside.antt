@@ -35,6 +35,8 @@ use Rattle.gvdb.proofs.reading.gvdb_next_key.Kinds as next-key-kinds
 use Rattle.gvdb.proofs.reading.gvdb_next_key.Reads as next-key-reads
 use Rattle.gvdb.proofs.reading.gvdb_next_value.Kinds as next-value-kinds
 use Rattle.gvdb.proofs.reading.gvdb_next_value.Reads as next-value-reads
+use Rattle.gvdb.proofs.reading.gvdb_next_child.Kinds as next-child-kinds
+use Rattle.gvdb.proofs.reading.gvdb_next_child.Reads as next-child-reads
 use Rattle.gvdb.proofs.writing.gvdb_write.Kinds as write-kinds
 use Rattle.gvdb.proofs.writing.gvdb_write.Reads as write-reads
 
@@ -85,6 +87,9 @@ next-key-unique κs a s t x y p q = (p .0 ∙ sym (q .0), p .1 ∙ sym (q .1))
 
 pub next-value-unique : OneAnswer next-value-kinds.ps next-value-kinds.r next-value-reads.Post
 next-value-unique κs a s t x y p q = p ∙ sym q
+
+pub next-child-unique : OneAnswer next-child-kinds.ps next-child-kinds.r next-child-reads.Post
+next-child-unique κs a s t x y p q = p ∙ sym q
 
 pub write-unique : One write-kinds.ps write-kinds.r write-reads.Post (λ κs s t x y. (s ≡ t) × (now (x .0) ≡ now (y .0)) × (now (x .1 .1 .1 .0) ≡ now (y .1 .1 .1 .0)))
 write-unique κs a s t x y p q = (p .0 ∙ sym (q .0), p .1 .0 ∙ sym (q .1 .0), p .1 .1 ∙ sym (q .1 .1))

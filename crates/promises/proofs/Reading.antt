@@ -14,6 +14,8 @@ use Rattle.read.proofs.lookup.run_of.Kinds as run-of-kinds
 use Rattle.read.proofs.lookup.run_of.Reads as run-of-reads
 use Rattle.read.proofs.lookup.find_item.Kinds as find-item-kinds
 use Rattle.read.proofs.lookup.find_item.Reads as find-item-reads
+use Rattle.read.proofs.lookup.lookup_in.Kinds as lookup-in-kinds
+use Rattle.read.proofs.lookup.lookup_in.Reads as lookup-in-reads
 use Rattle.read.proofs.lookup.lookup_value.Kinds as lookup-value-kinds
 use Rattle.read.proofs.lookup.lookup_value.Reads as lookup-value-reads
 use Rattle.read.proofs.lookup.lookup_table.Kinds as lookup-table-kinds
@@ -24,6 +26,10 @@ use Rattle.read.proofs.listing.Cursor.next_key.Kinds as next-key-kinds
 use Rattle.read.proofs.listing.Cursor.next_key.Reads as next-key-reads
 use Rattle.read.proofs.listing.Cursor.next_value.Kinds as next-value-kinds
 use Rattle.read.proofs.listing.Cursor.next_value.Reads as next-value-reads
+use Rattle.read.proofs.children.child_count.Kinds as child-count-kinds
+use Rattle.read.proofs.children.child_count.Reads as child-count-reads
+use Rattle.read.proofs.listing.Cursor.next_child.Kinds as next-child-kinds
+use Rattle.read.proofs.listing.Cursor.next_child.Reads as next-child-reads
 use Rattle.check_keys.proofs.tally.joined_key.Kinds as joined-key-kinds
 use Rattle.check_keys.proofs.tally.joined_key.Reads as joined-key-reads
 use Rattle.check_keys.proofs.search.find_joined.Kinds as find-joined-kinds
@@ -51,6 +57,9 @@ run-of-unique κs a s t x y p q = p ∙ sym q
 pub find-item-unique : OneAnswer find-item-kinds.ps find-item-kinds.r find-item-reads.Post
 find-item-unique κs a s t x y p q = p ∙ sym q
 
+pub lookup-in-unique : OneAnswer lookup-in-kinds.ps lookup-in-kinds.r lookup-in-reads.Post
+lookup-in-unique κs a s t x y p q = p ∙ sym q
+
 pub lookup-value-unique : OneAnswer lookup-value-kinds.ps lookup-value-kinds.r lookup-value-reads.Post
 lookup-value-unique κs a s t x y p q = p ∙ sym q
 
@@ -65,6 +74,12 @@ next-key-unique κs a s t x y p q = (p .0 ∙ sym (q .0), p .1 ∙ sym (q .1))
 
 pub next-value-unique : OneAnswer next-value-kinds.ps next-value-kinds.r next-value-reads.Post
 next-value-unique κs a s t x y p q = p ∙ sym q
+
+pub child-count-unique : OneAnswer child-count-kinds.ps child-count-kinds.r child-count-reads.Post
+child-count-unique κs a s t x y p q = p ∙ sym q
+
+pub next-child-unique : OneAnswer next-child-kinds.ps next-child-kinds.r next-child-reads.Post
+next-child-unique κs a s t x y p q = p ∙ sym q
 
 -- ---- check_keys
 

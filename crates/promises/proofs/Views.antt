@@ -14,10 +14,16 @@ use Rattle.view.proofs.part.listed_start.Kinds as listed-start-kinds
 use Rattle.view.proofs.part.listed_start.Reads as listed-start-reads
 use Rattle.view.proofs.part.listed_end.Kinds as listed-end-kinds
 use Rattle.view.proofs.part.listed_end.Reads as listed-end-reads
+use Rattle.view.proofs.part.child_start.Kinds as child-start-kinds
+use Rattle.view.proofs.part.child_start.Reads as child-start-reads
+use Rattle.view.proofs.part.child_end.Kinds as child-end-kinds
+use Rattle.view.proofs.part.child_end.Reads as child-end-reads
 use Rattle.view.proofs.part.value_part.Kinds as value-part-kinds
 use Rattle.view.proofs.part.value_part.Reads as value-part-reads
 use Rattle.view.proofs.part.listed_part.Kinds as listed-part-kinds
 use Rattle.view.proofs.part.listed_part.Reads as listed-part-reads
+use Rattle.view.proofs.part.child_part.Kinds as child-part-kinds
+use Rattle.view.proofs.part.child_part.Reads as child-part-reads
 use Rattle.view.proofs.part.nested_part.Kinds as nested-part-kinds
 use Rattle.view.proofs.part.nested_part.Reads as nested-part-reads
 use Rattle.view.proofs.part.opened_part.Kinds as opened-part-kinds
@@ -47,11 +53,20 @@ listed-start-unique κs a s t x y p q = p ∙ sym q
 pub listed-end-unique : OneAnswer listed-end-kinds.ps listed-end-kinds.r listed-end-reads.Post
 listed-end-unique κs a s t x y p q = p ∙ sym q
 
+pub child-start-unique : OneAnswer child-start-kinds.ps child-start-kinds.r child-start-reads.Post
+child-start-unique κs a s t x y p q = p ∙ sym q
+
+pub child-end-unique : OneAnswer child-end-kinds.ps child-end-kinds.r child-end-reads.Post
+child-end-unique κs a s t x y p q = p ∙ sym q
+
 pub value-part-unique : One value-part-kinds.ps value-part-kinds.r value-part-reads.Post (λ κs s t x y. SameSlice s t)
 value-part-unique κs a s t x y p q = slices p q
 
 pub listed-part-unique : One listed-part-kinds.ps listed-part-kinds.r listed-part-reads.Post (λ κs s t x y. SameSlice s t)
 listed-part-unique κs a s t x y p q = slices p q
+
+pub child-part-unique : One child-part-kinds.ps child-part-kinds.r child-part-reads.Post (λ κs s t x y. SameSlice s t)
+child-part-unique κs a s t x y p q = slices p q
 
 pub nested-part-unique : One nested-part-kinds.ps nested-part-kinds.r nested-part-reads.Post (λ κs s t x y. SameSlice s t)
 nested-part-unique κs a s t x y p q = slices p q

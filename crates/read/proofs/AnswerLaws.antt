@@ -1,6 +1,6 @@
 -- The order of refusals in the document's words: for each number, what was passed before it and what it is given for.
-use Prim.Native.Nat.{ℕ, suc, _+_, _%_, _≤_, _<_}
-use mathlib.Core.Path.{_≡_, refl, ap, _∙_}
+use Prim.Native.Nat.{ℕ, suc, _+_, _-_, _%_, _≤_, _<_}
+use mathlib.Core.Path.{_≡_, refl, sym, ap, _∙_}
 use mathlib.Core.List.{List}
 use mathlib.Core.Bool.{true, false}
 use native.Mathlib.Omega.{arith}
@@ -9,12 +9,13 @@ use borrow.Author.Tests.{lt-ltb, le-ltb, le-leb, lt-leb, eq-eqb, ne-eqb}
 use Rattle.words.specs.Choice.{pick}
 use Rattle.text.specs.Utf8.{firstBad, isUtf8}
 use Rattle.layout.specs.declared.refusal.Refusal.{Refusal}
-use Rattle.layout.specs.declared.refusal.Refusal.the-variants.{PointerOutside, FragmentNotUtf8, ParentOutside, ParentsEndless}
+use Rattle.layout.specs.declared.refusal.Refusal.the-variants.{PointerOutside, FragmentNotUtf8, ParentOutside, ParentsEndless, OtherKind, PastTheLast}
 use Rattle.layout.specs.declared.pointer.Pointed.{Pointed}
 use Rattle.layout.specs.declared.table.Opened.{Opened}
 use Rattle.layout.specs.declared.table.Table.{Table}
 use Rattle.layout.specs.declared.item.Item.{Item}
 use Rattle.layout.specs.Refusal.{number}
+use Rattle.layout.specs.Kind.{kindKnown}
 use Rattle.layout.specs.Pointer.{openPointer}
 use Rattle.layout.specs.Table.{openTable}
 use Rattle.layout.specs.Item.{itemAt, noItem}
@@ -22,12 +23,15 @@ use Rattle.layout.specs.Answer.{pointedNumber, openedNumber}
 use Rattle.layout.proofs.AnswerLaws.{pointer-inside-is}
 use Rattle.read.specs.declared.lookup.Found.{Found}
 use Rattle.read.specs.declared.listing.Listed.{Listed}
+use Rattle.read.specs.declared.children.Childed.{Childed}
 use Rattle.read.specs.Chain.{fragmentOf, parentOf, afterPointer, climbFrom, Joined, append, joinStep, keyOf}
 use Rattle.read.specs.Find.{findItem}
 use Rattle.read.specs.Lookup.{atFound, lookupIn, atOpened, lookupItem, atPointer, atNested, valueOf, nestedOf, atItem, lookupValue, lookupTable}
 use Rattle.read.specs.Listing.{keyIn, keyOpened, keyAt, listed, nextValue, valueOpened, valueFrom, valueInOpened, valueAt}
-use Rattle.read.specs.Answer.{lookedNumber, listedNumber, valuedNumber, valuedItem}
+use Rattle.read.specs.Children.{childAt, childCount, openList, atFragment, childNamed, childOf, childFrom, childOfSought, childInOpened, nextChild}
+use Rattle.read.specs.Answer.{lookedNumber, listedNumber, valuedNumber, valuedItem, childedNumber, childedAt}
 use Rattle.read.proofs.ChainLaws.{climb-on}
+use Rattle.read.proofs.ChildLaws.{list-refused, list-whole, list-uneven}
 
 -- ---- the number of an answer is that of the pointer or the table behind it
 
@@ -222,3 +226,95 @@ module _ (file : List ℕ) (start end at : ℕ) where
 
       pub values-index : valuedItem (valueAt file start end at) ≡ (nextValue file t at, nextValue file t at + 1)
       values-index = ap valuedItem values-item ∙ item-valued _ (nextValue file t at) (itemAt file t (nextValue file t at))
+
+-- ---- children of a container: opening, 8, 12; of the container 13, then 2 or 3 of its value pointer, then 13 for its length; 15; of the child 10, 13, then 2 or 9
+
+module _ (rule : ℕ → ℕ) (file : List ℕ) (start end : ℕ) (key : List ℕ) (at : ℕ) where
+  pub children-opening : {why : Refusal} → openTable file start end ≡ Opened.Refused why → childedNumber (nextChild rule file start end key at) ≡ number why
+  unfolding nextChild childInOpened childedNumber
+  children-opening shut = rw shut
+
+  module _ {t : Table} (opens : openTable file start end ≡ Opened.Table t) where
+    pub children-8 : isUtf8 key ≡ false → (childedNumber (nextChild rule file start end key at) ≡ 8) × (childedAt (nextChild rule file start end key at) ≡ firstBad key)
+    unfolding nextChild childInOpened childOfSought lookupIn childedNumber childedAt pick
+    children-8 bad = (rw (opens, bad), rw (opens, bad))
+
+    module _ (text : isUtf8 key ≡ true) where
+      pub children-12 : findItem rule file t key ≡ Found.Nothing → childedNumber (nextChild rule file start end key at) ≡ 12
+      unfolding nextChild childInOpened childOfSought lookupIn atFound childedNumber pick
+      children-12 none = rw (opens, text, none)
+
+      module _ {i : ℕ} (found : findItem rule file t key ≡ Found.At i) where
+        children-found : nextChild rule file start end key at ≡ childFrom (openList file (itemAt file t i)) file t (itemAt file t i) at
+        unfolding nextChild childInOpened childOfSought lookupIn atFound pick
+        children-found = rw (opens, text, found)
+
+        children-shut : {why : Refusal} → Pointed.Refused why ≡ openList file (itemAt file t i) → childedNumber (nextChild rule file start end key at) ≡ number why
+        unfolding childFrom childedNumber
+        children-shut e = ap childedNumber children-found ∙ rw (sym e)
+
+        -- the item is no container
+        pub children-other : (itemAt file t i .kind ≡ 76 → ⊥) → childedNumber (nextChild rule file start end key at) ≡ 13
+        unfolding openList pick
+        children-other other = children-shut {why = OtherKind} (rw (ne-eqb _ _ other))
+
+        module _ (kind : itemAt file t i .kind ≡ 76) where
+          -- 2 or 3 of the value pointer
+          pub children-pointer : {why : Refusal} → openPointer (length file) (itemAt file t i .from) (itemAt file t i .to) 4 ≡ Pointed.Refused why
+              → childedNumber (nextChild rule file start end key at) ≡ number why
+          children-pointer e = children-shut (list-refused file (itemAt file t i) kind refl refl e)
+
+          module _ (inside : openPointer (length file) (itemAt file t i .from) (itemAt file t i .to) 4 ≡ Pointed.Inside) where
+            pub children-uneven : ((itemAt file t i .to - itemAt file t i .from) % 4 ≡ 0 → ⊥) → childedNumber (nextChild rule file start end key at) ≡ 13
+            children-uneven uneven = children-shut (list-uneven file (itemAt file t i) kind refl refl inside uneven)
+
+            module _ (whole : (itemAt file t i .to - itemAt file t i .from) % 4 ≡ 0) where
+              children-listed : nextChild rule file start end key at ≡ childFrom Pointed.Inside file t (itemAt file t i) at
+              children-listed = children-found ∙ rw (sym (list-whole file (itemAt file t i) kind refl refl inside whole))
+
+              pub children-past : childCount (itemAt file t i) ≤ at → nextChild rule file start end key at ≡ Childed.Refused PastTheLast
+              unfolding childFrom pick
+              children-past past = children-listed ∙ rw (le-ltb _ _ past)
+
+              pub children-15 : childCount (itemAt file t i) ≤ at → childedNumber (nextChild rule file start end key at) ≡ 15
+              unfolding childedNumber
+              children-15 past = ap childedNumber (children-past past)
+
+              module _ (listed : at < childCount (itemAt file t i)) (child : ℕ) (is : childAt file (itemAt file t i .from) at ≡ child) where
+                children-child : nextChild rule file start end key at ≡ childOf file t child at
+                unfolding childFrom pick
+                children-child = children-listed ∙ rw (lt-ltb _ _ listed, is)
+
+                pub children-10 : t .count ≤ child → childedNumber (nextChild rule file start end key at) ≡ 10
+                unfolding childOf childedNumber pick
+                children-10 past = ap childedNumber children-child ∙ rw (le-leb _ _ past)
+
+                module _ (below : child < t .count) where
+                  -- the child's kind is not known
+                  pub children-13 : kindKnown (itemAt file t child .kind) ≡ false → childedNumber (nextChild rule file start end key at) ≡ 13
+                  unfolding childOf childedNumber pick
+                  children-13 strange = ap childedNumber children-child ∙ rw (lt-leb _ _ below, strange)
+
+                  module _ (known : kindKnown (itemAt file t child .kind) ≡ true) where
+                    children-named : nextChild rule file start end key at ≡ childNamed file child (itemAt file t child) at
+                    unfolding childOf pick
+                    children-named = children-child ∙ rw (lt-leb _ _ below, known)
+
+                    pub children-2 : length file < itemAt file t child .key + itemAt file t child .size → childedNumber (nextChild rule file start end key at) ≡ 2
+                    unfolding childNamed atFragment childedNumber
+                    children-2 past = ap childedNumber children-named ∙ rw (fragment-outside file (itemAt file t child .key) (itemAt file t child .size) past)
+
+                    module _ (fits : itemAt file t child .key + itemAt file t child .size ≤ length file) where
+                      pub children-9 : isUtf8 (fragmentOf file (itemAt file t child)) ≡ false
+                          → (childedNumber (nextChild rule file start end key at) ≡ 9) × (childedAt (nextChild rule file start end key at) ≡ firstBad (fragmentOf file (itemAt file t child)))
+                      unfolding childNamed atFragment childedNumber childedAt pick
+                      children-9 bad =
+                          let opens = fragment-inside file (itemAt file t child .key) (itemAt file t child .size) fits in
+                          (ap childedNumber children-named ∙ rw (opens, bad), ap childedAt children-named ∙ rw (opens, bad))
+
+                      -- the child, its kind, the place of its fragment, and the next position
+                      pub children-0 : isUtf8 (fragmentOf file (itemAt file t child)) ≡ true
+                          → nextChild rule file start end key at
+                          ≡ Childed.Child child (itemAt file t child .kind) (itemAt file t child .key) (itemAt file t child .key + itemAt file t child .size) (record { at = at + 1 })
+                      unfolding childNamed atFragment pick
+                      children-0 good = children-named ∙ rw (fragment-inside file (itemAt file t child .key) (itemAt file t child .size) fits, good)

@@ -31,6 +31,10 @@ pub fragment-taken : (file : List ℕ) (item : Item) {start size : ℕ} → star
 unfolding fragmentOf
 fragment-taken file item {start} {size} s z = rw (add-sub-cancel-left start size, s, z)
 
+pub same-place : (file : List ℕ) (item : Item) {start size : ℕ} → start ≡ item .key → size ≡ item .size
+    → openPointer (length file) (item .key) (item .key + item .size) 1 ≡ openPointer (length file) start (start + size) 1
+same-place file item s z = rw (s, z)
+
 -- a fragment that lies in the file has the item's key size
 pub fragment-size : (file : List ℕ) (item : Item) → item .key + item .size ≤ length file → length (fragmentOf file item) ≡ item .size
 unfolding fragmentOf
@@ -88,28 +92,25 @@ climb-on file count item opens good = simp (opens, good)
 
 -- the step, test by test, with the fragment's offset and size as the code has them
 module _ (file : List ℕ) (count : ℕ) (item : Item) {start size : ℕ} (s : start ≡ item .key) (z : size ≡ item .size) where
-  same-place : openPointer (length file) (item .key) (item .key + item .size) 1 ≡ openPointer (length file) start (start + size) 1
-  same-place = rw (s, z)
-
   pub climb-refused : {why : Refusal} → openPointer (length file) start (start + size) 1 ≡ Pointed.Refused why → Step.Refused why ≡ climbFrom file count item
   unfolding climbFrom afterPointer
-  climb-refused e = rw (same-place ∙ e)
+  climb-refused e = rw (same-place file item s z ∙ e)
 
   module _ (inside : openPointer (length file) start (start + size) 1 ≡ Pointed.Inside) where
     pub climb-inside : climbFrom file count item ≡ pick (isUtf8 (fragmentOf file item)) (parentOf count (item .parent)) (Step.Refused (FragmentNotUtf8 (firstBad (fragmentOf file item))))
     unfolding climbFrom afterPointer
-    climb-inside = rw (same-place ∙ inside)
+    climb-inside = rw (same-place file item s z ∙ inside)
 
     pub climb-text : isUtf8 (take (start + size - start) (drop start file)) ≡ true → climbFrom file count item ≡ parentOf count (item .parent)
     unfolding climbFrom afterPointer pick
-    climb-text good = rw (same-place ∙ inside, sym (ap isUtf8 (fragment-taken file item s z)) ∙ good)
+    climb-text good = rw (same-place file item s z ∙ inside, sym (ap isUtf8 (fragment-taken file item s z)) ∙ good)
 
     pub climb-no-text : isUtf8 (take (start + size - start) (drop start file)) ≡ false → {at : ℕ} → at ≡ firstBad (take (start + size - start) (drop start file))
         → Step.Refused (FragmentNotUtf8 at) ≡ climbFrom file count item
     unfolding climbFrom afterPointer pick
     climb-no-text bad e =
         let same = fragment-taken file item s z in
-        rw (same-place ∙ inside, sym (ap isUtf8 same) ∙ bad) (ap (λ (n : ℕ). Step.Refused (FragmentNotUtf8 n)) (e ∙ ap firstBad same))
+        rw (same-place file item s z ∙ inside, sym (ap isUtf8 same) ∙ bad) (ap (λ (n : ℕ). Step.Refused (FragmentNotUtf8 n)) (e ∙ ap firstBad same))
 
 -- ---- a key
 

@@ -11,3 +11,4 @@ pub mod SelfParent
 pub mod TwoFilterWords
 pub mod AnswerLaws
 pub mod BadLaws
+pub mod ChildLaws

@@ -1,5 +1,5 @@
--- What a lookup or a value listing answers lies in the file: a predicate by cases on the answer, shown of the definitions test by test.
-use Prim.Native.Nat.{ℕ, _≤_}
+-- What a lookup, a value listing or a listing of children answers lies in the file: a predicate by cases on the answer, shown of the definitions test by test.
+use Prim.Native.Nat.{ℕ, _+_, _≤_}
 use mathlib.Core.Path.{_≡_, refl}
 use mathlib.Core.List.{List}
 use lib.ListN.{length}
@@ -15,8 +15,10 @@ use Rattle.layout.proofs.OpenLaws.{pointer-inside}
 use Rattle.read.specs.declared.lookup.Sought.{Sought}
 use Rattle.read.specs.declared.lookup.Looked.{Looked}
 use Rattle.read.specs.declared.listing.Valued.{Valued}
-use Rattle.read.specs.Lookup.{atPointer, atNested, valueOf, nestedOf, atItem, lookupValue, lookupTable}
+use Rattle.read.specs.declared.children.Childed.{Childed}
+use Rattle.read.specs.Lookup.{lookupIn, atPointer, atNested, valueOf, nestedOf, atItem, lookupValue, lookupTable}
 use Rattle.read.specs.Listing.{nextValue, valueOpened, valueFrom, valueInOpened, valueAt}
+use Rattle.read.specs.Children.{childAt, openList, atFragment, childNamed, childOf, childFrom, childOfSought, childInOpened, nextChild}
 
 -- ---- a pointer whose table opens
 
@@ -96,4 +98,38 @@ valued-fits file start end at = by-table (openTable file start end)
   where
     by-table : (o : Opened) → ValuedFits file (valueInOpened file at o)
     by-table (Opened.Table t) = value-from-fits file t (nextValue file t at)
+    by-table (Opened.Refused why) = tt
+
+-- ---- children of a container
+
+unfoldable pub ChildedFits : List ℕ → Childed → Type 0
+ChildedFits file (Childed.Child index kind start end next) = (start ≤ end) × (end ≤ length file)
+ChildedFits file (Childed.Refused why) = Unit
+
+child-of-fits : (file : List ℕ) (t : Table) (index at : ℕ) → ChildedFits file (childOf file t index at)
+unfolding childOf childNamed atFragment ChildedFits
+child-of-fits file t index at =
+    let P = ChildedFits file in
+    pick-with P _ _ _ (λ _. tt) (λ _. pick-with P _ _ _
+    (λ _. by-pointer (openPointer (length file) (itemAt file t index .key) (itemAt file t index .key + itemAt file t index .size) 1) refl) (λ _. tt))
+  where
+    by-pointer : (p : Pointed) → openPointer (length file) (itemAt file t index .key) (itemAt file t index .key + itemAt file t index .size) 1 ≡ p
+        → ChildedFits file (atFragment p file index (itemAt file t index) at)
+    by-pointer Pointed.Inside e = pick-with (ChildedFits file) _ _ _ (λ _. pointer-inside _ _ _ _ e) (λ _. tt)
+    by-pointer (Pointed.Refused why) e = tt
+
+pub childed-fits : (rule : ℕ → ℕ) (file : List ℕ) (start end : ℕ) (key : List ℕ) (at : ℕ) → ChildedFits file (nextChild rule file start end key at)
+unfolding nextChild childInOpened childOfSought childFrom ChildedFits
+childed-fits rule file start end key at = by-table (openTable file start end)
+  where
+    by-list : (t : Table) (item : Item) (p : Pointed) → ChildedFits file (childFrom p file t item at)
+    by-list t item Pointed.Inside = pick-with (ChildedFits file) _ _ _ (λ _. child-of-fits file t (childAt file (item .from) at) at) (λ _. tt)
+    by-list t item (Pointed.Refused why) = tt
+
+    by-item : (t : Table) (s : Sought) → ChildedFits file (childOfSought s file t at)
+    by-item t (Sought.Item item) = by-list t item (openList file item)
+    by-item t (Sought.Refused why) = tt
+
+    by-table : (o : Opened) → ChildedFits file (childInOpened rule file key at o)
+    by-table (Opened.Table t) = by-item t (lookupIn rule file key t)
     by-table (Opened.Refused why) = tt

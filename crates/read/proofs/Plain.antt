@@ -26,14 +26,16 @@ use Rattle.read.specs.declared.lookup.Looked.{Looked}
 use Rattle.read.specs.declared.listing.Cursor.{Cursor}
 use Rattle.read.specs.declared.listing.Listed.{Listed}
 use Rattle.read.specs.declared.listing.Valued.{Valued}
+use Rattle.read.specs.declared.children.Childed.{Childed}
 use Rattle.read.specs.Chain.{fragmentOf, parentOf, climbFrom, Joined, append, joinStep, keyOf, names}
 use Rattle.read.specs.Find.{bloomPasses, runOf, itemMatches, findItem}
 use Rattle.read.specs.Lookup.{lookupValue, lookupTable}
 use Rattle.read.specs.Answer.{listedNumber}
 use Rattle.read.specs.Listing.{keyIn, keyOpened, keyAt, listed, written, nextValue, valueAt}
+use Rattle.read.specs.Children.{nextChild}
 use Rattle.read.proofs.ChainLaws.{climb-on, joined-names}
 use Rattle.read.proofs.FindLaws.{FindSays, find-says, match-true, match-false}
-use Rattle.read.proofs.LookupLaws.{LookedFits, value-looked-fits, table-looked-fits, ValuedFits, valued-fits}
+use Rattle.read.proofs.LookupLaws.{LookedFits, value-looked-fits, table-looked-fits, ValuedFits, valued-fits, ChildedFits, childed-fits}
 use Rattle.read.proofs.SoughtLaws.{Placed, value-answers, table-answers}
 use Rattle.read.proofs.ListingLaws.{in-range, key-in-range, front, refused-keeps, NextSays, next-says}
 
@@ -127,6 +129,12 @@ pub listed-value-in-file : (file : List ℕ) (start end at : ℕ) {index from to
     → (from ≤ to) × (to ≤ length file)
 unfolding ValuedFits
 listed-value-in-file file start end at e = subst (ValuedFits file) e (valued-fits file start end at)
+
+-- so does the fragment of a child that is listed
+pub child-in-file : (rule : ℕ → ℕ) (file : List ℕ) (start end : ℕ) (key : List ℕ) (at : ℕ) {index kind from to : ℕ} {next : Cursor}
+    → nextChild rule file start end key at ≡ Childed.Child index kind from to next → (from ≤ to) × (to ≤ length file)
+unfolding ChildedFits
+child-in-file rule file start end key at e = subst (ChildedFits file) e (childed-fits rule file start end key at)
 
 -- the item listed is the first of kind 'v' at or after the position; where there is none, no item from there on is of kind 'v'
 pub next-value-first : (file : List ℕ) (t : Table) (at : ℕ) → nextValue file t at < t .count

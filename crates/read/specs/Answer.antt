@@ -6,6 +6,7 @@ use Rattle.layout.specs.Refusal.{number, badAt}
 use Rattle.read.specs.declared.lookup.Looked.{Looked}
 use Rattle.read.specs.declared.listing.Listed.{Listed}
 use Rattle.read.specs.declared.listing.Valued.{Valued}
+use Rattle.read.specs.declared.children.Childed.{Childed}
 
 unfoldable pub lookedNumber : Looked → ℕ
 lookedNumber (Looked.Pointer start end) = 0
@@ -56,3 +57,27 @@ unfoldable pub valuedPointer : Valued → ℕ × ℕ
 valuedPointer (Valued.Value index start end next) = (start, end)
 valuedPointer (Valued.Unopened why index next) = (0, 0)
 valuedPointer (Valued.Refused why) = (0, 0)
+
+unfoldable pub childedNumber : Childed → ℕ
+childedNumber (Childed.Child index kind start end next) = 0
+childedNumber (Childed.Refused why) = number why
+
+-- the child's index, and the next position
+unfoldable pub childedChild : Childed → ℕ × ℕ
+childedChild (Childed.Child index kind start end next) = (index, next .at)
+childedChild (Childed.Refused why) = (0, 0)
+
+-- the byte of its kind
+unfoldable pub childedKind : Childed → ℕ
+childedKind (Childed.Child index kind start end next) = kind
+childedKind (Childed.Refused why) = 0
+
+-- start and end of its fragment
+unfoldable pub childedPointer : Childed → ℕ × ℕ
+childedPointer (Childed.Child index kind start end next) = (start, end)
+childedPointer (Childed.Refused why) = (0, 0)
+
+-- where the given key is bad, told with 8, or the child's fragment, told with 9
+unfoldable pub childedAt : Childed → ℕ
+childedAt (Childed.Child index kind start end next) = 0
+childedAt (Childed.Refused why) = badAt why

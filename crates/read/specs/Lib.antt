@@ -4,3 +4,4 @@ pub mod Lookup
 pub mod Listing
 pub mod Answer
 pub mod Bad
+pub mod Children

@@ -151,7 +151,7 @@ fn is_key(key: &[u8]) -> bool
 }
 
 // The item of a key in an open table: 8 with the offset in the key, 12, or the item.
-fn lookup_in(file: &[u8], table: Table, key: &[u8]) -> Sought
+pub fn lookup_in(file: &[u8], table: Table, key: &[u8]) -> Sought
     requires { ⌜ InFile (now file) table ⌝ }
     ensures { λ r. ⌜ r ≡ lookupIn plain (now (file .entry)) (now (key .entry)) table ⌝ }
 {

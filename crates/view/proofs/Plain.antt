@@ -1,4 +1,4 @@
--- What the views mean, in plain statements: a value's view is the bytes of its pointer, at its offset; a nested view opens; a refusal's view is empty.
+-- What the views mean, in plain statements: a value's or a fragment's view is the bytes of its pointer, at its offset; a nested view opens; a refusal's view is empty.
 use Prim.Native.Nat.{ℕ, _-_, _≤_}
 use mathlib.Core.Path.{_≡_, refl, sym, ap, subst, _∙_}
 use mathlib.Core.List.{List, []}
@@ -19,15 +19,17 @@ use Rattle.read.specs.declared.lookup.Looked.{Looked}
 use Rattle.read.specs.declared.lookup.Sought.{Sought}
 use Rattle.read.specs.declared.listing.Valued.{Valued}
 use Rattle.read.specs.declared.listing.Cursor.{Cursor}
+use Rattle.read.specs.declared.children.Childed.{Childed}
 use Rattle.read.specs.Lookup.{lookupItem, lookupTable, atItem, nestedOf, atNested}
-use Rattle.read.proofs.Plain.{value-in-file, listed-value-in-file}
+use Rattle.read.proofs.Plain.{value-in-file, listed-value-in-file, child-in-file}
 use Rattle.view.specs.declared.table.TableView.{TableView}
 use Rattle.view.specs.declared.table.OpenedView.{OpenedView}
 use Rattle.view.specs.declared.table.ValueView.{ValueView}
 use Rattle.view.specs.declared.table.NestedView.{NestedView}
 use Rattle.view.specs.declared.table.ListedView.{ListedView}
-use Rattle.view.specs.Part.{Viewed, Stretch, pointerStart, pointerEnd, listedStart, listedEnd, openedPointer, openedFile, nestedFile}
-use Rattle.view.specs.Views.{OpenedOf, ValueOf, NestedOf, ListedOf}
+use Rattle.view.specs.declared.table.ChildView.{ChildView}
+use Rattle.view.specs.Part.{Viewed, Stretch, pointerStart, pointerEnd, listedStart, listedEnd, childStart, childEnd, openedPointer, openedFile, nestedFile}
+use Rattle.view.specs.Views.{OpenedOf, ValueOf, NestedOf, ListedOf, ChildOf}
 use Rattle.view.proofs.PartLaws.{stretch-same, stretch-out, viewed-same}
 
 -- the view `table` of the lent file: the whole file and the pointer from start to end
@@ -75,6 +77,15 @@ module _ (t : TableView) (at : ℕ) (r : ListedView) (said : ListedOf t at r) wh
 
   pub listed-refused : {why : Refusal} → r .answer ≡ Valued.Refused why → Viewed (t .file) (r .bytes) 0 []
   listed-refused e = none _ _ _ _ (ap listedStart e) (ap listedEnd e) (said .viewed)
+
+module _ (t : TableView) (key : List ℕ) (at : ℕ) (r : ChildView) (said : ChildOf t key at r) where
+  pub child-seen : {index kind from to : ℕ} {next : Cursor} → r .answer ≡ Childed.Child index kind from to next
+      → Viewed (t .file) (r .fragment) from (take (to - from) (drop from (now (t .file))))
+  child-seen {from = from} {to = to} e =
+      seen _ _ _ _ from to (ap childStart e) (ap childEnd e) (child-in-file plain (now (t .file)) (t .start) (t .end) key at (sym (said .answered) ∙ e)) (said .viewed)
+
+  pub child-refused : {why : Refusal} → r .answer ≡ Childed.Refused why → Viewed (t .file) (r .fragment) 0 []
+  child-refused e = none _ _ _ _ (ap childStart e) (ap childEnd e) (said .viewed)
 
 module _ (file : RefT (List ℕ)) (start end : ℕ) (r : OpenedView) (said : OpenedOf file start end r) where
   pub opened-whole : {table : Table} → r .answer ≡ Opened.Table table → Whole file (r .table) start end

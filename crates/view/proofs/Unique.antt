@@ -11,13 +11,15 @@ use Rattle.layout.specs.declared.table.Opened.{Opened}
 use Rattle.read.specs.declared.lookup.Looked.{Looked}
 use Rattle.read.specs.declared.listing.Listed.{Listed}
 use Rattle.read.specs.declared.listing.Valued.{Valued}
+use Rattle.read.specs.declared.children.Childed.{Childed}
 use Rattle.view.specs.declared.table.TableView.{TableView}
 use Rattle.view.specs.declared.table.OpenedView.{OpenedView}
 use Rattle.view.specs.declared.table.ValueView.{ValueView}
 use Rattle.view.specs.declared.table.NestedView.{NestedView}
 use Rattle.view.specs.declared.table.ListedView.{ListedView}
-use Rattle.view.specs.Part.{Viewed, ValueIn, ListedIn, OpenedIn, NestedIn, openedPointer, pointerStart, pointerEnd}
-use Rattle.view.specs.Views.{OpenedOf, ValueOf, NestedOf, ListedOf, KeyOf}
+use Rattle.view.specs.declared.table.ChildView.{ChildView}
+use Rattle.view.specs.Part.{Viewed, ValueIn, ListedIn, ChildIn, OpenedIn, NestedIn, openedPointer, pointerStart, pointerEnd}
+use Rattle.view.specs.Views.{OpenedOf, ValueOf, NestedOf, ListedOf, ChildOf, KeyOf}
 
 -- two slices are the same bytes of the same memory
 pub record Same (r s : RefT (List ℕ)) : Type 0 where
@@ -71,6 +73,11 @@ module _ (t : TableView) where
   next-value-unique at r s p q =
       let same : r .answer ≡ s .answer = p .answered ∙ sym (q .answered) in
       (same, viewed-unique (t .file) _ _ _ _ (subst (λ (v : Valued). ListedIn (t .file) v (r .bytes)) same (p .viewed)) (q .viewed))
+
+  pub next-child-unique : (key : List ℕ) (at : ℕ) (r s : ChildView) → ChildOf t key at r → ChildOf t key at s → (r .answer ≡ s .answer) × Same (r .fragment) (s .fragment)
+  next-child-unique key at r s p q =
+      let same : r .answer ≡ s .answer = p .answered ∙ sym (q .answered) in
+      (same, viewed-unique (t .file) _ _ _ _ (subst (λ (c : Childed). ChildIn (t .file) c (r .fragment)) same (p .viewed)) (q .viewed))
 
   pub next-key-unique : (at : ℕ) (buffer : List ℕ) (r s : Listed) (left right : List ℕ) → KeyOf t at buffer r left → KeyOf t at buffer s right → (r ≡ s) × (left ≡ right)
   next-key-unique at buffer r s left right p q = (p .answered ∙ sym (q .answered), p .wrote ∙ sym (q .wrote))

@@ -9,6 +9,7 @@ use Rattle.words.specs.Choice.{pick}
 use Rattle.layout.specs.declared.table.Opened.{Opened}
 use Rattle.read.specs.declared.lookup.Looked.{Looked}
 use Rattle.read.specs.declared.listing.Valued.{Valued}
+use Rattle.read.specs.declared.children.Childed.{Childed}
 
 -- a lent slice is a stretch of a lent file, and no copy: it lies in the file's memory, `at` bytes from the file's start, and holds `bytes`
 pub record Viewed (file r : RefT (List ℕ)) (at : ℕ) (bytes : List ℕ) : Type 0 where
@@ -55,6 +56,19 @@ listedEnd (Valued.Refused why) = 0
 -- a value that was listed
 abbrev pub ListedIn : RefT (List ℕ) → Valued → RefT (List ℕ) → Type 0
 ListedIn file valued r = Stretch file (listedStart valued) (listedEnd valued) r
+
+-- start and end of a listed child's fragment; 0 and 0 on a refusal
+abbrev pub childStart : Childed → ℕ
+childStart (Childed.Child index kind start end next) = start
+childStart (Childed.Refused why) = 0
+
+abbrev pub childEnd : Childed → ℕ
+childEnd (Childed.Child index kind start end next) = end
+childEnd (Childed.Refused why) = 0
+
+-- the fragment of a child that was listed
+abbrev pub ChildIn : RefT (List ℕ) → Childed → RefT (List ℕ) → Type 0
+ChildIn file childed r = Stretch file (childStart childed) (childEnd childed) r
 
 -- start or end of the pointer to a table that opened; 0 on a refusal
 abbrev pub openedPointer : Opened → ℕ → ℕ

@@ -8,13 +8,15 @@ use Rattle.words.specs.Hash.{plain}
 use Rattle.layout.specs.Table.{openTable}
 use Rattle.read.specs.Lookup.{lookupValue, lookupTable}
 use Rattle.read.specs.Listing.{valueAt, keyAt, listed, written}
+use Rattle.read.specs.Children.{nextChild}
 use Rattle.read.specs.declared.listing.Listed.{Listed}
 use Rattle.view.specs.declared.table.TableView.{TableView}
 use Rattle.view.specs.declared.table.OpenedView.{OpenedView}
 use Rattle.view.specs.declared.table.ValueView.{ValueView}
 use Rattle.view.specs.declared.table.NestedView.{NestedView}
 use Rattle.view.specs.declared.table.ListedView.{ListedView}
-use Rattle.view.specs.Part.{ValueIn, ListedIn, OpenedIn, NestedIn, openedPointer, pointerStart, pointerEnd}
+use Rattle.view.specs.declared.table.ChildView.{ChildView}
+use Rattle.view.specs.Part.{ValueIn, ListedIn, ChildIn, OpenedIn, NestedIn, openedPointer, pointerStart, pointerEnd}
 
 -- an opening of a file at a pointer
 pub record OpenedOf (file : RefT (List ℕ)) (start end : ℕ) (r : OpenedView) : Type 0 where
@@ -39,6 +41,11 @@ pub record NestedOf (t : TableView) (key : List ℕ) (r : NestedView) : Type 0 w
 pub record ListedOf (t : TableView) (at : ℕ) (r : ListedView) : Type 0 where
   pub answered : r .answer ≡ valueAt (now (t .file)) (t .start) (t .end) at
   pub viewed : ListedIn (t .file) (r .answer) (r .bytes)
+
+-- the child at a position of the container under a key, in the table t
+pub record ChildOf (t : TableView) (key : List ℕ) (at : ℕ) (r : ChildView) : Type 0 where
+  pub answered : r .answer ≡ nextChild plain (now (t .file)) (t .start) (t .end) key at
+  pub viewed : ChildIn (t .file) (r .answer) (r .fragment)
 
 -- a key listing of the table t at a position, into a lent buffer; `left` is what the buffer then holds
 pub record KeyOf (t : TableView) (at : ℕ) (buffer : List ℕ) (r : Listed) (left : List ℕ) : Type 0 where

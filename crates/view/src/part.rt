@@ -1,10 +1,11 @@
 // The parts of a lent file and the numbers that a view is made of, from an answer. A refusal's part is `&file[0..0]`, its numbers are 0.
 use layout::table::Opened;
+use read::children::Childed;
 use read::listing::Valued;
 use read::lookup::Looked;
 ghost use mathlib.Core.Path.{_≡_};
 ghost use mathlib.Core.List.{[]};
-ghost use Rattle.view.specs.Part.{Viewed, Stretch, ValueIn, ListedIn, OpenedIn, NestedIn, openedPointer, pointerStart, pointerEnd, listedStart, listedEnd};
+ghost use Rattle.view.specs.Part.{Viewed, Stretch, ValueIn, ListedIn, ChildIn, OpenedIn, NestedIn, openedPointer, pointerStart, pointerEnd, listedStart, listedEnd, childStart, childEnd};
 
 // No bytes of the file.
 pub fn nothing<'a>(file: &'a [u8]) -> &'a [u8]
@@ -86,6 +87,37 @@ pub fn listed_end(valued: Valued) -> u32
     }
 }
 
+// Start and end of the fragment of a child that was listed.
+pub fn child_start(childed: Childed) -> u32
+    ensures { λ r. ⌜ r ≡ childStart childed ⌝ }
+{
+    match childed {
+        Childed::Child {
+            index: _,
+            kind: _,
+            start,
+            end: _,
+            next: _,
+        } => start,
+        Childed::Refused(_) => 0,
+    }
+}
+
+pub fn child_end(childed: Childed) -> u32
+    ensures { λ r. ⌜ r ≡ childEnd childed ⌝ }
+{
+    match childed {
+        Childed::Child {
+            index: _,
+            kind: _,
+            start: _,
+            end,
+            next: _,
+        } => end,
+        Childed::Refused(_) => 0,
+    }
+}
+
 // The bytes of a value that was looked up.
 pub fn value_part<'a>(file: &'a [u8], looked: Looked) -> &'a [u8]
     ensures { λ r. ⌜ ValueIn (file .entry) looked r ⌝ }
@@ -98,6 +130,13 @@ pub fn listed_part<'a>(file: &'a [u8], valued: Valued) -> &'a [u8]
     ensures { λ r. ⌜ ListedIn (file .entry) valued r ⌝ }
 {
     stretch(file, listed_start(valued), listed_end(valued))
+}
+
+// The fragment of a child that was listed.
+pub fn child_part<'a>(file: &'a [u8], childed: Childed) -> &'a [u8]
+    ensures { λ r. ⌜ ChildIn (file .entry) childed r ⌝ }
+{
+    stretch(file, child_start(childed), child_end(childed))
 }
 
 // The file of a nested table that was looked up.

@@ -2,6 +2,7 @@
 // no loop. A view holds no proof that it is good: each call opens the table again, so a view of any numbers is harmless.
 use check_table::check::Checked;
 use layout::table::Opened;
+use read::children::Childed;
 use read::listing::Cursor;
 use read::listing::Listed;
 use read::listing::Valued;
@@ -9,7 +10,7 @@ use read::lookup::Looked;
 ghost use mathlib.Core.Path.{_≡_};
 ghost use Rattle.words.specs.Hash.{plain};
 ghost use Rattle.check_table.specs.Rules.{checkTable};
-ghost use Rattle.view.specs.Views.{OpenedOf, ValueOf, NestedOf, ListedOf, KeyOf};
+ghost use Rattle.view.specs.Views.{OpenedOf, ValueOf, NestedOf, ListedOf, ChildOf, KeyOf};
 
 // gvdb-rs: HashTable.
 // A table of a lent file: the file, and the pointer to the table.
@@ -41,6 +42,12 @@ pub struct NestedView<'a> {
 pub struct ListedView<'a> {
     pub answer: Valued,
     pub bytes: &'a [u8],
+}
+
+// What a listing of children answers (the child, the next position), and the child's fragment.
+pub struct ChildView<'a> {
+    pub answer: Childed,
+    pub fragment: &'a [u8],
 }
 
 // gvdb-rs: File::read_hash_table, HashTable::for_bytes.
@@ -100,6 +107,15 @@ impl<'a> TableView<'a> {
         let answer = Cursor::next_value(cursor, self.file, self.start, self.end);
         let bytes = crate::part::listed_part(self.file, answer);
         ListedView { answer, bytes }
+    }
+
+    // The child at the cursor of the container of a key.
+    pub fn next_child(self, key: &[u8], cursor: Cursor) -> ChildView<'a>
+        ensures { λ r. ⌜ ChildOf (self .entry) (now (key .entry)) (cursor .at) r ⌝ }
+    {
+        let answer = Cursor::next_child(cursor, self.file, self.start, self.end, key);
+        let fragment = crate::part::child_part(self.file, answer);
+        ChildView { answer, fragment }
     }
 
     // gvdb-rs: Keys::next.

@@ -5,6 +5,7 @@ use gvdb::building::gvdb_insert;
 use gvdb::building::gvdb_insert_table;
 use gvdb::building::gvdb_item_count;
 use gvdb::building::gvdb_new_table;
+use gvdb::reading::gvdb_next_child;
 use gvdb::writing::GvdbImage;
 use gvdb::writing::gvdb_write;
 
@@ -94,6 +95,42 @@ fn two() {
     image(&mut words, &arena, 112);
 }
 
+// The child at a position of the container "a/".
+fn child(image: &[u8], start: u32, end: u32, position: usize) {
+    let child = gvdb_next_child(image, start, end, b"a/", position);
+    say::text(b"child ");
+    say::size(position);
+    say::text(b" of \"a/\": ");
+    if child.number == 0 {
+        say::text(b"item ");
+        say::size(child.index);
+        say::text(b", kind ");
+        say::number(child.kind as u64);
+        say::text(b", \"");
+        say::text(view::part::stretch(image, child.start, child.end));
+        say::text(b"\", next ");
+        say::size(child.next);
+    } else {
+        say::number(child.number as u64);
+    }
+    say::end();
+}
+
+// "a/c", then "a/b": children are listed in order of arrival.
+fn children() {
+    let mut words = room_of_words();
+    let mut arena = room_of_bytes();
+    let mut buffer = [0u8; 160];
+    start(&mut words, &mut arena, b"/");
+    insert(&mut words, &mut arena, 0, b"a/c", b"");
+    insert(&mut words, &mut arena, 0, b"a/b", b"");
+    let written = gvdb_write(&mut words, &arena, 0, &mut buffer);
+    said(160, written);
+    child(&buffer, written.start, written.end, 0);
+    child(&buffer, written.start, written.end, 1);
+    child(&buffer, written.start, written.end, 2);
+}
+
 // A key of so many bytes.
 fn long_key(words: &mut [usize], arena: &mut [u8], key: &[u8], size: usize) {
     if size <= key.len() {
@@ -170,6 +207,7 @@ pub fn tables() {
     empty();
     one();
     two();
+    children();
     keys();
     items();
     nests();

@@ -1,9 +1,9 @@
--- `check_table::rules::child_count` meets its contract: it is the definition.
+-- `read::children::child_count` meets its contract: it is the definition.
 use native.Mathlib.Omega.{arith}
-use Rattle.check_table.specs.Rules.{childCount}
+use Rattle.read.specs.Children.{childCount}
 use borrow.Author.Needs.{needs}
-use Rattle.check_table.proofs.rules.child_count.Statement.{statement}
-use Rattle.check_table.proofs.rules.child_count.Tie as tie
+use Rattle.read.proofs.children.child_count.Statement.{statement}
+use Rattle.read.proofs.children.child_count.Tie as tie
 
 word-size-requires : tie.Need-word-size-requires
 word-size-requires c κs = search needs
