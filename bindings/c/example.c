@@ -119,6 +119,30 @@ static void list_values(gvdb_image at)
     }
 }
 
+/* The children of a container, one by one. A refused one is passed over, and where the container itself is bad there is none. */
+static void list_children(gvdb_image at, const char *key)
+{
+    gvdb_child child = gvdb_next_child(image, at.length, at.start, at.end, BYTES(key), SIZE_MAX);
+    say_key("children of", key);
+    say_number(child.number, child.at);
+    printf("\n");
+    if (child.number != GVDB_PAST_THE_LAST) {
+        return;
+    }
+    for (size_t position = 0;; position++) {
+        child = gvdb_next_child(image, at.length, at.start, at.end, BYTES(key), position);
+        if (child.number == GVDB_PAST_THE_LAST) {
+            return;
+        }
+        printf("child %zu: ", position);
+        say_number(child.number, child.at);
+        if (child.number == GVDB_OK) {
+            printf(", item %zu, '%c', \"%.*s\"", child.index, (char)child.kind, (int)(child.end - child.start), (const char *)image + child.start);
+        }
+        printf("\n");
+    }
+}
+
 static void check(const char *what, gvdb_image at)
 {
     gvdb_checked checked = gvdb_check(image, at.length, at.start, at.end);
@@ -144,6 +168,11 @@ static void read_back(gvdb_image root)
     printf("\n");
     list_keys(root);
     list_values(root);
+    list_children(root, "parcel/");
+    list_children(root, "parcel/12/");
+    list_children(root, "parcel/12/year");
+    list_children(root, "parcel/12");
+    list_children(root, "caf\xE9");
     check("the root table", root);
     gvdb_place nested = gvdb_get_table(image, root.length, root.start, root.end, BYTES("owner"));
     printf("get table \"owner\": %" PRIu32 "\n", nested.number);
@@ -239,6 +268,7 @@ int main(void)
     check("an image with a bit changed", written);
     find("year", written.length)[3] = 0xE9;
     check("an image with a Latin-1 key", written);
+    list_children(written, "parcel/12/");
     find("parcel/", written.length)[0] = 0xFF;
     check("an image with a Latin-1 key below another", written);
     list_keys(written);

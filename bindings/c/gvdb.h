@@ -37,8 +37,9 @@ extern "C" {
  *   1: all that the later numbers do not name
  *   2: gvdb_abi, gvdb_read_header with gvdb_header, gvdb_lay_header; the numbers 16, 17 and 19
  *   3: gvdb_first_bad; the field at, which is last, in gvdb_place, gvdb_key and gvdb_inserted; the fields why and at, which are last, in gvdb_checked
+ *   4: gvdb_next_child with gvdb_child
  */
-#define GVDB_ABI 3
+#define GVDB_ABI 4
 
 /* The number of the library that is linked. Another than GVDB_ABI is a library of other structs than those below. */
 uint32_t gvdb_abi(void);
@@ -55,12 +56,12 @@ enum {
     GVDB_ITEMS_UNEVEN = 7,        /* the bytes after the buckets are not a multiple of 24 */
     GVDB_KEY_NOT_UTF8 = 8,        /* the given key is not UTF-8 */
     GVDB_FRAGMENT_NOT_UTF8 = 9,   /* a stored key fragment is not UTF-8 */
-    GVDB_PARENT_OUTSIDE = 10,     /* a parent index is not below the item count */
+    GVDB_PARENT_OUTSIDE = 10,     /* a parent index, or a child index, is not below the item count */
     GVDB_PARENTS_ENDLESS = 11,    /* a parent chain never reaches a root */
     GVDB_KEY_NOT_FOUND = 12,      /* the key is not there */
     GVDB_OTHER_KIND = 13,         /* the item's kind is unknown, or another than asked */
     GVDB_BUFFER_TOO_SHORT = 14,   /* the listed key is longer than the lent buffer */
-    GVDB_PAST_THE_LAST = 15,      /* the position is past the last item, or past the last value */
+    GVDB_PAST_THE_LAST = 15,      /* the position is past the last item, past the last value, or past the last child */
     GVDB_HEADER_TOO_SHORT = 16,   /* the file, or the target, has under 24 bytes */
     GVDB_SIGNATURE_UNKNOWN = 17,  /* the file begins neither with "GVariant" nor with "raVGtnai" */
     GVDB_VERSION_UNKNOWN = 19,    /* the file's version is another than 0 */
@@ -125,6 +126,20 @@ typedef struct gvdb_value {
     size_t index;
     size_t next;
 } gvdb_value;
+
+/*
+ * A child of a container: its kind, 'v' a value, 'H' a table, 'L' a container; the place of its fragment in the file, which is its key behind the container's;
+ * its index, and the position to go on from. With GVDB_KEY_NOT_UTF8, where the given key is bad, and with GVDB_FRAGMENT_NOT_UTF8, where the fragment is.
+ */
+typedef struct gvdb_child {
+    uint32_t number;
+    uint32_t kind;
+    uint32_t start;
+    uint32_t end;
+    size_t index;
+    size_t next;
+    size_t at;
+} gvdb_child;
 
 /*
  * What the check says: with GVDB_CHECK_BROKEN the first item that breaks a rule, and its first broken rule, 1 to 6. With rule 1, why is the number that
@@ -214,6 +229,15 @@ gvdb_key gvdb_next_key(const uint8_t *file, size_t file_length, uint32_t start, 
  * go on; next is then at least 1, and 0 with the 2 and 3 of opening.
  */
 gvdb_value gvdb_next_value(const uint8_t *file, size_t file_length, uint32_t start, uint32_t end, size_t position);
+
+/*
+ * The child at a position, counted from 0, of the container under a key, in stored order. Refuses with 8 with at, 12; of the container 13 where the item is none,
+ * 2 or 3 of its value pointer, whose alignment is 4, and 13 where its length is not divisible by 4; 15 past the last child; of the child 10 where its index is not
+ * below the item count, 13 where its kind is unknown, then 2 or 9 with at of its fragment. It is not asked whether the child names this container as its parent:
+ * the check does that. After a child's refusal a caller may go on at position + 1. A first call at the greatest position, SIZE_MAX, answers 15 exactly where the
+ * container itself is good; any refusal but 15 at a lower position is then the child's.
+ */
+gvdb_child gvdb_next_child(const uint8_t *file, size_t file_length, uint32_t start, uint32_t end, const uint8_t *key, size_t key_length, size_t position);
 
 /*
  * Checks a table, not those nested in it. The rules, for each item: (1) its key would list; (2) lookup of that key answers this item; (3) its kind is
