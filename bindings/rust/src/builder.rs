@@ -21,6 +21,18 @@ pub enum Kind {
     Container,
 }
 
+impl Kind {
+    /// The kind that the library means by a byte.
+    pub(crate) fn of(byte: u32) -> Option<Kind> {
+        match u8::try_from(byte) {
+            Ok(b'v') => Some(Kind::Value),
+            Ok(b'H') => Some(Kind::Table),
+            Ok(b'L') => Some(Kind::Container),
+            _ => None,
+        }
+    }
+}
+
 /// What an insert did.
 #[derive(Clone, Copy, PartialEq, Eq, Hash, Debug)]
 #[must_use = "a replaced item is lost: look whether the key was new"]
@@ -171,10 +183,8 @@ impl fmt::Debug for Builder {
 
 fn outcome(answer: ffi::Inserted) -> Result<Inserted, Refusal> {
     accepted_at(answer.number, answer.at)?;
-    Ok(match u8::try_from(answer.replaced) {
-        Ok(0) => Inserted::New,
-        Ok(b'H') => Inserted::Replaced(Kind::Table),
-        Ok(b'L') => Inserted::Replaced(Kind::Container),
-        _ => Inserted::Replaced(Kind::Value),
+    Ok(match answer.replaced {
+        0 => Inserted::New,
+        byte => Inserted::Replaced(Kind::of(byte).unwrap_or(Kind::Value)),
     })
 }

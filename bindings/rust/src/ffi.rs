@@ -3,7 +3,7 @@
 #![allow(unsafe_code)]
 
 /// The number of the interface that this crate is written for, `GVDB_ABI` of gvdb.h. The build holds it to that and to the library's.
-pub const ABI: u32 = 3;
+pub const ABI: u32 = 4;
 
 #[repr(C)]
 pub struct Headed {
@@ -44,6 +44,17 @@ pub struct Value {
     pub end: u32,
     pub index: usize,
     pub next: usize,
+}
+
+#[repr(C)]
+pub struct Child {
+    pub number: u32,
+    pub kind: u32,
+    pub start: u32,
+    pub end: u32,
+    pub index: usize,
+    pub next: usize,
+    pub at: usize,
 }
 
 #[repr(C)]
@@ -92,6 +103,7 @@ extern "C" {
     fn gvdb_get_table(file: *const u8, size: usize, start: u32, end: u32, key: *const u8, length: usize) -> Place;
     fn gvdb_next_key(file: *const u8, size: usize, start: u32, end: u32, position: usize, out: *mut u8, room: usize) -> Key;
     fn gvdb_next_value(file: *const u8, size: usize, start: u32, end: u32, position: usize) -> Value;
+    fn gvdb_next_child(file: *const u8, size: usize, start: u32, end: u32, key: *const u8, length: usize, position: usize) -> Child;
     fn gvdb_check(file: *const u8, size: usize, start: u32, end: u32) -> Checked;
     fn gvdb_memory_words() -> usize;
     fn gvdb_fresh(words: *mut usize, count: usize, arena: *mut u8, room: usize) -> u32;
@@ -148,6 +160,10 @@ pub fn next_key(file: &[u8], start: u32, end: u32, position: usize, out: &mut [u
 
 pub fn next_value(file: &[u8], start: u32, end: u32, position: usize) -> Value {
     unsafe { gvdb_next_value(file.as_ptr(), file.len(), start, end, position) }
+}
+
+pub fn next_child(file: &[u8], start: u32, end: u32, key: &[u8], position: usize) -> Child {
+    unsafe { gvdb_next_child(file.as_ptr(), file.len(), start, end, key.as_ptr(), key.len(), position) }
 }
 
 pub fn check(file: &[u8], start: u32, end: u32) -> Checked {

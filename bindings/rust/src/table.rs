@@ -223,8 +223,13 @@ impl<'a> Table<'a> {
         }
     }
 
+    /// All of the file.
+    pub(crate) fn file(&self) -> &'a [u8] {
+        self.file
+    }
+
     /// A place that the library has judged to lie in the file.
-    fn part(&self, start: u32, end: u32) -> Result<&'a [u8], Refusal> {
+    pub(crate) fn part(&self, start: u32, end: u32) -> Result<&'a [u8], Refusal> {
         self.file.get(start as usize..end as usize).ok_or(Refusal::PointerOutside)
     }
 
@@ -332,7 +337,7 @@ pub enum Item<'a> {
     Value(&'a [u8]),
     /// A nested table.
     Table(Table<'a>),
-    /// A container: the items below it have longer keys. In a table that does not pass the check it may also be an item of an unknown kind.
+    /// A container whose list opens: [`Table::children`] has the items below it. An item of an unknown kind is refused with 13.
     Container,
 }
 
@@ -411,11 +416,11 @@ impl<'a> Iterator for Tables<'a> {
     }
 }
 
-/// What lies under a key that is no value's: a table, or a container if the lookup finds another kind.
+/// What lies under a key that is no value's: a table, or a container; what is neither is refused as the container that it is not.
 fn nested<'a>(table: &Table<'a>, key: &str) -> Result<Item<'a>, Refusal> {
     match table.get_table(key) {
         Ok(nested) => Ok(Item::Table(nested)),
-        Err(Refusal::OtherKind) => Ok(Item::Container),
+        Err(Refusal::OtherKind) => table.container(key.as_bytes()).map(|()| Item::Container),
         Err(refusal) => Err(refusal),
     }
 }
