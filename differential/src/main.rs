@@ -1,8 +1,9 @@
 //! This library, gvdb-rs and a third reading of the documents, asked the same questions in one process.
 //! Use: differential [--lists FOLDER] [--seeds A..B] [--minutes N]. The lists are the oracle's stored questions. A seed is a history of builder calls with its images and damaged copies of them, tables made by hand and
-//! at random, a header, texts that may be no UTF-8, and a builder on garbage memory. With --minutes it goes on from the last seed for that long.
+//! at random, a header, texts that may be no UTF-8, keys whose order of arrival is that of the children, and a builder on garbage memory. With --minutes it goes on from the last seed for that long.
 
 mod building;
+mod children;
 mod corners;
 mod dice;
 mod document;
@@ -194,6 +195,7 @@ impl Run {
         }
         self.chance(seed, dice, headers::random, "a header by chance");
         self.chance(seed, dice, texts::random, "texts by chance");
+        self.chance(seed, dice, children::arrival, "children by order of arrival");
     }
 }
 
@@ -230,6 +232,7 @@ fn all(arguments: Arguments) -> Run {
     run.fixed(limits::show, "a limit is not as it should be");
     run.fixed(headers::show, "a header is not read or laid as it should be");
     run.fixed(garbage::rules, "a write takes memory that breaks a rule");
+    run.fixed(children::show, "the children of a container are not as they should be");
     run.fixed(texts::show, "a text is bad elsewhere than is said");
     for list in arguments.lists.iter().flat_map(|folder| std::fs::read_dir(folder).expect("the lists")) {
         run.stored(&std::fs::read_to_string(list.expect("a list").path()).expect("a list"));

@@ -3,7 +3,7 @@
 use crate::document::header::Headed;
 use crate::ffi;
 use crate::lent::{buffer, untouched, Memory};
-use crate::tally::{Broken, Place, Why};
+use crate::tally::{Broken, Child, Place, Why};
 
 pub fn header(file: &[u8]) -> Headed {
     let header = ffi::read_header(file);
@@ -81,6 +81,13 @@ pub fn values(file: &[u8], start: u32, end: u32) -> Vec<(usize, Place)> {
         values.push((value.index, refused(value.number, (value.start, value.end), (0, 0)).map_err(Why::from)));
         position = value.next;
     }
+}
+
+/// The child at a position of the container under a key.
+pub fn child(file: &[u8], start: u32, end: u32, key: &[u8], position: usize) -> Child {
+    let child = ffi::next_child(file, start, end, key, position);
+    assert_eq!(child.next, if child.number == 0 { position + 1 } else { 0 }, "the next position");
+    refused_at(child.number, child.at, &[8, 9], (child.kind, child.start, child.end, child.index), (0, 0, 0, 0))
 }
 
 /// None for a sound table, or the rule, the item and what is said of rule 1.

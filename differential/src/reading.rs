@@ -7,6 +7,9 @@ use crate::tally::{number, Outcome, Tally, Who, Why};
 use crate::theirs;
 use gvdb::read::HashTable;
 
+/// So many positions of a container are asked one by one, and the greatest.
+const CHILDREN: usize = 12;
+
 /// A file, the pointer to a table in it, and keys to ask for.
 #[derive(Clone)]
 pub struct Case {
@@ -91,6 +94,7 @@ impl Case {
             let nested = ours::get_table(bytes, start, end, key);
             tally.number(number(&nested));
             tally.same(Who::Document, "get table", &nested, &other.and_then(|table| table.get_table(key)), || hex(key))?;
+            self.children_with_document(tally, bytes, &paper, key)?;
         }
         match paper {
             Ok(table) => self.lists_with_document(tally, bytes, &table),
@@ -99,6 +103,23 @@ impl Case {
                 tally.same(Who::Document, "values", &crate::ffi::next_value(bytes, start, end, 0).number, &number, String::new)
             }
         }
+    }
+
+    /// The child at the greatest position, which says whether the container is good, and then from the first on up to the one past the last.
+    fn children_with_document(&self, tally: &mut Tally, bytes: &[u8], paper: &Result<document::Table, u32>, key: &[u8]) -> Outcome {
+        let mut ask = |position: usize| {
+            let ours = ours::child(bytes, self.start, self.end, key, position);
+            let other = paper.as_ref().map_err(|number| Why::from(*number)).and_then(|table| table.child(key, position));
+            tally.number(number(&ours));
+            tally.same(Who::Document, "children", &ours, &other, || format!("{} at {position}", hex(key))).map(|()| number(&ours))
+        };
+        let container = ask(usize::MAX)?;
+        for position in 0..CHILDREN {
+            if ask(position)? == 15 || container != 15 {
+                break;
+            }
+        }
+        Ok(())
     }
 
     /// Each key with room to spare, with room that just fits and with a byte too few; then the values.
@@ -149,6 +170,23 @@ impl Case {
             tally.same(Who::Rust, "get", &place, &theirs::get(bytes, table, text), || hex(key))?;
             let nested = theirs::place_as_theirs(ours::get_table(bytes, self.start, self.end, key));
             tally.same(Who::Rust, "get table", &nested, &theirs::get_table(table, text), || hex(key))?;
+        }
+        match paper {
+            Some(paper) if ours::check(bytes, self.start, self.end) == Ok(None) => self.joined(tally, bytes, keys, table, &paper),
+            _ => Ok(()),
+        }
+    }
+
+    /// In a sound table the container's key and a child's fragment, joined, are a key under which gvdb-rs finds that child.
+    fn joined(&self, tally: &mut Tally, bytes: &[u8], keys: &[Vec<u8>], table: &HashTable<'_, '_>, paper: &document::Table) -> Outcome {
+        for key in keys {
+            for position in 0.. {
+                let Ok((_, from, to, index)) = ours::child(bytes, self.start, self.end, key, position) else { break };
+                let joined = [key, &bytes[from as usize..to as usize]].concat();
+                let text = std::str::from_utf8(&joined).expect("two texts");
+                let found = theirs::item(table, text);
+                tally.same(Who::Rust, "children", &Some(paper.record(index)), &found.as_ref().map(|item| &item[..]), || hex(&joined))?;
+            }
         }
         Ok(())
     }

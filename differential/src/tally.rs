@@ -51,6 +51,9 @@ pub fn number<T>(answer: &Result<T, Why>) -> u32 {
 /// Start and end of a stretch of a file, or a refusal.
 pub type Place = Result<(u32, u32), Why>;
 
+/// A child: the byte of its kind, start and end of its fragment, and its index; or a refusal.
+pub type Child = Result<(u32, u32, u32, usize), Why>;
+
 /// The first broken rule of a table, the item that breaks it, and for rule 1 with what listing that item ends.
 pub type Broken = (u32, usize, Option<Why>);
 

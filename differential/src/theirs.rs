@@ -91,6 +91,11 @@ pub fn get_table(table: &HashTable, key: &str) -> Place {
     Ok((word(16), word(20)))
 }
 
+/// The bytes of the item that a lookup finds, of any kind.
+pub fn item(table: &HashTable, key: &str) -> Option<[u8; 24]> {
+    raw::item(table, key)
+}
+
 pub fn keys(table: &HashTable) -> Vec<Result<Vec<u8>, Why>> {
     table.keys().map(|key| key.map(String::into_bytes).map_err(why)).collect()
 }

@@ -4,7 +4,7 @@
 
 mod ffi;
 
-use ffi::{check, get, get_table, next_key, next_value, open, read_header};
+use ffi::{check, get, get_table, next_child, next_key, next_value, open, read_header, Opened};
 
 #[derive(Default)]
 struct Sum {
@@ -13,11 +13,36 @@ struct Sum {
     values: u32,
     found: u32,
     missed: u32,
+    children: usize,
     refused: u32,
     broken: Vec<(u32, usize)>,
 }
 
-/// A table and those nested in it. Every key that lists is looked up; one that is found as a value lies where value listing has it.
+/// The indices of the children of a container. In a table whose keys list, the key and each fragment are the child's key.
+fn children(file: &[u8], start: u32, end: u32, key: &[u8]) -> Vec<usize> {
+    let mut found = Vec::new();
+    assert_eq!(next_child(file, start, end, key, usize::MAX).number, 15);
+    loop {
+        let child = next_child(file, start, end, key, found.len());
+        if child.number == 15 {
+            return found;
+        }
+        assert_eq!((child.number, child.next), (0, found.len() + 1));
+        let mut out = vec![0; 4096];
+        let listed = next_key(file, start, end, child.index, &mut out);
+        assert!(listed.number == 0 && out[..listed.length] == [key, &file[child.start as usize..child.end as usize]].concat());
+        found.push(child.index);
+    }
+}
+
+/// The items that name a parent, by the words of their records.
+fn with_parent(file: &[u8], start: u32, opened: &Opened) -> Vec<usize> {
+    let items = start as usize + 8 + 4 * (opened.blooms + opened.buckets) as usize;
+    (0..opened.items as usize).filter(|item| file[items + 24 * item + 4..items + 24 * item + 8] != [0xFF; 4]).collect()
+}
+
+/// A table and those nested in it. Every key that lists is looked up; one that is found as a value lies where value listing has it. Of a sound table, the
+/// children of all containers are all items with a parent, each once.
 fn walk(file: &[u8], start: u32, end: u32, sum: &mut Sum) {
     let opened = open(file, start, end);
     if opened.number != 0 {
@@ -42,6 +67,7 @@ fn walk(file: &[u8], start: u32, end: u32, sum: &mut Sum) {
         position = value.next;
     }
     sum.values += places.len() as u32;
+    let mut below = Vec::new();
     for i in 0..opened.items as usize {
         let mut out = vec![0; 4096];
         let key = next_key(file, start, end, i, &mut out);
@@ -60,11 +86,18 @@ fn walk(file: &[u8], start: u32, end: u32, sum: &mut Sum) {
                 sum.found += 1;
                 walk(file, nested.start, nested.end, sum);
             }
+            (13, 13) if next_child(file, start, end, &out[..key.length], usize::MAX).number == 15 => {
+                sum.found += 1;
+                below.extend(children(file, start, end, &out[..key.length]));
+            }
             (13, 13) => sum.found += 1,
             (12, 12) => sum.missed += 1,
             _ => sum.refused += 1,
         }
     }
+    sum.children += below.len();
+    below.sort();
+    assert!(checked.number != 0 || below == with_parent(file, start, &opened));
 }
 
 fn main() {
@@ -87,8 +120,8 @@ fn main() {
             Some((rule, item)) => format!("rule {rule} broken by item {item}"),
         };
         println!(
-            "{name}: {order}, tables {}, items {}, values {}, found {}, not found {}, refused {}; {sound}",
-            sum.tables, sum.items, sum.values, sum.found, sum.missed, sum.refused
+            "{name}: {order}, tables {}, items {}, values {}, found {}, not found {}, children {}, refused {}; {sound}",
+            sum.tables, sum.items, sum.values, sum.found, sum.missed, sum.children, sum.refused
         );
     }
 }

@@ -3,7 +3,7 @@
 
 mod ffi;
 
-use ffi::{abi, check, first_bad, get, get_table, lay_header, memory_words, next_key, next_value, open, read_header, Builder, ABI};
+use ffi::{abi, check, first_bad, get, get_table, lay_header, memory_words, next_child, next_key, next_value, open, read_header, Builder, ABI};
 use std::process::{Command, Stdio};
 
 const HEADER: &str = include_str!("../../bindings/c/gvdb.h");
@@ -62,6 +62,7 @@ fn make(call: &str, kib: usize) {
         "gvdb_get_table" => get_table(&image, start, end, b"t").number,
         "gvdb_next_key" => next_key(&image, start, end, 9, &mut out).number,
         "gvdb_next_value" => next_value(&image, start, end, 9).number,
+        "gvdb_next_child" => next_child(&image, start, end, &key[..key.len() - 1], 9).number,
         "gvdb_check" => check(&image, start, end).number,
         "gvdb_memory_words" => u32::from(memory_words() == 0),
         "gvdb_fresh" => empty.again(),

@@ -2,7 +2,7 @@
 
 use super::hash;
 use crate::ffi::MAX_FILE;
-use crate::tally::{Broken, Place, Why};
+use crate::tally::{Broken, Child, Place, Why};
 
 const ROOT: u32 = u32::MAX;
 
@@ -164,6 +164,32 @@ impl<'f> Table<'f> {
         Ok((start, end))
     }
 
+    /// The child at a position of the container under a key: 8, 12, 13; 2, 3 and 13 of its list; 15; of the child 10, 13, then 2 or 9.
+    pub fn child(&self, key: &[u8], position: usize) -> Child {
+        let (start, end) = self.found(key, b'L')?;
+        pointer(self.file, start as usize, end as usize, 4)?;
+        if !(end - start).is_multiple_of(4) {
+            return Err(Why::from(13));
+        }
+        let children = self.children_between(start, end);
+        let index = *children.get(position).ok_or(15u32)? as usize;
+        if index >= self.count {
+            return Err(Why::from(10));
+        }
+        let kind = self.kind(index);
+        if !b"vHL".contains(&kind) {
+            return Err(Why::from(13));
+        }
+        let size = self.fragment(index)?.len() as u32;
+        let from = word(self.file, self.item(index) + 8);
+        Ok((u32::from(kind), from, from + size, index))
+    }
+
+    /// The bytes of an item.
+    pub fn record(&self, index: usize) -> &'f [u8] {
+        &self.file[self.item(index)..self.item(index) + 24]
+    }
+
     /// Each item of kind 'v', with its place or 2 or 3.
     pub fn values(&self) -> Vec<(usize, Place)> {
         (0..self.count).filter(|index| self.kind(*index) == b'v').map(|index| (index, self.value_opens(self.value(index)))).collect()
@@ -207,6 +233,10 @@ impl<'f> Table<'f> {
     /// The indices that a container's value holds.
     fn children(&self, index: usize) -> Vec<u32> {
         let (start, end) = self.value(index);
+        self.children_between(start, end)
+    }
+
+    fn children_between(&self, start: u32, end: u32) -> Vec<u32> {
         (start as usize..end as usize).step_by(4).map(|at| word(self.file, at)).collect()
     }
 
