@@ -232,6 +232,52 @@ fn print_headers(rounds: usize) {
     );
 }
 
+/// A child, and a lookup of its container's key, which ends with 13: the containers that have the values right below them, at every position.
+fn children(ground: &Ground) -> (Turn<'_>, Turn<'_>) {
+    let containers: Vec<String> = (0..16).map(|i| format!("/parcel/12/stand/3/plot/{i}/")).collect();
+    let asked: Vec<(String, usize)> = (0..ground.keys.len() / 16).flat_map(|at| containers.iter().map(move |key| (key.clone(), at))).collect();
+    let count = asked.len();
+    let keys = asked.clone();
+    let child = move || {
+        timed(|| {
+            asked.iter().for_each(|(key, at)| assert_eq!(ffi::next_child(black_box(&ground.image), 24, ground.end, black_box(key.as_bytes()), *at).number, 0))
+        })
+        .0
+    };
+    let lookup = move || {
+        timed(|| keys.iter().for_each(|(key, _)| assert_eq!(ffi::get(black_box(&ground.image), 24, ground.end, black_box(key.as_bytes())).number, 13))).0
+    };
+    (turn(count, child), turn(count, lookup))
+}
+
+/// All children of one container as the Rust crate's iterator asks for them, and the check of that table. It has more items than our builder takes, so gvdb-rs lays it.
+fn whole_container(file: &[u8], count: usize) -> (Turn<'_>, Turn<'_>) {
+    let end = ffi::read_header(file).end;
+    let next = move |position: usize| ffi::next_child(black_box(file), 24, end, black_box(b"/parcel/"), position).number;
+    let listing = move || {
+        timed(|| {
+            assert_eq!(next(usize::MAX), 15);
+            assert_eq!((0..).take_while(|position| next(*position) != 15).count(), count);
+        })
+        .0
+    };
+    let check = move || timed(|| assert_eq!(ffi::check(black_box(file), 24, end).number, 0)).0;
+    (turn(count, listing), turn(count, check))
+}
+
+fn print_children(rounds: usize) {
+    const COUNT: usize = 10_000;
+    let (child, lookup) = measure(rounds, children(&Ground::new(1000)));
+    println!("nanoseconds for a child: {child:.1}, for a lookup of its container {lookup:.1}: {:.1} more", child - lookup);
+    let mut builder = HashTableBuilder::with_path_separator(Some("/"));
+    fill_theirs(&mut builder, &(0..COUNT).map(|i| format!("/parcel/{i:05}")).collect::<Vec<_>>());
+    let (listing, check) = measure(rounds, whole_container(&write_theirs(builder), COUNT));
+    println!(
+        "a container of {COUNT} children through the iterator: {listing:.1} for each, {:.2} ms; the check of its table {check:.1} for each",
+        listing * COUNT as f64 / 1e6
+    );
+}
+
 fn median(mut times: Vec<f64>) -> f64 {
     times.sort_by(f64::total_cmp);
     times[times.len() / 2]
@@ -301,4 +347,5 @@ fn main() {
         println!("| {name} | {:.2} | {:.2} | {:.2} | at most {goal}: {verdict} |", ratios[0], ratios[1], ratios[2]);
     }
     print_headers(rounds);
+    print_children(rounds);
 }
