@@ -24,7 +24,7 @@ ghost use Rattle.words.specs.Hash.{plain, hashOf};
 ghost use Rattle.text.specs.Utf8.{isUtf8};
 ghost use Rattle.layout.specs.Table.{InFile};
 ghost use Rattle.read.specs.Find.{bloomPasses, runOf, itemMatches, firstOf, findItem};
-ghost use Rattle.read.specs.Lookup.{lookupIn, lookupItem, valueOf, nestedOf, lookupValue, lookupTable};
+ghost use Rattle.read.specs.Lookup.{lookupIn, valueOf, nestedOf, lookupValue, lookupTable, atItem};
 
 // The items of one bucket: the indices from `first` up to `last`.
 pub struct Run {
@@ -165,16 +165,6 @@ pub fn lookup_in(file: &[u8], table: Table, key: &[u8]) -> Sought
     }
 }
 
-// The item of a key in the table at a pointer: opening, then the same.
-fn lookup_item(file: &[u8], start: u32, end: u32, key: &[u8]) -> Sought
-    ensures { λ r. ⌜ r ≡ lookupItem plain (now (file .entry)) start end (now (key .entry)) ⌝ }
-{
-    match open_table(file, start, end) {
-        Opened::Refused(why) => Sought::Refused(why),
-        Opened::Table(table) => lookup_in(file, table, key),
-    }
-}
-
 // gvdb-rs: get_item_bytes.
 // The value of an item: 13 for another kind, then 2 or 3 of its pointer.
 fn value_of(file: &[u8], item: Item) -> Looked
@@ -208,14 +198,44 @@ fn nested_of(file: &[u8], item: Item) -> Looked
     }
 }
 
+// The value of a key in an open table: 8 with the offset in the key, 12, then the item's. It takes no `Sought`, which would carry a copy of the item.
+fn value_in(file: &[u8], table: Table, key: &[u8]) -> Looked
+    requires { ⌜ InFile (now file) table ⌝ }
+    ensures { λ r. ⌜ r ≡ atItem (lookupIn plain (now (file .entry)) (now (key .entry)) table) (λ item. valueOf (now (file .entry)) item) ⌝ }
+{
+    if is_key(key) {
+        match find_item(file, table, key) {
+            Found::Nothing => Looked::Refused(Refusal::KeyNotFound),
+            Found::At(index) => value_of(file, item_at(file, table, index)),
+        }
+    } else {
+        Looked::Refused(Refusal::KeyNotUtf8(first_bad(key)))
+    }
+}
+
 // gvdb-rs: get_bytes.
 // The pointer of a key's value, in the table at a pointer.
 pub fn lookup_value(file: &[u8], start: u32, end: u32, key: &[u8]) -> Looked
     ensures { λ r. ⌜ r ≡ lookupValue plain (now (file .entry)) start end (now (key .entry)) ⌝ }
 {
-    match lookup_item(file, start, end, key) {
-        Sought::Refused(why) => Looked::Refused(why),
-        Sought::Item(item) => value_of(file, item),
+    match open_table(file, start, end) {
+        Opened::Refused(unopened) => Looked::Refused(unopened),
+        Opened::Table(table) => value_in(file, table, key),
+    }
+}
+
+// The nested table of a key in an open table: 8 with the offset in the key, 12, then the item's. It takes no `Sought`, which would carry a copy of the item.
+fn nested_in(file: &[u8], table: Table, key: &[u8]) -> Looked
+    requires { ⌜ InFile (now file) table ⌝ }
+    ensures { λ r. ⌜ r ≡ atItem (lookupIn plain (now (file .entry)) (now (key .entry)) table) (λ item. nestedOf (now (file .entry)) item) ⌝ }
+{
+    if is_key(key) {
+        match find_item(file, table, key) {
+            Found::Nothing => Looked::Refused(Refusal::KeyNotFound),
+            Found::At(index) => nested_of(file, item_at(file, table, index)),
+        }
+    } else {
+        Looked::Refused(Refusal::KeyNotUtf8(first_bad(key)))
     }
 }
 
@@ -224,8 +244,8 @@ pub fn lookup_value(file: &[u8], start: u32, end: u32, key: &[u8]) -> Looked
 pub fn lookup_table(file: &[u8], start: u32, end: u32, key: &[u8]) -> Looked
     ensures { λ r. ⌜ r ≡ lookupTable plain (now (file .entry)) start end (now (key .entry)) ⌝ }
 {
-    match lookup_item(file, start, end, key) {
-        Sought::Refused(why) => Looked::Refused(why),
-        Sought::Item(item) => nested_of(file, item),
+    match open_table(file, start, end) {
+        Opened::Refused(unopened) => Looked::Refused(unopened),
+        Opened::Table(table) => nested_in(file, table, key),
     }
 }

@@ -1,37 +1,38 @@
--- `read::lookup::lookup_value` meets its contract: each arm is a case of the definition.
+-- `read::lookup::lookup_value` meets its contract: what opening answers, and then the item.
 use mathlib.Core.Path.{sym, _∙_}
 use borrow.Author.Needs.{needs}
-use Rattle.read.specs.Lookup.{lookupValue, atItem}
+use Rattle.layout.proofs.OpenLaws.{opened-in-file}
+use Rattle.read.specs.Lookup.{lookupValue, lookupItem, atOpened, atItem}
 use Rattle.read.proofs.lookup.lookup_value.Statement.{statement}
 use Rattle.read.proofs.lookup.lookup_value.Tie as tie
 
-lookup-item-requires : tie.Need-lookup-item-requires
-lookup-item-requires c κs = search needs
+open-table-requires : tie.Need-open-table-requires
+open-table-requires c κs = search needs
 
-enum-known-why : tie.Need-enum-known-why
-enum-known-why c = search needs
+enum-known-unopened : tie.Need-enum-known-unopened
+enum-known-unopened c = search needs
 
-enum-known-item : tie.Need-enum-known-item
-enum-known-item c = search needs
+enum-known-table : tie.Need-enum-known-table
+enum-known-table c = search needs
 
-value-of-requires : tie.Need-value-of-requires
-value-of-requires c κs = search needs
+value-in-requires : tie.Need-value-in-requires
+value-in-requires c κs = opened-in-file _ _ _ (sym (c .before .before .before .open-table .ensures) ∙ c .before .table .given .1)
 
 returns : tie.Need-returns
-unfolding lookupValue atItem
-returns c = simp (sym (c .before .before .before .lookup-item .ensures) ∙ c .before .why .given .1)
+unfolding lookupValue lookupItem atOpened atItem
+returns c = simp (sym (c .before .before .before .open-table .ensures) ∙ c .before .unopened .given .1)
 
 returns-2 : tie.Need-returns-2
-unfolding lookupValue atItem
-returns-2 c = simp (sym (c .before .before .before .before .lookup-item .ensures) ∙ c .before .before .item .given .1) (c .value-of .ensures)
+unfolding lookupValue lookupItem atOpened
+returns-2 c = simp (sym (c .before .before .before .before .open-table .ensures) ∙ c .before .before .table .given .1) (c .value-in .ensures)
 
 pub lookup-value-spec : {M : Type 1} → statement M
 lookup-value-spec =
     tie.close
     (tie.spec
-    lookup-item-requires
-    enum-known-why
-    enum-known-item
-    value-of-requires
+    open-table-requires
+    enum-known-unopened
+    enum-known-table
+    value-in-requires
     returns
     returns-2)

@@ -1,0 +1,63 @@
+-- `read::lookup::nested_in` meets its contract: what is found is an item of the table, of which the nested table is asked.
+use mathlib.Core.Path.{sym, ap, _∙_, subst}
+use Prim.Native.Nat.{ℕ}
+use borrow.Author.Needs.{needs}
+use Rattle.words.specs.Choice.{pick}
+use Rattle.words.specs.Hash.{plain}
+use Rattle.layout.specs.declared.refusal.Refusal.the-variants.{KeyNotUtf8}
+use Rattle.read.specs.declared.lookup.Looked.{Looked}
+use Rattle.read.specs.Lookup.{lookupIn, atFound, atItem, nestedOf}
+use Rattle.read.proofs.FindLaws.{FoundBelow, found-below}
+use Rattle.read.proofs.lookup.nested_in.Statement.{statement}
+use Rattle.read.proofs.lookup.nested_in.Tie as tie
+
+is-key-requires : tie.Need-is-key-requires
+is-key-requires c κs = search needs
+
+find-item-requires : tie.Need-find-item-requires
+find-item-requires c κs = search needs
+
+enum-told : tie.Need-enum-told
+enum-told c = search needs
+
+enum-known-index : tie.Need-enum-known-index
+enum-known-index c = search needs
+
+item-at-requires : tie.Need-item-at-requires
+unfolding FoundBelow
+item-at-requires c κs = (c .before .before .before .before .before .before .before .before .pre, subst (FoundBelow _) (sym (c .before .before .before .find-item .ensures) ∙ c .before .index .given .1) (found-below plain _ _ _))
+
+nested-of-requires : tie.Need-nested-of-requires
+nested-of-requires c κs = search needs
+
+first-bad-requires : tie.Need-first-bad-requires
+first-bad-requires c κs = search needs
+
+returns : tie.Need-returns
+unfolding lookupIn atFound atItem pick
+returns c = simp (sym (c .before .before .before .before .is-key .ensures) ∙ c .before .before .before .if1 .taken, sym (c .before .before .find-item .ensures) ∙ c .enum-told .given .1)
+
+returns-2 : tie.Need-returns-2
+unfolding lookupIn atFound atItem pick
+returns-2 c =
+    simp (sym (c .before .before .before .before .before .before .before .is-key .ensures) ∙ c .before .before .before .before .before .before .if1 .taken, sym (c .before .before .before .before .before .find-item .ensures) ∙ c .before .before .before .index .given .1)
+    (c .nested-of .ensures ∙ ap (nestedOf _) (c .before .item-at .ensures))
+
+returns-3 : tie.Need-returns-3
+unfolding lookupIn atItem pick
+returns-3 c = simp (sym (c .before .before .is-key .ensures) ∙ c .before .if1 .left) (ap (λ (at : ℕ). Looked.Refused (KeyNotUtf8 at)) (c .first-bad .ensures))
+
+pub nested-in-spec : {M : Type 1} → statement M
+nested-in-spec =
+    tie.close
+    (tie.spec
+    is-key-requires
+    find-item-requires
+    enum-told
+    enum-known-index
+    item-at-requires
+    nested-of-requires
+    first-bad-requires
+    returns
+    returns-2
+    returns-3)
