@@ -4,6 +4,7 @@ use crate::args::Args;
 use crate::content::{self, Content, Node};
 use crate::failure::{Failure, NO, UNREADABLE};
 use crate::json::Json;
+use crate::order::Order;
 use crate::out::{Colour, Out};
 use crate::source::Source;
 use crate::text;
@@ -15,7 +16,7 @@ const SHORT: usize = 32;
 pub fn run(args: &Args, out: &mut Out) -> Result<u8, Failure> {
     let [a, b] = read(args)?;
     let contents = [content(&a)?, content(&b)?];
-    let diff = Diff::of([&a, &b], [&contents[0], &contents[1]]);
+    let diff = Diff::of([&a, &b], [&contents[0], &contents[1]])?;
     match args.flag("--json") {
         true => diff.json().print(out)?,
         false => diff.print(out)?,
@@ -27,7 +28,7 @@ pub fn run(args: &Args, out: &mut Out) -> Result<u8, Failure> {
 pub fn same(args: &Args, _: &mut Out) -> Result<u8, Failure> {
     let [a, b] = read(args)?;
     let contents = [content(&a)?, content(&b)?];
-    Ok(Diff::of([&a, &b], [&contents[0], &contents[1]]).status())
+    Ok(Diff::of([&a, &b], [&contents[0], &contents[1]])?.status())
 }
 
 fn read(args: &Args) -> Result<[Source; 2], Failure> {
@@ -42,6 +43,8 @@ fn content(source: &Source) -> Result<Content<'_>, Failure> {
 /// Two files, A and B, side by side.
 struct Diff<'c> {
     files: [&'c Source; 2],
+    /// How the children of their containers stand.
+    orders: [Order; 2],
     /// In ascending key order, a table before what it holds.
     differences: Vec<Difference<'c>>,
     /// How many items stand alike in both.
@@ -63,13 +66,30 @@ enum What {
     OnlyB,
     Value,
     Kind,
+    /// Of a container: the children that both have stand in another order.
+    Order,
 }
 
 impl<'c> Diff<'c> {
-    fn of(files: [&'c Source; 2], contents: [&'c Content<'c>; 2]) -> Diff<'c> {
-        let mut diff = Diff { files, differences: Vec::new(), alike: 0 };
+    fn of(files: [&'c Source; 2], contents: [&'c Content<'c>; 2]) -> Result<Diff<'c>, Failure> {
+        let orders = [Order::of(files[0], contents[0])?, Order::of(files[1], contents[1])?];
+        let mut diff = Diff { files, orders, differences: Vec::new(), alike: 0 };
         diff.tables(contents.map(Some), &mut Vec::new());
-        diff
+        Ok(diff)
+    }
+
+    /// The children that a container has in both files, as they stand in each.
+    fn children(&self, path: &[String], container: &str) -> [Vec<&String>; 2] {
+        let [a, b] = self.orders.each_ref().map(|order| order.children(path, container));
+        let there: BTreeSet<&String> = b.iter().collect();
+        let both: BTreeSet<&String> = a.iter().filter(|child| there.contains(child)).collect();
+        [a, b].map(|list| list.iter().filter(|child| both.contains(child)).collect())
+    }
+
+    /// The first of them that is another in each.
+    fn reordered(&self, path: &[String], container: &str) -> Option<[String; 2]> {
+        let [a, b] = self.children(path, container);
+        a.into_iter().zip(b).find(|(a, b)| a != b).map(|(a, b)| [a.clone(), b.clone()])
     }
 
     /// Compares two tables, of which one may not be there.
@@ -81,7 +101,8 @@ impl<'c> Diff<'c> {
                 [Some(_), None] => Some(What::OnlyA),
                 [None, Some(_)] => Some(What::OnlyB),
                 [Some(Node::Value(a)), Some(Node::Value(b))] => Some(What::Value).filter(|_| a != b),
-                [Some(Node::Table(_)), Some(Node::Table(_))] | [Some(Node::Container), Some(Node::Container)] => None,
+                [Some(Node::Table(_)), Some(Node::Table(_))] => None,
+                [Some(Node::Container), Some(Node::Container)] => self.reordered(path, key).map(|_| What::Order),
                 _ => Some(What::Kind),
             };
             match what {
@@ -102,7 +123,6 @@ impl<'c> Diff<'c> {
         self.files[0].header.order == self.files[1].header.order
     }
 
-    /// Files of the same bytes have their children in the same order. Of others nothing tells it yet.
     fn same_bytes(&self) -> bool {
         self.files[0].bytes == self.files[1].bytes
     }
@@ -128,14 +148,22 @@ impl<'c> Diff<'c> {
         }
         for difference in &self.differences {
             difference.print(out)?;
+            let first = Some(difference).filter(|difference| difference.what == What::Order).and_then(|order| self.reordered(&order.path, order.key));
+            for (side, child) in ["A", "B"].into_iter().zip(first.iter().flatten()) {
+                out.line(format!("    {side}  the first that differs is {}", text::quoted(&child[difference.key.len()..])))?;
+            }
         }
         let alike = text::count(self.alike, "item");
         if self.status() == 0 {
-            let order = if self.same_bytes() { ", byte for byte" } else { " (the order of a container's children is not compared)" };
-            return out.line(format!("{}: {alike}{order}", out.paint(Colour::Green, "alike")));
+            let bytes = if self.same_bytes() { ", byte for byte" } else { "" };
+            return out.line(format!("{}: {alike}{bytes}", out.paint(Colour::Green, "alike")));
         }
+        let order = match self.count(What::Order) {
+            0 => String::new(),
+            count => format!(", {count} with children in another order"),
+        };
         let [only_a, only_b, value, kind] = [What::OnlyA, What::OnlyB, What::Value, What::Kind].map(|what| self.count(what));
-        let counts = format!("{only_a} only in A, {only_b} only in B, {value} with another value, {kind} of another kind; {alike} alike");
+        let counts = format!("{only_a} only in A, {only_b} only in B, {value} with another value, {kind} of another kind{order}; {alike} alike");
         out.line(format!("{}: {counts}", out.paint(Colour::Red, "not alike")))
     }
 
@@ -146,6 +174,7 @@ impl<'c> Diff<'c> {
             ("only_b", Json::Number(self.count(What::OnlyB))),
             ("value", Json::Number(self.count(What::Value))),
             ("kind", Json::Number(self.count(What::Kind))),
+            ("order", Json::Number(self.count(What::Order))),
             ("alike", Json::Number(self.alike)),
         ];
         let sides = |json: &dyn Fn(&Source) -> Json| Json::Object(vec![("a", json(a)), ("b", json(b))]);
@@ -154,8 +183,8 @@ impl<'c> Diff<'c> {
             ("alike", Json::Bool(self.status() == 0)),
             ("byte_order", sides(&|file| Json::text(file.header.order.name()))),
             ("same_bytes", Json::Bool(self.same_bytes())),
-            ("same_children_order", if self.same_bytes() { Json::Bool(true) } else { Json::Null }),
-            ("differences", Json::List(self.differences.iter().map(Difference::json).collect())),
+            ("same_children_order", Json::Bool(self.count(What::Order) == 0)),
+            ("differences", Json::List(self.differences.iter().map(|difference| difference.json(self)).collect())),
             ("items", Json::Object(counts)),
         ])
     }
@@ -169,6 +198,7 @@ impl Difference<'_> {
             (What::OnlyA, _) => ("only in A", Colour::Yellow, format!("{place}: {}", held(self.held[0], 0))),
             (What::OnlyB, _) => ("only in B", Colour::Blue, format!("{place}: {}", held(self.held[1], 0))),
             (What::Kind, _) => ("kind", Colour::Red, place),
+            (What::Order, _) => ("order", Colour::Red, format!("{place}: its children stand in another order")),
             (What::Value, 0) => ("value", Colour::Red, place),
             (What::Value, from) => ("value", Colour::Red, format!("{place}: they differ from byte {} on", text::grouped(from))),
         };
@@ -189,14 +219,21 @@ impl Difference<'_> {
         }
     }
 
-    fn json(&self) -> Json {
+    fn json(&self, diff: &Diff) -> Json {
         let what = match self.what {
             What::OnlyA => "only_a",
             What::OnlyB => "only_b",
             What::Value => "value",
             What::Kind => "kind",
+            What::Order => "order",
         };
-        let [a, b] = self.held.map(held_json);
+        let [a, b] = match self.what {
+            What::Order => diff
+                .orders
+                .each_ref()
+                .map(|order| Json::Object(vec![("kind", Json::text("container")), ("children", Json::texts(order.children(&self.path, self.key)))])),
+            _ => self.held.map(held_json),
+        };
         Json::Object(vec![("path", Json::texts(&self.path)), ("key", Json::text(self.key)), ("what", Json::text(what)), ("a", a), ("b", b)])
     }
 }

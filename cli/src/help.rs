@@ -57,8 +57,10 @@ A table that is not sound is listed as lookups answer, and it is said.
 pub const TREE: &str = "\
 gvdb tree FILE [--json]
 
-Draws the containers and nested tables of a file, with the size of each value. Exit status
-1 where a table is not sound: it is drawn as far as it reads, and it is said.
+Draws the containers and nested tables of a file, with the size of each value: below a
+container its children, in stored order. Exit status 1 where a table is not sound: it is
+drawn as far as it reads, and it is said; a child that is refused stands in its place, with
+the number.
 
     --json    one object; what is below an item is in its list `below`
 
@@ -82,8 +84,8 @@ gvdb diff A B [--json]
 
 Names every key that does not stand alike in both files, nested tables key by key: `only in
 A`, `only in B`, `value` with both values where they differ, `kind` where one is a value, a
-table or a container and the other is not. A count stands last. Both files have to pass the
-check. Not compared is the order in which a container's children are stored.
+table or a container and the other is not, `order` where the children that a container has
+in both are stored in another order. A count stands last. Both files have to pass the check.
 Exit status: 0 alike, 1 not, 2 one cannot be read or is not sound.
 
     --json    one object, with every byte of the values
@@ -109,7 +111,8 @@ values. `same`: the values are equal, nothing is lost. `conflict`: they differ, 
 value and the other a table. A conflict refuses the merge and nothing is written, unless
 --keep or --decide decides; what is dropped is named even then, with every byte, each value
 of a dropped table too. Nested tables in both files are merged by the same rule. A container
-holds nothing: a value or table stands against it, and what is below it stays.
+holds nothing: a value or table stands against it, and what is below it stays. The children
+of a container stand in OWN's order, behind them what is only in OTHER, in OTHER's.
 
 With --base, what only one file changed or removed since BASE is no conflict: it is named
 and done. What one changed and the other removed is a conflict. An empty BASE holds nothing.
@@ -145,7 +148,8 @@ error then).
 pub const DUMP: &str = "\
 gvdb dump FILE [--separator C|none] [--json]
 
-Writes a file as lines, in ascending key order, which `gvdb build` lays again:
+Writes a file as lines, which `gvdb build` lays again: the keys ascend, but for the children
+of a container, which stand in their order.
 
     key TAB hex                 a value of the root table
     table TAB key TAB hex       a value of the nested table at the key `table`; deeper ones
@@ -168,8 +172,8 @@ pub const BUILD: &str = "\
 gvdb build -o OUT [--replace] [--separator C|none] [--without-containers] [--big-endian]
            [--empty]
 
-Lays a file from lines on standard input, as `gvdb dump --help` describes them. Their order
-plays no part. A key that stands twice is refused, and so is one that is both a value and a
+Lays a file from lines on standard input, as `gvdb dump --help` describes them. The children
+of a container are stored in the order of the lines that are first to name them. A key that stands twice is refused, and so is one that is both a value and a
 table, and a container that cannot be laid. Empty lines are passed over. Input without a
 line of content, with a byte order mark, or whose last line has no end is refused: it may be
 cut, or no such lines. Keys are UTF-8: of another the line and the byte are told, and a list

@@ -2,6 +2,7 @@
 
 use crate::content::{leaves, read, unmade_here, values, Content, Node};
 use crate::failure::{Failure, NO};
+use crate::order::Order;
 use crate::source::Source;
 use crate::{out, text};
 use gvdb::{Builder, ByteOrder, Inserted, Kind, Refusal, TableNumber, MAX_ITEMS, MAX_KEY};
@@ -9,11 +10,20 @@ use gvdb::{Builder, ByteOrder, Inserted, Kind, Refusal, TableNumber, MAX_ITEMS, 
 /// Names an item for a message, by the keys of the tables around it and its own.
 pub type Named<'n> = &'n dyn Fn(&[String], &str) -> String;
 
+/// How a file is laid: the separator of its tables, the byte order of its values, and the order of its containers' children.
+#[derive(Clone, Copy)]
+pub struct Form<'o> {
+    pub separator: Option<u8>,
+    pub order: ByteOrder,
+    pub children: &'o Order,
+}
+
 /// Lays content as a file and holds it to the check and to what was meant, before anyone can have it. Containers are left out that the separator does not make.
-pub fn lay(name: &str, content: &Content, separator: Option<u8>, order: ByteOrder, named: Named) -> Result<Vec<u8>, Failure> {
+pub fn lay(name: &str, content: &Content, form: Form, named: Named) -> Result<Vec<u8>, Failure> {
+    let Form { separator, order, children } = form;
     let size: usize = values(content).iter().map(|(_, bytes)| bytes.len()).sum();
     out::progress(size, || format!("{name}: laying {} of values", text::count(size, "byte")));
-    let mut laying = Laying { builder: Builder::new(size + MAX_ITEMS * MAX_KEY), named, separator, path: Vec::new() };
+    let mut laying = Laying { builder: Builder::new(size + MAX_ITEMS * MAX_KEY), named, separator, children, path: Vec::new() };
     let root = laying.table(content)?;
     let file = laying.builder.write_file(root, order).map_err(|refusal| unlaid(name, content, named, refusal))?;
     let laid = Source::of(name, file)?;
@@ -42,24 +52,31 @@ struct Laying<'n> {
     builder: Builder,
     named: Named<'n>,
     separator: Option<u8>,
+    children: &'n Order,
     /// The keys of the tables around what is inserted.
     path: Vec<String>,
 }
 
 impl Laying<'_> {
-    /// Makes a table with this content. Keys go in ascending order, so children stand so too. A key that also names a container of the next key
-    /// waits for the end, where it replaces the container; what is below it then stands by itself.
+    /// Makes a table with this content. Keys go depth first in the order of the children, who stand as they arrive. A key that also names a container of
+    /// others waits for the end, where it replaces the container; what is below it then stands by itself.
     fn table(&mut self, content: &Content) -> Result<TableNumber, Failure> {
         let what = || self.path.split_last().map_or(String::new(), |(key, around)| (self.named)(around, key));
         let table = self.builder.new_table(self.separator).map_err(|refusal| Failure::refused(NO, &what(), refusal))?;
         let items: Vec<(&String, &Node)> = content.iter().filter(|(_, node)| !matches!(node, Node::Container)).collect();
-        let (late, early): (Vec<usize>, Vec<usize>) = (0..items.len()).partition(|&at| {
+        let waits = |at: usize| {
             let key = items[at].0;
             let ends = self.separator.is_some() && key.as_bytes().last().copied() == self.separator;
             ends && items.get(at + 1).is_some_and(|(next, _)| next.starts_with(key.as_str()))
-        });
-        for at in early.into_iter().chain(late.into_iter().rev()) {
-            self.item(table, items[at].0, items[at].1)?;
+        };
+        let late: Vec<&str> = (0..items.len()).filter(|&at| waits(at)).map(|at| items[at].0.as_str()).collect();
+        let mut keys = self.children.to_be_laid(&self.path, items.iter().map(|(key, _)| key.as_str()), self.separator);
+        keys.retain(|key| late.binary_search(key).is_err());
+        for key in keys.into_iter().chain(late.into_iter().rev()) {
+            match content.get(key) {
+                Some(node) => self.item(table, key, node)?,
+                None => continue,
+            }
         }
         Ok(table)
     }

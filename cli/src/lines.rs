@@ -7,7 +7,8 @@ use crate::content::{self, Content, Node, Place};
 use crate::failure::{Failure, NO};
 use crate::input;
 use crate::json::Json;
-use crate::lay::lay;
+use crate::lay::{lay, Form};
+use crate::order::Order;
 use crate::out::Out;
 use crate::report::{lost_line, told, why_unmade};
 use crate::source::Source;
@@ -35,25 +36,39 @@ pub fn dump(args: &Args, out: &mut Out) -> Result<u8, Failure> {
     if source.header.order == ByteOrder::Big {
         out.line(BIG_ENDIAN)?;
     }
-    dump_table(out, &content, "", content::separator(args.value("--separator"))?)?;
+    let order = Order::of(&source, &content)?;
+    let mut dumping = Dumping { out, order: &order, separator: content::separator(args.value("--separator"))?, path: Vec::new() };
+    dumping.table(&content, "")?;
     Ok(0)
 }
 
-fn dump_table(out: &mut Out, content: &Content, tables: &str, separator: Option<u8>) -> Result<(), Failure> {
-    let unmade = content::unmade_here(content, separator);
-    for (key, node) in content {
-        let fields = format!("{tables}{}\t", text::escaped(key));
-        match node {
-            Node::Value(bytes) => writeln!(out.stdout, "{fields}{}", text::hex(bytes))?,
-            Node::Container if unmade.contains(key) => writeln!(out.stdout, "{fields}{CONTAINER}")?,
-            Node::Container => {}
-            Node::Table(nested) => {
-                writeln!(out.stdout, "{fields}{TABLE}")?;
-                dump_table(out, nested, &fields, separator)?;
+/// A file on its way into lines: in the order of its containers' children, so that what is built of them has it too.
+struct Dumping<'d> {
+    out: &'d mut Out,
+    order: &'d Order,
+    separator: Option<u8>,
+    path: Vec<String>,
+}
+
+impl Dumping<'_> {
+    fn table(&mut self, content: &Content, tables: &str) -> Result<(), Failure> {
+        let unmade = content::unmade_here(content, self.separator);
+        for key in self.order.depth_first(&self.path, content) {
+            let fields = format!("{tables}{}\t", text::escaped(key));
+            match content.get(key) {
+                Some(Node::Value(bytes)) => writeln!(self.out.stdout, "{fields}{}", text::hex(bytes))?,
+                Some(Node::Container) if unmade.contains(&key.to_string()) => writeln!(self.out.stdout, "{fields}{CONTAINER}")?,
+                Some(Node::Container) | None => {}
+                Some(Node::Table(nested)) => {
+                    writeln!(self.out.stdout, "{fields}{TABLE}")?;
+                    self.path.push(key.to_string());
+                    self.table(nested, &fields)?;
+                    self.path.pop();
+                }
             }
         }
+        Ok(())
     }
-    Ok(())
 }
 
 /// A file with every item of every table.
@@ -86,7 +101,8 @@ pub fn build(args: &Args, out: &mut Out) -> Result<u8, Failure> {
         lines.all_laid(&unmade, separator)?;
     }
     target::take_turns([&mut target])?;
-    let bytes = lay(&target.name, &lines.content, separator, order, &|path, key| lines.named(path, key))?;
+    let children = Order::of_lines(&lines.numbers, separator);
+    let bytes = lay(&target.name, &lines.content, Form { separator, order, children: &children }, &|path, key| lines.named(path, key))?;
     let size = bytes.len();
     let mut image = target.write(bytes)?;
 

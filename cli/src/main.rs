@@ -18,6 +18,7 @@ mod list;
 mod lock;
 mod merge;
 mod merging;
+mod order;
 mod out;
 mod replace;
 mod report;

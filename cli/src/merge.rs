@@ -6,8 +6,9 @@ use crate::content::{self, Content, Place};
 use crate::decide::Decisions;
 use crate::failure::{name, Failure};
 use crate::input::Input;
-use crate::lay::lay;
+use crate::lay::{lay, Form};
 use crate::merging::Merging;
+use crate::order::Order;
 use crate::out::Out;
 use crate::replace;
 use crate::report::{End, Heading, Listener, Report};
@@ -39,7 +40,9 @@ pub fn run(args: &Args, out: &mut Out) -> Result<u8, Failure> {
 
     let mut error = Out::error();
     let told = if places.out.is_standard() { &mut error } else { out };
-    carry_out(&job, &places, &report, told, |name| job.lay(name, &report, &merged, order))
+    let children = Order::of(&files.own, &own)?.then(Order::of(&files.other, &other)?);
+    let form = Form { separator: job.separator, order, children: &children };
+    carry_out(&job, &places, &report, told, |name| job.lay(name, &report, &merged, form))
 }
 
 /// The containers that cannot be in OUT. One that the keys below it made in its own file goes with them.
@@ -97,7 +100,7 @@ impl Job {
     }
 
     /// OUT's bytes, unless the merge is refused.
-    fn lay(&self, name: &str, report: &Report, merged: &Content, order: ByteOrder) -> Result<Vec<u8>, Failure> {
+    fn lay(&self, name: &str, report: &Report, merged: &Content, form: Form) -> Result<Vec<u8>, Failure> {
         let conflicts = report.open_conflicts();
         if conflicts > 0 {
             let count = text::count(conflicts, "conflict");
@@ -107,7 +110,7 @@ impl Job {
             let count = text::count(report.unmade.len(), "container");
             return Err(Failure::no(format!("{name}: {count} cannot be laid, nothing is written; --without-containers leaves out what the notes name")));
         }
-        lay(name, merged, self.separator, order, &|path, key| format!("{name}: key {}", text::cut(&text::path(path, key))))
+        lay(name, merged, form, &|path, key| format!("{name}: key {}", text::cut(&text::path(path, key))))
     }
 
     /// Standard output, or a file.

@@ -54,7 +54,10 @@ fn real_files_there_and_back() {
         assert_eq!(notes.text().lines().filter(|line| line.starts_with("note container ")).count(), containers);
         gvdb(["check".as_ref(), place.as_os_str()]).ends(0);
         assert_eq!(fs::read(&place).unwrap().starts_with(b"raVGtnai"), big);
-        assert_eq!(gvdb(["dump".as_ref(), place.as_os_str()]).ends(0).text(), expected, "{file:?}");
+        let again = gvdb(["dump".as_ref(), place.as_os_str()]).ends(0);
+        // What was in a container that is left out is nobody's child, and ascends.
+        assert_eq!(model::sorted(again.text()), model::sorted(&expected), "{file:?}");
+        assert!(containers > 0 || again.text() == expected, "{file:?}");
         back += 1;
     }
     assert!(back >= 6 && (real().is_none() || (back >= 20 && refused == 5 && schemas >= 4)), "{back} {refused} {schemas}");
@@ -69,11 +72,19 @@ fn what_is_built_is_what_gvdb_rs_lays() {
         let table = random(&mut dice, 2);
         let place = folder.join(format!("{round}.gvdb"));
         let mut lines: Vec<String> = model::lines(&table, "").lines().map(String::from).collect();
-        lines.reverse(); // the order of lines plays no part
-        build(&place, &(lines.join("\n") + "\n"));
-        assert_eq!(hex(&fs::read(&place).unwrap()), hex(&oracle.lay(&table)), "{table:?}");
+        if round % 2 == 0 {
+            lines.reverse();
+        }
+        let lines = lines.join("\n") + "\n";
+        build(&place, &lines);
+        assert_eq!(hex(&fs::read(&place).unwrap()), hex(&oracle.lay_as(&table, &lines)), "{table:?}");
         assert_eq!(oracle.read(&place), table);
-        assert_eq!(gvdb(["dump".as_ref(), place.as_os_str()]).ends(0).text(), model::lines(&table, ""));
+        let dump = gvdb(["dump".as_ref(), place.as_os_str()]).ends(0);
+        assert_eq!(model::sorted(dump.text()), model::sorted(&model::lines(&table, "")));
+        let again = folder.join("again");
+        let _ = fs::remove_file(&again);
+        build(&again, dump.text());
+        assert_eq!(hex(&fs::read(&again).unwrap()), hex(&fs::read(&place).unwrap()), "{table:?}");
     }
 }
 

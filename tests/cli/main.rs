@@ -1,6 +1,7 @@
 //! The command line from outside, as processes. Built and run by tests/cli/run, which names the program and gvdb-rs by GVDB, ROOT, REAL and ORACLE.
 
 mod checking;
+mod children;
 mod damage;
 mod diff;
 mod harness;

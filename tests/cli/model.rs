@@ -40,6 +40,13 @@ pub fn lines(table: &Table, around: &str) -> String {
     text
 }
 
+/// Lines in ascending order, to compare without that of a container's children.
+pub fn sorted(lines: &str) -> Vec<&str> {
+    let mut lines: Vec<&str> = lines.lines().collect();
+    lines.sort();
+    lines
+}
+
 /// What a merge makes of two tables, by places (keys of tables, then the key): those in conflict, the same, a value or table against a container, and what is
 /// dropped, where a table without values is None.
 #[derive(Default, Debug)]

@@ -2,6 +2,7 @@
 
 use crate::harness::{hex, unhex};
 use crate::model::{Node, Table};
+use std::collections::BTreeMap;
 use std::io::{BufRead, BufReader, Write};
 use std::path::Path;
 use std::process::{Child, ChildStdin, ChildStdout, Command, Stdio};
@@ -80,23 +81,35 @@ impl Oracle {
         }
     }
 
-    /// The whole file that gvdb-rs lays, header and all, with keys inserted in the order that `gvdb build` promises.
+    /// The whole file that gvdb-rs lays, header and all, with keys inserted in ascending order, as `gvdb build` does with lines that ascend.
     pub fn lay(&mut self, table: &Table) -> Vec<u8> {
+        self.lay_as(table, "")
+    }
+
+    /// The same with keys inserted depth first, each container's children in the order of lines as `gvdb dump` writes them.
+    pub fn lay_as(&mut self, table: &Table, lines: &str) -> Vec<u8> {
         self.ask("reset");
-        let number = self.fill(table);
+        let places: BTreeMap<&str, usize> = lines.lines().enumerate().filter_map(|(at, line)| Some((line.rsplit_once('\t')?.0, at))).collect();
+        let number = self.fill(table, "", &places);
         unhex(&self.ask(&format!("write {number}")))
     }
 
-    fn fill(&mut self, table: &Table) -> String {
+    fn fill(&mut self, table: &Table, around: &str, places: &BTreeMap<&str, usize>) -> String {
         let number = self.ask("new 2f");
         let is_late = |key: &str| key.ends_with('/') && table.keys().any(|other| other.len() > key.len() && other.starts_with(key));
-        let early = table.iter().filter(|(key, _)| !is_late(key));
+        let mut early: Vec<(&String, &Node)> = table.iter().filter(|(key, _)| !is_late(key)).collect();
+        // A container arrives with the first line at or below it.
+        let place = |key: &str| places.get(format!("{around}{key}").as_str());
+        let first = |prefix: &str| table.keys().filter(|key| key.starts_with(prefix)).filter_map(|key| place(key)).min();
+        if !places.is_empty() {
+            early.sort_by_cached_key(|(key, _)| key.match_indices('/').map(|(at, _)| first(&key[..at + 1])).chain([place(key)]).collect::<Vec<_>>());
+        }
         let late = table.iter().rev().filter(|(key, _)| is_late(key));
-        for (key, node) in early.chain(late) {
+        for (key, node) in early.into_iter().chain(late) {
             match node {
                 Node::Value(bytes) => self.ask(&format!("insert {number} {} {}", field(key.as_bytes()), field(bytes))),
                 Node::Table(nested) => {
-                    let guest = self.fill(nested);
+                    let guest = self.fill(nested, &format!("{around}{key}\t"), places);
                     self.ask(&format!("inserttable {number} {} {guest}", field(key.as_bytes())))
                 }
             };

@@ -109,7 +109,9 @@ fn what_check_says_without_a_byte() {
         assert_eq!(verdict(&worked(&format!("rule_{rule}.gvdb"))), said(None, None));
     }
     // the parent of the one item, at byte 40: past the last item, and itself
-    for (parent, why, words) in [(5u32, 10, "a parent index, or a child index, is not below the item count"), (0, 11, "the chain of parents never reaches a root")] {
+    for (parent, why, words) in
+        [(5u32, 10, "a parent index, or a child index, is not below the item count"), (0, 11, "the chain of parents never reaches a root")]
+    {
         let place = folder("parents").join("f.gvdb");
         build(&place, "a\t01\n");
         let mut file = fs::read(&place).unwrap();

@@ -408,8 +408,8 @@ impl<'a> Iterator for Tables<'a> {
             while self.entries.value_here().is_some() {
                 self.entries.keys.position += 1;
             }
-            let entry = self.entries.next()?;
-            if let (Ok(key), Ok(Item::Table(nested))) = (entry.key, entry.item) {
+            let Ok(key) = self.entries.keys.next()? else { continue };
+            if let Ok(nested) = self.entries.keys.table.get_table(&key) {
                 return Some((key, nested));
             }
         }
