@@ -40,14 +40,12 @@ struct Branch<'a> {
 
 /// What is drawn at a place.
 enum Leaf<'a> {
-    /// An item, with its name below its container.
-    Item(Entry<'a>, String),
-    /// An item that is drawn elsewhere already.
-    Again(Entry<'a>, String),
+    /// An item, with its fragment below its container; without one where it stands by its whole key.
+    Item(Entry<'a>, Option<&'a str>),
+    /// A child that is drawn elsewhere already.
+    Again(Child<'a>),
     /// A child that is refused, by its position.
     Refused(usize, Refusal),
-    /// An item whose key does not read, and that no container lists.
-    Unread(Entry<'a>, Refusal),
 }
 
 /// What stands below a container or in a table.
@@ -107,30 +105,18 @@ impl Growing<'_> {
         let mut roots = Below::default();
         for listed in [false, true] {
             for at in 0..items.entries.len() {
-                if items.listed[at] != listed || items.drawn[at] {
-                    continue;
+                if items.listed[at] == listed {
+                    let root = items.entries[at].take();
+                    roots.branches.extend(root.map(|entry| self.item(&mut items, at, entry, None)));
                 }
-                let entry = items.entries[at].clone();
-                let branch = match &entry.key {
-                    Ok(key) => {
-                        let name = key.clone();
-                        self.item(&mut items, at, name)
-                    }
-                    Err(refusal) => Branch { leaf: Leaf::Unread(entry.clone(), *refusal), below: Below::default() },
-                };
-                roots.branches.push(branch);
             }
         }
         self.depth -= 1;
         roots
     }
 
-    /// One item, with what is below it.
-    fn item<'a>(&mut self, items: &mut Items<'a>, at: usize, name: String) -> Branch<'a> {
-        let entry = items.entries[at].clone();
-        if std::mem::replace(&mut items.drawn[at], true) {
-            return Branch { leaf: Leaf::Again(entry, name), below: Below::default() };
-        }
+    /// One item, which was taken, with what is below it.
+    fn item<'a>(&mut self, items: &mut Items<'a>, at: usize, entry: Entry<'a>, fragment: Option<&'a str>) -> Branch<'a> {
         let below = match (&entry.key, &entry.item) {
             (_, Ok(Item::Container)) if self.depth == DEEPEST => Below { deeper: items.below(at), ..Below::default() },
             (_, Ok(Item::Container)) => self.level(items, at),
@@ -142,7 +128,7 @@ impl Growing<'_> {
             }
             _ => Below::default(),
         };
-        Branch { leaf: Leaf::Item(entry, name), below }
+        Branch { leaf: Leaf::Item(entry, fragment), below }
     }
 
     /// The children of a container, in stored order.
@@ -150,8 +136,9 @@ impl Growing<'_> {
         let mut below = Below::default();
         self.depth += 1;
         for (position, child) in std::mem::take(&mut items.children[container]).into_iter().enumerate() {
-            let branch = match child.and_then(|child| items.place(child.index).map(|at| (at, child.fragment)).ok_or(Refusal::ParentOutside)) {
-                Ok((at, fragment)) => self.item(items, at, fragment.to_string()),
+            let branch = match child.map(|child| (child, items.take(child.index))) {
+                Ok((child, Some((at, entry)))) => self.item(items, at, entry, Some(child.fragment)),
+                Ok((child, None)) => Branch { leaf: Leaf::Again(child), below: Below::default() },
                 Err(refusal) => Branch { leaf: Leaf::Refused(position, refusal), below: Below::default() },
             };
             below.branches.push(branch);
@@ -163,38 +150,36 @@ impl Growing<'_> {
 
 /// The items of one table, with the children of each container.
 struct Items<'a> {
-    entries: Vec<Entry<'a>>,
+    /// Those that are not drawn yet.
+    entries: Vec<Option<Entry<'a>>>,
     /// Where the entry of each index stands.
     places: BTreeMap<usize, usize>,
     children: Vec<Vec<Result<Child<'a>, Refusal>>>,
     listed: Vec<bool>,
-    drawn: Vec<bool>,
 }
 
 impl<'a> Items<'a> {
     /// The lists of a sound table have each item once at most. Those of another are followed as long as they have no more than there are items.
     fn of(table: &Table<'a>, entries: Vec<Entry<'a>>) -> Items<'a> {
         let places: BTreeMap<usize, usize> = entries.iter().enumerate().map(|(at, entry)| (entry.index, at)).collect();
-        let mut items = Items { places, children: Vec::new(), listed: vec![false; entries.len()], drawn: vec![false; entries.len()], entries };
-        let mut left = items.entries.len();
-        for at in 0..items.entries.len() {
-            let list: Vec<_> = match (&items.entries[at].key, &items.entries[at].item) {
+        let (mut children, mut listed) = (Vec::new(), vec![false; entries.len()]);
+        let mut left = entries.len();
+        for entry in &entries {
+            let list: Vec<_> = match (&entry.key, &entry.item) {
                 (Ok(key), Ok(Item::Container)) => table.children(key).take(left).collect(),
                 _ => Vec::new(),
             };
             left -= list.len();
-            for child in list.iter().flatten() {
-                if let Some(place) = items.place(child.index) {
-                    items.listed[place] = true;
-                }
-            }
-            items.children.push(list);
+            list.iter().flatten().filter_map(|child| places.get(&child.index)).for_each(|&at| listed[at] = true);
+            children.push(list);
         }
-        items
+        Items { entries: entries.into_iter().map(Some).collect(), places, children, listed }
     }
 
-    fn place(&self, index: usize) -> Option<usize> {
-        self.places.get(&index).copied()
+    /// The item with an index, to be drawn, if it is not yet.
+    fn take(&mut self, index: usize) -> Option<(usize, Entry<'a>)> {
+        let at = *self.places.get(&index)?;
+        self.entries[at].take().map(|entry| (at, entry))
     }
 
     /// How many items stand below a container, which are not drawn.
@@ -203,12 +188,8 @@ impl<'a> Items<'a> {
         let mut left = vec![container];
         while let Some(at) = left.pop() {
             for child in std::mem::take(&mut self.children[at]) {
-                let place = child.ok().and_then(|child| self.place(child.index)).filter(|place| !self.drawn[*place]);
                 count += 1;
-                if let Some(place) = place {
-                    self.drawn[place] = true;
-                    left.push(place);
-                }
+                left.extend(child.ok().and_then(|child| self.take(child.index)).map(|(at, _)| at));
             }
         }
         count
@@ -266,12 +247,18 @@ fn leaf(out: &mut Out, above: &[bool], more: bool, label: &str) -> Result<(), Fa
 impl Branch<'_> {
     fn label(&self, out: &Out) -> String {
         let name = |name: &str| if name.is_empty() { "\"\"".to_string() } else { text::escaped(name) };
-        let red = |said: String| out.paint(Colour::Red, &said);
+        let red = |said: &str| out.paint(Colour::Red, said);
         match &self.leaf {
-            Leaf::Item(entry, fragment) => self.item_label(out, &entry.item, name(fragment)),
-            Leaf::Again(_, fragment) => name(fragment) + "  " + &red("listed twice, and drawn elsewhere".to_string()),
-            Leaf::Refused(position, refusal) => red(format!("child {position}: {} ({})", refusal.message(), refusal.number())),
-            Leaf::Unread(entry, refusal) => self.item_label(out, &entry.item, red(unread(entry.index, *refusal))),
+            Leaf::Item(entry, fragment) => {
+                let name = match (fragment, &entry.key) {
+                    (Some(fragment), _) => name(fragment),
+                    (None, Ok(key)) => name(key),
+                    (None, Err(refusal)) => red(&unread(entry.index, *refusal)),
+                };
+                self.item_label(out, &entry.item, name)
+            }
+            Leaf::Again(child) => name(child.fragment) + "  " + &red("listed twice, and drawn elsewhere"),
+            Leaf::Refused(position, refusal) => red(&format!("child {position}: {} ({})", refusal.message(), refusal.number())),
         }
     }
 
@@ -285,9 +272,12 @@ impl Branch<'_> {
     }
 
     fn json(&self) -> Json {
-        let (entry, again) = match &self.leaf {
-            Leaf::Item(entry, _) | Leaf::Unread(entry, _) => (entry, false),
-            Leaf::Again(entry, _) => (entry, true),
+        let entry = match &self.leaf {
+            Leaf::Item(entry, _) => entry,
+            Leaf::Again(child) => {
+                let index = ("index", Json::Number(child.index));
+                return Json::Object(vec![index, ("fragment", Json::text(child.fragment)), ("again", Json::Bool(true))]);
+            }
             Leaf::Refused(position, refusal) => {
                 let number = Json::number(Some(refusal.number()));
                 return Json::Object(vec![
@@ -300,7 +290,6 @@ impl Branch<'_> {
         };
         let mut fields = item_json(entry);
         match &entry.item {
-            _ if again => fields.push(("again", Json::Bool(true))),
             Ok(Item::Value(bytes)) => fields.push(("size", Json::Number(bytes.len()))),
             Ok(Item::Table(nested)) => fields.extend([("size", Json::Number(nested.len()))].into_iter().chain(self.below.json())),
             Ok(Item::Container) => fields.extend(self.below.below()),
