@@ -18,7 +18,6 @@ use Rattle.layout.specs.Kind.{kindByte}
 use Rattle.layout.specs.Pointer.{openPointer}
 use Rattle.layout.proofs.OpenLaws.{pointer-inside}
 use Rattle.read.specs.declared.children.Childed.{Childed}
-use Rattle.read.specs.Chain.{fragmentOf}
 use Rattle.read.specs.Children.{wholeWords, openList, atFragment, childNamed}
 use Rattle.read.proofs.ChainLaws.{fragment-taken, same-place}
 

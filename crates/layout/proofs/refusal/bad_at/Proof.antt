@@ -11,8 +11,6 @@ use Rattle.layout.specs.declared.refusal.Refusal.the-variants.{FileTooLo
 use borrow.Author.Needs.{needs}
 use Rattle.layout.proofs.refusal.bad_at.Statement.{statement}
 use Rattle.layout.proofs.refusal.bad_at.Tie as tie
-use Rattle.layout.proofs.refusal.bad_at.Reads as reads
-use Rattle.layout.proofs.refusal.bad_at.Lts as lts
 
 -- the other variants, by their places in the enum
 abbrev others : List ℕ

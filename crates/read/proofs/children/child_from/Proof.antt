@@ -1,6 +1,6 @@
 -- `read::children::child_from` meets its contract: a list that opens lies in the file, and so does each of its words.
 use native.Mathlib.Omega.{arith}
-use mathlib.Core.Path.{sym, ap, _∙_}
+use mathlib.Core.Path.{sym, _∙_}
 use borrow.Author.Tests.{lt-ltb, le-ltb}
 use Rattle.words.specs.Choice.{pick}
 use Rattle.read.specs.Children.{childAt, childCount, childFrom}

@@ -1,8 +1,7 @@
 -- `read::children::child_of` meets its contract: each return is a case of the definition.
-use mathlib.Core.Path.{sym, ap, _∙_}
+use mathlib.Core.Path.{sym, _∙_}
 use borrow.Author.Tests.{le-leb, lt-leb}
 use Rattle.words.specs.Choice.{pick}
-use Rattle.layout.specs.Kind.{kindKnown}
 use Rattle.read.specs.Children.{childOf}
 use borrow.Author.Needs.{needs}
 use Rattle.read.proofs.children.child_of.Statement.{statement}
