@@ -16,11 +16,11 @@ use Rattle.layout.specs.declared.refusal.Refusal.{Refusal}
 use Rattle.layout.specs.declared.table.Table.{Table}
 use Rattle.layout.specs.Item.{itemAt}
 use Rattle.read.specs.declared.chain.Step.{Step}
-use Rattle.read.specs.declared.listing.Measured.{Measured}
+use Rattle.read_listing.specs.declared.listing.Measured.{Measured}
 use Rattle.read.specs.Chain.{Joined, append, joinStep, keyOf, climbFrom, parentOf, fragmentOf}
-use Rattle.read.specs.Listing.{measure}
+use Rattle.read_listing.specs.Listing.{measure}
 use Rattle.read.proofs.ChainLaws.{Climbs, climb-or, StepFits, climb-fits, key-turn, key-over, fragment-size}
-use Rattle.read.proofs.WriteLaws.{above, joined-above, size-is}
+use Rattle.read_listing.proofs.WriteLaws.{above, joined-above, size-is}
 use Rattle.check_keys.specs.declared.front.Front.{Front}
 use Rattle.check_keys.specs.Key.{bytesOf, Keyed}
 use Rattle.check_keys.specs.Front.{frontAt, frontBytes, FrontFits, Raised}

@@ -13,9 +13,9 @@ use Rattle.layout.specs.declared.table.Table.{Table}
 use Rattle.layout.specs.declared.item.Item.{Item}
 use Rattle.layout.specs.Item.{itemAt}
 use Rattle.read.specs.declared.chain.Step.{Step}
-use Rattle.read.specs.declared.listing.Measured.{Measured}
+use Rattle.read_listing.specs.declared.listing.Measured.{Measured}
 use Rattle.read.specs.Chain.{Joined, append, joinStep, keyOf, climbFrom, fragmentOf, names}
-use Rattle.read.specs.Listing.{measure}
+use Rattle.read_listing.specs.Listing.{measure}
 use Rattle.read.proofs.ChainLaws.{StepFits, climb-fits, key-turn, key-over, fragment-size}
 use Rattle.check_keys.specs.declared.tally.JoinedKey.{JoinedKey}
 use Rattle.check_keys.specs.declared.tally.Tally.{Tally}

@@ -14,7 +14,7 @@ use Rattle.text.specs.Compare.{sameBytes, endsAt}
 use Rattle.text.proofs.CompareLaws.{same-equal, ends-short}
 use Rattle.layout.specs.declared.table.Table.{Table}
 use Rattle.layout.specs.Item.{itemAt}
-use Rattle.read.specs.declared.listing.Measured.{Measured}
+use Rattle.read_listing.specs.declared.listing.Measured.{Measured}
 use Rattle.check_keys.specs.declared.front.Front.{Front}
 use Rattle.check_keys.specs.declared.front.Passed.{Passed}
 use Rattle.check_keys.specs.Front.{smaller, frontBytes, FrontFits, Raised, StretchPassed, BackPassed}

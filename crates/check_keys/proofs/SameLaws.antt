@@ -16,10 +16,10 @@ use Rattle.layout.specs.declared.item.Item.{Item}
 use Rattle.layout.specs.Item.{itemAt}
 use Rattle.read.specs.declared.chain.Step.{Step}
 use Rattle.read.specs.Chain.{Joined, append, joinStep, keyOf, climbFrom, fragmentOf, names}
-use Rattle.read.proofs.AnswerLaws.{key-2}
+use Rattle.read_listing.proofs.AnswerLaws.{key-2}
 use Rattle.read.proofs.ChainLaws.{StepFits, climb-fits, fragment-taken}
 use Rattle.read.proofs.MatchLaws.{names-tail}
-use Rattle.read.proofs.WriteLaws.{above, joined-above}
+use Rattle.read_listing.proofs.WriteLaws.{above, joined-above}
 use Rattle.check_keys.specs.declared.search.Compared.{Compared}
 use Rattle.check_keys.specs.declared.front.Front.{Front}
 use Rattle.check_keys.specs.declared.front.Passed.{Passed}

@@ -11,8 +11,8 @@ use Rattle.text.specs.Compare.{sameBytes, endsAt}
 use Rattle.layout.specs.declared.table.Table.{Table}
 use Rattle.layout.specs.Item.{itemAt}
 use Rattle.read.specs.Chain.{keyOf, names}
-use Rattle.read.specs.declared.listing.Measured.{Measured}
-use Rattle.read.specs.Listing.{measure}
+use Rattle.read_listing.specs.declared.listing.Measured.{Measured}
+use Rattle.read_listing.specs.Listing.{measure}
 use Rattle.check_keys.specs.declared.search.Compared.{Compared}
 use Rattle.check_keys.specs.declared.front.Front.{Front}
 use Rattle.check_keys.specs.declared.front.Passed.{Passed}

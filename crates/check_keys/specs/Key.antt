@@ -7,8 +7,8 @@ use Rattle.words.specs.Hash.{hashBy}
 use Rattle.layout.specs.declared.table.Table.{Table}
 use Rattle.layout.specs.Table.{InFile}
 use Rattle.read.specs.Chain.{Joined, keyOf}
-use Rattle.read.specs.declared.listing.Measured.{Measured}
-use Rattle.read.specs.Listing.{measure}
+use Rattle.read_listing.specs.declared.listing.Measured.{Measured}
+use Rattle.read_listing.specs.Listing.{measure}
 use Rattle.check_keys.specs.declared.tally.JoinedKey.{JoinedKey}
 
 unfoldable pub bytesOf : Joined → List ℕ

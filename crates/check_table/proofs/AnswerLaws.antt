@@ -8,7 +8,7 @@ use Rattle.layout.specs.declared.table.Opened.{Opened}
 use Rattle.layout.specs.Refusal.{number, badAt}
 use Rattle.layout.specs.Table.{openTable}
 use Rattle.read.specs.Chain.{Joined}
-use Rattle.read.specs.Listing.{keyAt}
+use Rattle.read_listing.specs.Listing.{keyAt}
 use Rattle.check_table.specs.Rules.{checkTable}
 use Rattle.check_table.specs.Answer.{checkedNumber, checkedRule, checkedItem, checkedWhy, checkedAt}
 use Rattle.check_table.specs.Sound.{SoundTable}

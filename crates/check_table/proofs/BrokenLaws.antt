@@ -11,8 +11,8 @@ use Rattle.layout.specs.declared.table.Opened.{Opened}
 use Rattle.layout.specs.declared.table.Table.{Table}
 use Rattle.layout.specs.Table.{openTable}
 use Rattle.read.specs.Chain.{Joined, keyOf}
-use Rattle.read.specs.Listing.{keyAt, listed}
-use Rattle.read.proofs.AnswerLaws.{list-key}
+use Rattle.read_listing.specs.Listing.{keyAt, listed}
+use Rattle.read_listing.proofs.AnswerLaws.{list-key}
 use Rattle.check_table.specs.declared.check.Checked.{Checked}
 use Rattle.check_table.specs.Rules.{keyLists, brokenRule, firstBroken, explained, checkIn, checkOpened, checkTable}
 use Rattle.check_table.specs.Broken.{Breaks, BrokenAt, NamesTheFirst, UnlistedWhy}

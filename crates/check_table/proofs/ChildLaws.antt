@@ -16,7 +16,7 @@ use Rattle.layout.specs.declared.table.Table.{Table}
 use Rattle.layout.specs.declared.item.Item.{Item}
 use Rattle.layout.specs.Item.{itemAt}
 use Rattle.check_table.specs.Bits.{hasBit, withBit}
-use Rattle.read.specs.Children.{childAt}
+use Rattle.read_listing.specs.Children.{childAt}
 use Rattle.check_table.specs.Rules.{among, childGood, valueOpens, childrenGood, listsIt}
 use Rattle.check_table.specs.Survey.{freshChild, afterChild, fiveOrShut, Fresh, Surveying}
 use Rattle.check_table.proofs.BitsLaws.{bit-same, bit-other, length-bit}

@@ -21,15 +21,15 @@ use Rattle.layout.specs.Item.{itemAt}
 use Rattle.layout.proofs.OpenLaws.{pointer-inside}
 use Rattle.read.specs.declared.chain.Step.{Step}
 use Rattle.read.specs.declared.lookup.Found.{Found}
-use Rattle.read.specs.declared.listing.Measured.{Measured}
+use Rattle.read_listing.specs.declared.listing.Measured.{Measured}
 use Rattle.read.specs.Chain.{Joined, keyOf, parentOf}
 use Rattle.read.specs.Find.{findItem}
-use Rattle.read.specs.Listing.{measure}
+use Rattle.read_listing.specs.Listing.{measure}
 use Rattle.check_keys.specs.declared.tally.JoinedKey.{JoinedKey}
 use Rattle.check_table.specs.declared.check.Checked.{Checked}
 use Rattle.check_keys.specs.Key.{bytesOf, joinedKey}
 use Rattle.check_table.specs.Survey.{keyRule}
-use Rattle.read.specs.Children.{childCount}
+use Rattle.read_listing.specs.Children.{childCount}
 use Rattle.check_table.specs.Rules.{isJoined, isAt, keyLists, keyFinds, isInside, listOpens, valueOpens, among, childGood, childrenGood, listsIt, parentKeeps, parentGood, brokenRule, firstBroken, unlisted, explained, checkIn}
 use Rattle.check_table.proofs.KeyText.{sought-joined}
 

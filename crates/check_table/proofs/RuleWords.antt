@@ -23,7 +23,7 @@ use Rattle.layout.specs.Item.{itemAt}
 use Rattle.read.specs.declared.chain.Step.{Step}
 use Rattle.read.specs.declared.lookup.Found.{Found}
 use Rattle.read.specs.Chain.{Joined, keyOf, parentOf}
-use Rattle.read.specs.Children.{childAt, childCount}
+use Rattle.read_listing.specs.Children.{childAt, childCount}
 use Rattle.check_table.specs.Rules.{isJoined, keyLists, indexOf, soughtAt, isAt, keyFinds, isInside, isTable, listOpens, valueOpens, among, childGood, childrenGood, listsIt, parentKeeps}
 use Rattle.check_table.specs.Sound.{ValueGood}
 use Rattle.check_table.proofs.ChildLaws.{three}

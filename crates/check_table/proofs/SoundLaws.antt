@@ -18,7 +18,7 @@ use Rattle.layout.proofs.OpenLaws.{opened-in-file}
 use Rattle.read.specs.declared.chain.Step.{Step}
 use Rattle.read.specs.Chain.{parentOf}
 use Rattle.check_table.specs.declared.check.Checked.{Checked}
-use Rattle.read.specs.Children.{childAt, childCount}
+use Rattle.read_listing.specs.Children.{childAt, childCount}
 use Rattle.check_table.specs.Rules.{keyLists, keyFinds, among, childrenGood, listsIt, parentKeeps, parentGood, brokenRule, firstBroken, explained, checkIn, checkOpened, checkTable}
 use Rattle.check_table.specs.Sound.{InList, SoundIn, SoundTable, PassesExactlyTheSound}
 use Rattle.check_table.specs.Broken.{Keeps}

@@ -11,9 +11,9 @@ use Rattle.layout.specs.declared.table.Table.{Table}
 use Rattle.layout.specs.Kind.{kindKnown}
 use Rattle.layout.specs.Table.{openTable}
 use Rattle.layout.specs.Item.{itemAt}
-use Rattle.read.specs.declared.listing.Listed.{Listed}
+use Rattle.read_listing.specs.declared.listing.Listed.{Listed}
 use Rattle.read.specs.Chain.{Joined}
-use Rattle.read.specs.Listing.{keyAt, listed}
+use Rattle.read_listing.specs.Listing.{keyAt, listed}
 use Rattle.check_table.specs.declared.check.Checked.{Checked}
 use Rattle.check_table.specs.Rules.{keyLists, keyFinds, valueOpens, childrenGood, parentGood, checkTable}
 

@@ -16,9 +16,9 @@ use Rattle.layout.specs.Table.{openTable}
 use Rattle.layout.specs.Item.{itemAt}
 use Rattle.read.specs.declared.lookup.Found.{Found}
 use Rattle.read.specs.declared.lookup.Sought.{Sought}
-use Rattle.read.specs.declared.children.Childed.{Childed}
+use Rattle.read_listing.specs.declared.children.Childed.{Childed}
 use Rattle.read.specs.Lookup.{lookupIn}
-use Rattle.read.specs.Children.{childAt, childCount, openList, nextChild}
+use Rattle.read_listing.specs.Children.{childAt, childCount, openList, nextChild}
 use Rattle.check_table.specs.Rules.{indexOf}
 use Rattle.check_table.specs.Sound.{SoundIn}
 

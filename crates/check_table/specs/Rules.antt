@@ -22,7 +22,7 @@ use Rattle.read.specs.declared.chain.Step.{Step}
 use Rattle.read.specs.declared.lookup.Found.{Found}
 use Rattle.read.specs.Chain.{Joined, keyOf, parentOf}
 use Rattle.read.specs.Find.{findItem}
-use Rattle.read.specs.Children.{childAt, childCount}
+use Rattle.read_listing.specs.Children.{childAt, childCount}
 use Rattle.check_table.specs.declared.check.Checked.{Checked}
 
 -- (1) its key would list, given room

@@ -17,7 +17,7 @@ use Rattle.layout.specs.Item.{itemAt, noItem}
 use Rattle.read.specs.declared.lookup.Found.{Found}
 use Rattle.read.specs.Chain.{Joined, keyOf}
 use Rattle.check_table.specs.declared.check.Checked.{Checked}
-use Rattle.read.specs.Children.{childAt, childCount}
+use Rattle.read_listing.specs.Children.{childAt, childCount}
 use Rattle.check_table.specs.Rules.{indexOf, checkTable}
 
 -- the kind is known, and the value pointer opens as it asks: 'v' at 8, 'H' as a table, 'L' at 4 with a length divisible by 4

@@ -12,8 +12,8 @@ use layout::pointer::open_pointer;
 use layout::table::Opened;
 use layout::table::Table;
 use layout::table::open_table;
-use read::children::child_count;
 use read::lookup::Found;
+use read_listing::children::child_count;
 use words::align::Alignment;
 use words::field::word_at;
 use words::wide::word_size;
@@ -23,7 +23,7 @@ ghost use lib.ListN.{length};
 ghost use Rattle.words.specs.Hash.{plain};
 ghost use Rattle.layout.specs.Table.{InFile, openTable};
 ghost use Rattle.layout.specs.Pointer.{openPointer};
-ghost use Rattle.read.specs.Children.{childCount};
+ghost use Rattle.read_listing.specs.Children.{childCount};
 ghost use Rattle.check_table.specs.Rules.{isInside, isTable, listOpens, valueOpens, among, listsIt};
 ghost use Rattle.check_table.specs.Survey.{keyRule};
 

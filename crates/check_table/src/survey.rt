@@ -6,7 +6,7 @@ use layout::item::Item;
 use layout::item::item_at;
 use layout::kind::CONTAINER_BYTE;
 use layout::table::Table;
-use read::children::child_count;
+use read_listing::children::child_count;
 use words::field::word_at;
 use words::wide::word_size;
 ghost use mathlib.Core.Path.{_≡_};

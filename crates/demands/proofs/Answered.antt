@@ -8,7 +8,7 @@ use Rattle.words.specs.Hash.{plain}
 use Rattle.words.proofs.ChoiceLaws.{pick-with}
 use Rattle.layout.specs.Table.{openTable}
 use Rattle.read.specs.Lookup.{lookupValue, lookupTable}
-use Rattle.read.specs.Listing.{keyAt, listed, written}
+use Rattle.read_listing.specs.Listing.{keyAt, listed, written}
 use Rattle.check_table.specs.Rules.{checkTable}
 use Rattle.build_memory.specs.Memory.{Memory, memory, Outcome, outcome, freshStart}
 use Rattle.build_memory.specs.Answer.{startedNumber}

@@ -17,8 +17,9 @@ use Rattle.layout.specs.Table.{openTable}
 use Rattle.layout.proofs.AnswerLaws.{opened-low}
 use Rattle.read.specs.declared.lookup.Looked.{Looked}
 use Rattle.read.specs.Lookup.{lookupTable}
-use Rattle.read.specs.declared.listing.Listed.{Listed}
-use Rattle.read.specs.Answer.{lookedNumber, listedNumber, listedAt}
+use Rattle.read_listing.specs.declared.listing.Listed.{Listed}
+use Rattle.read.specs.Answer.{lookedNumber}
+use Rattle.read_listing.specs.Answer.{listedNumber, listedAt}
 use Rattle.check_table.specs.declared.check.Checked.{Checked}
 use Rattle.check_table.specs.Rules.{checkTable}
 use Rattle.check_table.specs.Answer.{checkedNumber, checkedRule, checkedItem, checkedWhy, checkedAt}

@@ -10,7 +10,7 @@ use Rattle.layout.specs.Answer.{headerLaidNumber}
 use Rattle.layout.specs.Header.{readHeader, headerLaid, withHeader}
 use Rattle.layout.specs.Table.{openTable}
 use Rattle.read.specs.Lookup.{lookupValue, lookupTable}
-use Rattle.read.specs.Listing.{keyAt, listed, written}
+use Rattle.read_listing.specs.Listing.{keyAt, listed, written}
 use Rattle.check_table.specs.Rules.{checkTable}
 use Rattle.build_memory.specs.Memory.{Memory, memory, Outcome, freshStart}
 use Rattle.build_memory.specs.Answer.{startedNumber}

@@ -13,10 +13,10 @@ use Rattle.layout.specs.declared.refusal.Refusal.the-variants.{SeparatorOutside
 use Rattle.layout.specs.declared.header.HeaderLaid.{HeaderLaid}
 use Rattle.layout.specs.Answer.{headerLaidNumber}
 use Rattle.layout.specs.Header.{headerBytes, headerLaid, whenLaid, withHeader}
-use Rattle.read.specs.declared.listing.Listed.{Listed}
+use Rattle.read_listing.specs.declared.listing.Listed.{Listed}
 use Rattle.read.specs.Chain.{Joined}
-use Rattle.read.specs.Listing.{keyAt, listed, written}
-use Rattle.read.specs.Answer.{listedNumber}
+use Rattle.read_listing.specs.Listing.{keyAt, listed, written}
+use Rattle.read_listing.specs.Answer.{listedNumber}
 use Rattle.model.specs.declared.Inserted.{Inserted}
 use Rattle.model.specs.declared.Added.{Added}
 use Rattle.build_memory.specs.Memory.{leastWords, Memory, Outcome, freshStart}

@@ -4,10 +4,11 @@ use Rattle.layout.specs.declared.table.Table.{Table}
 use Rattle.layout.specs.declared.table.Opened.{Opened}
 use Rattle.layout.specs.Answer.{openedNumber}
 use Rattle.read.specs.declared.lookup.Looked.{Looked}
-use Rattle.read.specs.declared.listing.Listed.{Listed}
-use Rattle.read.specs.declared.listing.Valued.{Valued}
-use Rattle.read.specs.declared.children.Childed.{Childed}
-use Rattle.read.specs.Answer.{lookedNumber, lookedPointer, lookedAt, listedNumber, listedKey, listedAt, valuedNumber, valuedPointer, valuedItem, childedNumber, childedKind, childedPointer, childedChild, childedAt}
+use Rattle.read_listing.specs.declared.listing.Listed.{Listed}
+use Rattle.read_listing.specs.declared.listing.Valued.{Valued}
+use Rattle.read_listing.specs.declared.children.Childed.{Childed}
+use Rattle.read.specs.Answer.{lookedNumber, lookedPointer, lookedAt}
+use Rattle.read_listing.specs.Answer.{listedNumber, listedKey, listedAt, valuedNumber, valuedPointer, valuedItem, childedNumber, childedKind, childedPointer, childedChild, childedAt}
 use Rattle.gvdb.specs.declared.reading.GvdbOpened.{GvdbOpened}
 use Rattle.gvdb.specs.declared.reading.GvdbPlace.{GvdbPlace}
 use Rattle.gvdb.specs.declared.reading.GvdbKey.{GvdbKey}

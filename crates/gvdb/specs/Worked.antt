@@ -5,10 +5,11 @@ use Rattle.layout.specs.declared.refusal.Refusal.{Refusal}
 use Rattle.layout.specs.declared.table.Opened.{Opened}
 use Rattle.layout.specs.Answer.{openedNumber}
 use Rattle.read.specs.declared.lookup.Looked.{Looked}
-use Rattle.read.specs.declared.listing.Listed.{Listed}
-use Rattle.read.specs.declared.listing.Valued.{Valued}
-use Rattle.read.specs.declared.children.Childed.{Childed}
-use Rattle.read.specs.Answer.{lookedNumber, lookedPointer, lookedAt, listedNumber, listedKey, listedAt, valuedNumber, valuedPointer, valuedItem, childedNumber, childedKind, childedPointer, childedChild, childedAt}
+use Rattle.read_listing.specs.declared.listing.Listed.{Listed}
+use Rattle.read_listing.specs.declared.listing.Valued.{Valued}
+use Rattle.read_listing.specs.declared.children.Childed.{Childed}
+use Rattle.read.specs.Answer.{lookedNumber, lookedPointer, lookedAt}
+use Rattle.read_listing.specs.Answer.{listedNumber, listedKey, listedAt, valuedNumber, valuedPointer, valuedItem, childedNumber, childedKind, childedPointer, childedChild, childedAt}
 use Rattle.check_table.specs.declared.check.Checked.{Checked}
 use Rattle.check_table.specs.Answer.{checkedNumber, checkedRule, checkedItem, checkedWhy, checkedAt}
 use Rattle.model.specs.declared.Inserted.{Inserted}

@@ -2,11 +2,11 @@
 use layout::refusal::bad_at;
 use layout::refusal::number_of;
 use layout::table::Opened;
-use read::children::Childed;
-use read::listing::Cursor;
-use read::listing::Listed;
-use read::listing::Valued;
 use read::lookup::Looked;
+use read_listing::children::Childed;
+use read_listing::listing::Cursor;
+use read_listing::listing::Listed;
+use read_listing::listing::Valued;
 use words::wide::byte_word;
 ghost use mathlib.Core.Path.{_≡_};
 ghost use lib.ListN.{length};
@@ -14,8 +14,8 @@ ghost use Rattle.words.specs.Hash.{plain};
 ghost use Rattle.text.specs.Utf8.{firstBad};
 ghost use Rattle.layout.specs.Table.{openTable};
 ghost use Rattle.read.specs.Lookup.{lookupValue, lookupTable};
-ghost use Rattle.read.specs.Listing.{keyAt, listed, written, valueAt};
-ghost use Rattle.read.specs.Children.{nextChild};
+ghost use Rattle.read_listing.specs.Listing.{keyAt, listed, written, valueAt};
+ghost use Rattle.read_listing.specs.Children.{nextChild};
 ghost use Rattle.gvdb.specs.Reading.{openedAnswer, lookedAnswer, listedAnswer, valuedAnswer, childedAnswer};
 
 // What a table opens as.

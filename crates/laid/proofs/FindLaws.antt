@@ -17,7 +17,7 @@ use Rattle.layout.specs.Item.{itemAt}
 use Rattle.read.specs.declared.lookup.Found.{Found}
 use Rattle.read.specs.Chain.{Joined, keyOf}
 use Rattle.read.specs.Find.{bloomPasses, bucketWord, runOf, findItem}
-use Rattle.read.proofs.Plain.{runFor, found-names, not-found}
+use Rattle.read_listing.proofs.Plain.{runFor, found-names, not-found}
 use Rattle.image.specs.Plan.{Plan, planBytes}
 use Rattle.image.specs.Laid.{Holds}
 use Rattle.image.specs.Fits.{PlanFits, openedAs, laidItem}

@@ -11,7 +11,7 @@ use Rattle.layout.specs.declared.table.Table.{Table}
 use Rattle.layout.specs.Limits.{longestFile}
 use Rattle.layout.specs.Item.{itemAt, noItem}
 use Rattle.read.specs.Chain.{fragmentOf, Joined, append, keyOf}
-use Rattle.read.proofs.AnswerLaws.{key-root, key-up}
+use Rattle.read_listing.proofs.AnswerLaws.{key-root, key-up}
 use Rattle.image.specs.Plan.{Plan, planBytes}
 use Rattle.image.specs.Laid.{Holds}
 use Rattle.image.specs.Fits.{PlanFits, openedAs, laidItem}

@@ -13,7 +13,7 @@ use Rattle.layout.specs.Item.{itemAt, noItem}
 use Rattle.layout.specs.Kind.{kindByte}
 use Rattle.layout.proofs.AnswerLaws.{pointer-inside-is}
 use Rattle.read.specs.declared.lookup.Found.{Found}
-use Rattle.read.specs.Children.{childAt, childCount}
+use Rattle.read_listing.specs.Children.{childAt, childCount}
 use Rattle.check_table.specs.Rules.{indexOf}
 use Rattle.check_table.specs.Sound.{ValueGood, InList, SoundIn}
 use Rattle.model.specs.Table.{Content, State, Has, kindOf, isContainer, isChild}

@@ -16,9 +16,9 @@ use Rattle.layout.specs.Kind.{kindByte}
 use Rattle.read.specs.declared.lookup.Looked.{Looked}
 use Rattle.read.specs.Chain.{Joined}
 use Rattle.read.specs.Lookup.{lookupValue, lookupTable}
-use Rattle.read.specs.Listing.{keyAt}
+use Rattle.read_listing.specs.Listing.{keyAt}
 use Rattle.read.specs.Answer.{lookedNumber, lookedBytes}
-use Rattle.read.proofs.AnswerLaws.{value-8, table-8, value-12, table-12, value-found, table-found, value-13, table-13, list-key}
+use Rattle.read_listing.proofs.AnswerLaws.{value-8, table-8, value-12, table-12, value-found, table-found, value-13, table-13, list-key}
 use Rattle.model.specs.Table.{Content, State, Has, kindOf}
 use Rattle.image.specs.Index.{laidIndex}
 use Rattle.image.specs.Image.{coversOf, tableBytes}

@@ -11,7 +11,7 @@ use Rattle.layout.specs.Table.{openTable}
 use Rattle.read.specs.declared.lookup.Looked.{Looked}
 use Rattle.read.specs.Chain.{Joined}
 use Rattle.read.specs.Lookup.{lookupValue, lookupTable}
-use Rattle.read.specs.Listing.{keyAt}
+use Rattle.read_listing.specs.Listing.{keyAt}
 use Rattle.read.specs.Answer.{lookedNumber}
 use Rattle.model.specs.Table.{Content, State, Has}
 use Rattle.image.specs.Index.{laidIndex}

@@ -1,14 +1,4 @@
 pub mod ChainLaws
 pub mod MatchLaws
 pub mod FindLaws
-pub mod MeasureLaws
-pub mod WriteLaws
-pub mod ListingLaws
-pub mod LookupLaws
 pub mod SoughtLaws
-pub mod Plain
-pub mod SelfParent
-pub mod TwoFilterWords
-pub mod AnswerLaws
-pub mod BadLaws
-pub mod ChildLaws

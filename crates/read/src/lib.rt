@@ -1,5 +1,3 @@
-// Reading a table: an item's key through its parents, lookup of a key, listing of keys and values, and of the children of a container.
+// Reading a table: an item's key through its parents, and lookup of a key.
 pub mod chain;
-pub mod children;
-pub mod listing;
 pub mod lookup;

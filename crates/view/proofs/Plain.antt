@@ -17,11 +17,11 @@ use Rattle.layout.specs.Table.{openTable, tableIn}
 use Rattle.layout.specs.Pointer.{openPointer}
 use Rattle.read.specs.declared.lookup.Looked.{Looked}
 use Rattle.read.specs.declared.lookup.Sought.{Sought}
-use Rattle.read.specs.declared.listing.Valued.{Valued}
-use Rattle.read.specs.declared.listing.Cursor.{Cursor}
-use Rattle.read.specs.declared.children.Childed.{Childed}
+use Rattle.read_listing.specs.declared.listing.Valued.{Valued}
+use Rattle.read_listing.specs.declared.listing.Cursor.{Cursor}
+use Rattle.read_listing.specs.declared.children.Childed.{Childed}
 use Rattle.read.specs.Lookup.{lookupItem, lookupTable, atItem, nestedOf, atNested}
-use Rattle.read.proofs.Plain.{value-in-file, listed-value-in-file, child-in-file}
+use Rattle.read_listing.proofs.Plain.{value-in-file, listed-value-in-file, child-in-file}
 use Rattle.view.specs.declared.table.TableView.{TableView}
 use Rattle.view.specs.declared.table.OpenedView.{OpenedView}
 use Rattle.view.specs.declared.table.ValueView.{ValueView}

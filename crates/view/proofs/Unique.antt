@@ -9,9 +9,9 @@ use Rattle.check_table.specs.declared.check.Checked.{Checked}
 use Rattle.check_table.specs.Rules.{checkTable}
 use Rattle.layout.specs.declared.table.Opened.{Opened}
 use Rattle.read.specs.declared.lookup.Looked.{Looked}
-use Rattle.read.specs.declared.listing.Listed.{Listed}
-use Rattle.read.specs.declared.listing.Valued.{Valued}
-use Rattle.read.specs.declared.children.Childed.{Childed}
+use Rattle.read_listing.specs.declared.listing.Listed.{Listed}
+use Rattle.read_listing.specs.declared.listing.Valued.{Valued}
+use Rattle.read_listing.specs.declared.children.Childed.{Childed}
 use Rattle.view.specs.declared.table.TableView.{TableView}
 use Rattle.view.specs.declared.table.OpenedView.{OpenedView}
 use Rattle.view.specs.declared.table.ValueView.{ValueView}

@@ -8,8 +8,8 @@ use denote.Ref.{RefT, now}
 use Rattle.words.specs.Choice.{pick}
 use Rattle.layout.specs.declared.table.Opened.{Opened}
 use Rattle.read.specs.declared.lookup.Looked.{Looked}
-use Rattle.read.specs.declared.listing.Valued.{Valued}
-use Rattle.read.specs.declared.children.Childed.{Childed}
+use Rattle.read_listing.specs.declared.listing.Valued.{Valued}
+use Rattle.read_listing.specs.declared.children.Childed.{Childed}
 
 -- a lent slice is a stretch of a lent file, and no copy: it lies in the file's memory, `at` bytes from the file's start, and holds `bytes`
 pub record Viewed (file r : RefT (List ℕ)) (at : ℕ) (bytes : List ℕ) : Type 0 where

@@ -7,9 +7,9 @@ use denote.Ref.{RefT, now}
 use Rattle.words.specs.Hash.{plain}
 use Rattle.layout.specs.Table.{openTable}
 use Rattle.read.specs.Lookup.{lookupValue, lookupTable}
-use Rattle.read.specs.Listing.{valueAt, keyAt, listed, written}
-use Rattle.read.specs.Children.{nextChild}
-use Rattle.read.specs.declared.listing.Listed.{Listed}
+use Rattle.read_listing.specs.Listing.{valueAt, keyAt, listed, written}
+use Rattle.read_listing.specs.Children.{nextChild}
+use Rattle.read_listing.specs.declared.listing.Listed.{Listed}
 use Rattle.view.specs.declared.table.TableView.{TableView}
 use Rattle.view.specs.declared.table.OpenedView.{OpenedView}
 use Rattle.view.specs.declared.table.ValueView.{ValueView}

@@ -1,8 +1,8 @@
 // The parts of a lent file and the numbers that a view is made of, from an answer. A refusal's part is `&file[0..0]`, its numbers are 0.
 use layout::table::Opened;
-use read::children::Childed;
-use read::listing::Valued;
 use read::lookup::Looked;
+use read_listing::children::Childed;
+use read_listing::listing::Valued;
 ghost use mathlib.Core.Path.{_≡_};
 ghost use mathlib.Core.List.{[]};
 ghost use Rattle.view.specs.Part.{Viewed, Stretch, ValueIn, ListedIn, ChildIn, OpenedIn, NestedIn, openedPointer, pointerStart, pointerEnd, listedStart, listedEnd, childStart, childEnd};

@@ -2,11 +2,11 @@
 // no loop. A view holds no proof that it is good: each call opens the table again, so a view of any numbers is harmless.
 use check_table::check::Checked;
 use layout::table::Opened;
-use read::children::Childed;
-use read::listing::Cursor;
-use read::listing::Listed;
-use read::listing::Valued;
 use read::lookup::Looked;
+use read_listing::children::Childed;
+use read_listing::listing::Cursor;
+use read_listing::listing::Listed;
+use read_listing::listing::Valued;
 ghost use mathlib.Core.Path.{_≡_};
 ghost use Rattle.words.specs.Hash.{plain};
 ghost use Rattle.check_table.specs.Rules.{checkTable};

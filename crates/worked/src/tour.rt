@@ -4,10 +4,10 @@ use check_table::check::Checked;
 use layout::refusal::Refusal;
 use layout::refusal::bad_at;
 use layout::refusal::number_of;
-use read::listing::Cursor;
-use read::listing::Listed;
-use read::listing::Valued;
 use read::lookup::Looked;
+use read_listing::listing::Cursor;
+use read_listing::listing::Listed;
+use read_listing::listing::Valued;
 
 // A refusal's number; with 8 and 9 where the text is bad.
 fn refusal(why: Refusal) {

@@ -6,7 +6,7 @@ use mathlib.Core.Bool.{false}
 use borrow.Author.Tests.{eq-eqb, ne-eqb}
 use Rattle.words.specs.Below.{someBelow}
 use Rattle.words.proofs.BelowLaws.{below-some, some-turn}
-use Rattle.read.specs.Children.{childAt}
+use Rattle.read_listing.specs.Children.{childAt}
 use Rattle.check_table.specs.Rules.{among}
 use borrow.Author.Needs.{needs}
 use Rattle.check_table.proofs.rules.is_among.Statement.{statement}

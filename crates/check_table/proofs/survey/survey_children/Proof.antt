@@ -6,7 +6,7 @@ use mathlib.Core.Bool.{true}
 use lib.ListN.{length}
 use borrow.Author.Tests.{not-true, not-false}
 use Rattle.words.specs.Below.{allBelow}
-use Rattle.read.specs.Children.{childAt}
+use Rattle.read_listing.specs.Children.{childAt}
 use Rattle.check_table.specs.Rules.{childGood, among}
 use Rattle.check_table.specs.Survey.{Surveying}
 use Rattle.check_table.proofs.ChildLaws.{walk-start, turn-fails, turn-goes}

@@ -1,6 +1,6 @@
 -- `gvdb::reading::gvdb_next_child` meets its contract: the listing's answer as numbers.
 use mathlib.Core.Path.{sym, ap, _∙_}
-use Rattle.read.specs.Answer.{childedNumber, childedKind, childedPointer, childedChild, childedAt}
+use Rattle.read_listing.specs.Answer.{childedNumber, childedKind, childedPointer, childedChild, childedAt}
 use Rattle.gvdb.specs.Reading.{childedAnswer}
 use borrow.Author.Needs.{needs}
 use Rattle.gvdb.proofs.reading.gvdb_next_child.Statement.{statement}

@@ -1,6 +1,6 @@
 -- `gvdb::reading::gvdb_next_key` meets its contract: the listing's answer as numbers, and its buffer.
 use mathlib.Core.Path.{sym, ap, _∙_}
-use Rattle.read.specs.Answer.{listedNumber, listedKey, listedAt}
+use Rattle.read_listing.specs.Answer.{listedNumber, listedKey, listedAt}
 use Rattle.gvdb.specs.Reading.{listedAnswer}
 use borrow.Author.Needs.{needs}
 use Rattle.gvdb.proofs.reading.gvdb_next_key.Statement.{statement}

@@ -1,6 +1,6 @@
 -- `gvdb::reading::gvdb_next_value` meets its contract: the listing's answer as numbers.
 use mathlib.Core.Path.{sym, ap, _∙_}
-use Rattle.read.specs.Answer.{valuedNumber, valuedPointer, valuedItem}
+use Rattle.read_listing.specs.Answer.{valuedNumber, valuedPointer, valuedItem}
 use Rattle.gvdb.specs.Reading.{valuedAnswer}
 use borrow.Author.Needs.{needs}
 use Rattle.gvdb.proofs.reading.gvdb_next_value.Statement.{statement}

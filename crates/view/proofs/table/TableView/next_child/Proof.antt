@@ -41,25 +41,25 @@ use denote.Triple.Walked.{says, Stays, stay-none, stay-none-slice, walkOf, goes-
 use denote.Exit.{yes}
 use denote.Triple.Clauses.{ensured, lasts}
 use Rattle.words.specs.Hash.{plain as plain-rule}
-use Rattle.read.specs.Children.{nextChild}
+use Rattle.read_listing.specs.Children.{nextChild}
 use Rattle.view.specs.Part.{ChildIn}
 use Rattle.view.specs.Views.{ChildOf}
-use Rattle.read.specs.declared.children.Childed.{Childed}
-use Rattle.read.proofs.children.Childed as DChilded
-use Rattle.read.proofs.children.Childed.Laws as DChilded′
-use Rattle.read.specs.declared.listing.Cursor.{Cursor}
-use Rattle.read.proofs.listing.Cursor as DCursor
-use Rattle.read.proofs.listing.Cursor.Laws as DCursor′
+use Rattle.read_listing.specs.declared.children.Childed.{Childed}
+use Rattle.read_listing.proofs.children.Childed as DChilded
+use Rattle.read_listing.proofs.children.Childed.Laws as DChilded′
+use Rattle.read_listing.specs.declared.listing.Cursor.{Cursor}
+use Rattle.read_listing.proofs.listing.Cursor as DCursor
+use Rattle.read_listing.proofs.listing.Cursor.Laws as DCursor′
 use Rattle.view.specs.declared.table.ChildView.{ChildView}
 use Rattle.view.proofs.table.ChildView as DChildView
 use Rattle.view.proofs.table.ChildView.Laws as DChildView′
 use Rattle.view.specs.declared.table.TableView.{TableView}
 use Rattle.view.proofs.table.TableView as DTableView
 use Rattle.view.proofs.table.TableView.Laws as DTableView′
-use Rattle.read.proofs.listing.Cursor.next_child as of-next-child
-use Rattle.read.proofs.listing.Cursor.next_child.Symbol as of-next-child-def
-use Rattle.read.proofs.listing.Cursor.next_child.Symbol.{name as #next-child}
-use Rattle.read.proofs.listing.Cursor.next_child.Met as of-next-child-thm
+use Rattle.read_listing.proofs.listing.Cursor.next_child as of-next-child
+use Rattle.read_listing.proofs.listing.Cursor.next_child.Symbol as of-next-child-def
+use Rattle.read_listing.proofs.listing.Cursor.next_child.Symbol.{name as #next-child}
+use Rattle.read_listing.proofs.listing.Cursor.next_child.Met as of-next-child-thm
 use Rattle.view.proofs.part.child_part as of-child-part
 use Rattle.view.proofs.part.child_part.Symbol as of-child-part-def
 use Rattle.view.proofs.part.child_part.Symbol.{name as #child-part}
@@ -73,7 +73,7 @@ abbrev stayed : Stays (it.ended .signature .params) (it.ended .kept)
 stayed = (stay-none (λ κs. DTableView.the-row (namedLft 2 0 tt κs)) yes, (stay-none-slice (1 ∷ []) tt (plain (λ _. u8)) yes, (stay-none (λ _. DCursor.the-row) yes, tt)))
 
 module _ {M : Type 1} (𝓤 : URA M) (H : Heap 𝓤) (A : Atoms 𝓤) (mem : Memory → SProp 𝓤) (run : Routine → Fun 𝓤) where
-  -- the contract of `read::listing::Cursor::next_child`
+  -- the contract of `read_listing::listing::Cursor::next_child`
   abbrev Contract-next-child : Contract 𝓤
   Contract-next-child = tripleOf 𝓤 H A of-next-child.signature (of-next-child.spec 𝓤 H A mem run)
 
@@ -88,7 +88,7 @@ module _ {M : Type 1} (𝓤 : URA M) (H : Heap 𝓤) (A : Atoms 𝓤) (W : Given
   abbrev Post : Val → SProp 𝓤
   Post = walkOf 𝓤 H A it.ended stayed (it.clauses 𝓤 H A mem run) .post (((κ₀, (κ₁, tt)), (q₀, (q₁, tt)), tt, (self, (key, (cursor, tt))), at), tt)
 
-  -- call 1, of `read::listing::Cursor::next_child`: what it is passed, what it asks, and what it says of its result
+  -- call 1, of `read_listing::listing::Cursor::next_child`: what it is passed, what it asks, and what it says of its result
   abbrev to-1 : Contract-next-child 𝓤 H A mem run .Ghost
   to-1 = (((κ₀, (κ₁, tt)), (q₀, (q₁, tt)), tt, (cursor, ((self .file), ((self .start), ((self .end), (key, tt))))), ((DCursor′.lowered cursor) ∷ [], ((sliceVal ((self .file) .ptr) (length ((self .file) .now))) ∷ [], ((vint w32 (self .start)) ∷ [], ((vint w32 (self .end)) ∷ [], ((sliceVal (key .ptr) (length (key .now))) ∷ [], tt)))))), tt)
 
@@ -133,7 +133,7 @@ module _ {M : Type 1} (𝓤 : URA M) (H : Heap 𝓤) (A : Atoms 𝓤) (W : Given
           assigns ! (of-opd ! (load ! (from ! (fld ! refl (stop !))) (look-in ! 20 (sub ! 0 refl (whole !))))) (from ! (stop !)) (init ! 10 refl (tt, wt0 .1 .0)) $
           assigns ! (of-opd ! (load ! (from ! (fld ! refl (stop !))) (look-in ! 20 (sub ! 1 refl (whole !))))) (from ! (stop !)) (init ! 8 refl (tt, wt0 .1 .1 .0)) $
           assigns ! (of-opd ! (load ! (from ! (fld ! refl (stop !))) (look-in ! 20 (sub ! 2 refl (whole !))))) (from ! (stop !)) (init ! 6 refl (tt, wt0 .1 .1 .1 .0)) $
-          -- call 1, of `read::listing::Cursor::next_child`
+          -- call 1, of `read_listing::listing::Cursor::next_child`
           nothing ! $ move ! (1 ∷ []) $ use1 W (‵ ((ShrSlice (named 1) κ₁ u8) .own key ((sliceVal (key .ptr) (length (key .now))) ∷ [])) ⊛ ‵ ((ShrSlice (named 1) κ₁ u8) .own key ((sliceVal (key .ptr) (length (key .now))) ∷ []))) (shr-slice-copy 𝓤 H A W (named 1) κ₁ u8 .twice key ((sliceVal (key .ptr) (length (key .now))) ∷ [])) $ split ! $ move ! (0 ∷ 2 ∷ []) $ fjoin ! $ owned ! u32 (Is u32) (uint-makes 𝓤 H A W w32) (self .end) ((vint w32 (self .end)) ∷ []) (refl, wt0 .1 .1 .1 .0 .fits) $ fjoin ! $ owned ! u32 (Is u32) (uint-makes 𝓤 H A W w32) (self .start) ((vint w32 (self .start)) ∷ []) (refl, wt0 .1 .1 .0 .fits) $ fjoin ! $ move ! (2 ∷ []) $ use1 W (‵ ((ShrSlice (named 0) κ₀ u8) .own (self .file) ((sliceVal ((self .file) .ptr) (length ((self .file) .now))) ∷ [])) ⊛ ‵ ((DTableView.the-row (namedLft 2 0 tt (κ₀, (κ₁, tt)))) .own self ((DTableView′.lowered self) ∷ []))) out-self-0 $ split ! $ move ! (0 ∷ 2 ∷ []) $ fjoin ! $ owned ! DCursor.the-row (Is DCursor.the-row) (LL.makes DCursor.the-type DCursor′.the-plain 𝓤 H A) cursor ((DCursor′.lowered cursor) ∷ []) is2 $ fjoin ! $ nothing ! $ move ! (4 ∷ 0 ∷ []) $ join ! $ move ! (4 ∷ 0 ∷ []) $ join ! $ use2 W (raw (Contract-next-child 𝓤 H A mem run .pre (to-1))) (asked-1) $
           calls-at ! fm (Contract-next-child 𝓤 H A mem run) known-next-child (to-1) (and-then ! (load ! (from ! (stop !)) (look ! 15 refl)) (and-then ! (load ! (from ! (stop !)) (look ! 9 refl)) (and-then ! (load ! (from ! (stop !)) (look ! 7 refl)) (and-then ! (load ! (from ! (stop !)) (look ! 5 refl)) (and-then ! (load ! (from ! (stop !)) (look ! 17 refl)) (no-more !)))))) (λ u1.
           use1 W (later (some (λ (r1 : Childed). ((‵ (flft κ₀ q₀) ⊛ ‵ (flft κ₁ q₁) ⊛ ‵ ftrue) ⊛ ‵ (DChilded.the-row .own r1 (u1 ∷ []))) ⊛ raw (ensured 𝓤 H A of-next-child.ended (of-next-child.clauses 𝓤 H A mem run) (κ₀, (κ₁, tt)) (cursor, ((self .file), ((self .start), ((self .end), (key, tt))))) tt r1)))) (id⊢ 𝓤 _) $ await ! tt $ pick ! (λ r1.
@@ -170,5 +170,5 @@ next-child-spec 𝓤 H 𝓜 𝓖 𝓡 =
     entered 𝓤 H (tripleOf 𝓤 H (𝓖 .A) it.signature (it.spec 𝓤 H (𝓖 .A) (𝓜 .mem) (𝓡 .run)))
     (tables 𝓤 H 𝓜 𝓡 code.env .C) (tables 𝓤 H 𝓜 𝓡 code.env .Λ) #it code.function (code.unfolded 𝓤 H 𝓜 𝓡)
     (it-meets 𝓤 H (𝓖 .A) (givenOf 𝓤 H 𝓜 𝓖) (𝓜 .mem) (𝓡 .run) (tablesOf 𝓤 H 𝓜 (tables 𝓤 H 𝓜 𝓡 code.env))
-    (cited 𝓤 H (Contract-next-child 𝓤 H (𝓖 .A) (𝓜 .mem) (𝓡 .run)) 𝓜 𝓡 code.env #next-child of-next-child-def.routine code.calls-read·listing·Cursor·next-child (of-next-child-thm.met 𝓤 H 𝓜 𝓖 𝓡))
+    (cited 𝓤 H (Contract-next-child 𝓤 H (𝓖 .A) (𝓜 .mem) (𝓡 .run)) 𝓜 𝓡 code.env #next-child of-next-child-def.routine code.calls-read-listing·listing·Cursor·next-child (of-next-child-thm.met 𝓤 H 𝓜 𝓖 𝓡))
     (cited 𝓤 H (Contract-child-part 𝓤 H (𝓖 .A) (𝓜 .mem) (𝓡 .run)) 𝓜 𝓡 code.env #child-part of-child-part-def.routine code.calls-view·part·child-part (of-child-part-thm.met 𝓤 H 𝓜 𝓖 𝓡)))

@@ -40,21 +40,21 @@ use denote.Triple.Table.{entered, cited}
 use denote.Triple.Walked.{says, Stays, stay-none, gave-slice, walkOf, goes-none, goes-gave-slice, Walks, ends-at, walked, walk-meets}
 use denote.Exit.{yes}
 use denote.Triple.Clauses.{ensured, lasts}
-use Rattle.read.specs.Listing.{keyAt, listed, written}
+use Rattle.read_listing.specs.Listing.{keyAt, listed, written}
 use Rattle.view.specs.Views.{KeyOf}
-use Rattle.read.specs.declared.listing.Cursor.{Cursor}
-use Rattle.read.proofs.listing.Cursor as DCursor
-use Rattle.read.proofs.listing.Cursor.Laws as DCursor′
-use Rattle.read.specs.declared.listing.Listed.{Listed}
-use Rattle.read.proofs.listing.Listed as DListed
-use Rattle.read.proofs.listing.Listed.Laws as DListed′
+use Rattle.read_listing.specs.declared.listing.Cursor.{Cursor}
+use Rattle.read_listing.proofs.listing.Cursor as DCursor
+use Rattle.read_listing.proofs.listing.Cursor.Laws as DCursor′
+use Rattle.read_listing.specs.declared.listing.Listed.{Listed}
+use Rattle.read_listing.proofs.listing.Listed as DListed
+use Rattle.read_listing.proofs.listing.Listed.Laws as DListed′
 use Rattle.view.specs.declared.table.TableView.{TableView}
 use Rattle.view.proofs.table.TableView as DTableView
 use Rattle.view.proofs.table.TableView.Laws as DTableView′
-use Rattle.read.proofs.listing.Cursor.next_key as of-next-key
-use Rattle.read.proofs.listing.Cursor.next_key.Symbol as of-next-key-def
-use Rattle.read.proofs.listing.Cursor.next_key.Symbol.{name as #next-key}
-use Rattle.read.proofs.listing.Cursor.next_key.Met as of-next-key-thm
+use Rattle.read_listing.proofs.listing.Cursor.next_key as of-next-key
+use Rattle.read_listing.proofs.listing.Cursor.next_key.Symbol as of-next-key-def
+use Rattle.read_listing.proofs.listing.Cursor.next_key.Symbol.{name as #next-key}
+use Rattle.read_listing.proofs.listing.Cursor.next_key.Met as of-next-key-thm
 use Rattle.view.proofs.table.TableView.next_key.Key.{name as #it}
 use Rattle.view.proofs.table.TableView.next_key as it
 use Rattle.view.proofs.table.TableView.next_key.Statement as stated
@@ -64,7 +64,7 @@ abbrev stayed : Stays (it.ended .signature .params) (it.ended .kept)
 stayed = (stay-none (λ κs. DTableView.the-row (namedLft 2 0 tt κs)) yes, (stay-none (λ _. DCursor.the-row) yes, (gave-slice (1 ∷ []) tt (plain (λ _. u8)), tt)))
 
 module _ {M : Type 1} (𝓤 : URA M) (H : Heap 𝓤) (A : Atoms 𝓤) (mem : Memory → SProp 𝓤) (run : Routine → Fun 𝓤) where
-  -- the contract of `read::listing::Cursor::next_key`
+  -- the contract of `read_listing::listing::Cursor::next_key`
   abbrev Contract-next-key : Contract 𝓤
   Contract-next-key = tripleOf 𝓤 H A of-next-key.signature (of-next-key.spec 𝓤 H A mem run)
 
@@ -75,7 +75,7 @@ module _ {M : Type 1} (𝓤 : URA M) (H : Heap 𝓤) (A : Atoms 𝓤) (W : Given
   abbrev Post : Val → SProp 𝓤
   Post = walkOf 𝓤 H A it.ended stayed (it.clauses 𝓤 H A mem run) .post (((κ₀, (κ₁, tt)), (q₀, (q₁, tt)), tt, (self, (cursor, (out, tt))), at), tt)
 
-  -- call 1, of `read::listing::Cursor::next_key`: what it is passed, what it asks, and what it says of its result
+  -- call 1, of `read_listing::listing::Cursor::next_key`: what it is passed, what it asks, and what it says of its result
   abbrev to-1 : Contract-next-key 𝓤 H A mem run .Ghost
   to-1 = (((κ₀, (κ₁, tt)), (q₀, (q₁, tt)), tt, (cursor, ((self .file), ((self .start), ((self .end), (out, tt))))), ((DCursor′.lowered cursor) ∷ [], ((sliceVal ((self .file) .ptr) (length ((self .file) .now))) ∷ [], ((vint w32 (self .start)) ∷ [], ((vint w32 (self .end)) ∷ [], ((sliceVal (out .ptr) (length (out .now))) ∷ [], tt)))))), tt)
 
@@ -109,7 +109,7 @@ module _ {M : Type 1} (𝓤 : URA M) (H : Heap 𝓤) (A : Atoms 𝓤) (W : Given
           assigns ! (of-opd ! (load ! (from ! (fld ! refl (stop !))) (look-in ! 18 (sub ! 2 refl (whole !))))) (from ! (stop !)) (init ! 8 refl (tt, wt0 .1 .1 .1 .0)) $
           assigns ! (addr ! (from ! (fld ! refl (hop ! (look-in ! 14 (sub ! 0 refl (whole !))) (stop !))))) (from ! (stop !)) (init ! 6 refl (tt, tt)) $
           assigns ! (agg ! (and-then ! (load ! (from ! (stop !)) (look ! 6 refl)) (and-then ! (load ! (from ! (fld ! refl (stop !))) (look-in ! 14 (sub ! 1 refl (whole !)))) (no-more !)))) (from ! (stop !)) (init ! 4 refl (tt, (mut-slice-lawful 𝓤 H A W (named 1) κ₁ u8 .typed out (sliceVal (out .ptr) (length (out .now)) ∷ []) is2 .0) .1)) $
-          -- call 1, of `read::listing::Cursor::next_key`
+          -- call 1, of `read_listing::listing::Cursor::next_key`
           nothing ! $ move ! (1 ∷ 0 ∷ []) $ fjoin ! $ owned ! u32 (Is u32) (uint-makes 𝓤 H A W w32) (self .end) ((vint w32 (self .end)) ∷ []) (refl, wt0 .1 .1 .1 .0 .fits) $ fjoin ! $ owned ! u32 (Is u32) (uint-makes 𝓤 H A W w32) (self .start) ((vint w32 (self .start)) ∷ []) (refl, wt0 .1 .1 .0 .fits) $ fjoin ! $ move ! (1 ∷ []) $ use1 W (‵ ((ShrSlice (named 0) κ₀ u8) .own (self .file) ((sliceVal ((self .file) .ptr) (length ((self .file) .now))) ∷ [])) ⊛ ‵ ((DTableView.the-row (namedLft 2 0 tt (κ₀, (κ₁, tt)))) .own self ((DTableView′.lowered self) ∷ []))) out-self-0 $ split ! $ move ! (0 ∷ 2 ∷ []) $ fjoin ! $ owned ! DCursor.the-row (Is DCursor.the-row) (LL.makes DCursor.the-type DCursor′.the-plain 𝓤 H A) cursor ((DCursor′.lowered cursor) ∷ []) is1 $ fjoin ! $ nothing ! $ move ! (3 ∷ 0 ∷ []) $ join ! $ move ! (3 ∷ 0 ∷ []) $ join ! $ use2 W (raw (Contract-next-key 𝓤 H A mem run .pre (to-1))) (asked-1) $
           calls-at ! fm (Contract-next-key 𝓤 H A mem run) known-next-key (to-1) (and-then ! (load ! (from ! (stop !)) (look ! 14 refl)) (and-then ! (load ! (from ! (stop !)) (look ! 10 refl)) (and-then ! (load ! (from ! (stop !)) (look ! 8 refl)) (and-then ! (load ! (from ! (stop !)) (look ! 6 refl)) (and-then ! (load ! (from ! (stop !)) (look ! 2 refl)) (no-more !)))))) (λ u1.
           use1 W (later (some (λ (r1 : Listed). ((‵ (flft κ₀ q₀) ⊛ ‵ (flft κ₁ q₁) ⊛ ‵ ftrue) ⊛ ‵ (DListed.the-row .own r1 (u1 ∷ []))) ⊛ raw (ensured 𝓤 H A of-next-key.ended (of-next-key.clauses 𝓤 H A mem run) (κ₀, (κ₁, tt)) (cursor, ((self .file), ((self .start), ((self .end), (out, tt))))) tt r1)))) (id⊢ 𝓤 _) $ await ! tt $ pick ! (λ r1.
@@ -138,4 +138,4 @@ next-key-spec 𝓤 H 𝓜 𝓖 𝓡 =
     entered 𝓤 H (tripleOf 𝓤 H (𝓖 .A) it.signature (it.spec 𝓤 H (𝓖 .A) (𝓜 .mem) (𝓡 .run)))
     (tables 𝓤 H 𝓜 𝓡 code.env .C) (tables 𝓤 H 𝓜 𝓡 code.env .Λ) #it code.function (code.unfolded 𝓤 H 𝓜 𝓡)
     (it-meets 𝓤 H (𝓖 .A) (givenOf 𝓤 H 𝓜 𝓖) (𝓜 .mem) (𝓡 .run) (tablesOf 𝓤 H 𝓜 (tables 𝓤 H 𝓜 𝓡 code.env))
-    (cited 𝓤 H (Contract-next-key 𝓤 H (𝓖 .A) (𝓜 .mem) (𝓡 .run)) 𝓜 𝓡 code.env #next-key of-next-key-def.routine code.calls-read·listing·Cursor·next-key (of-next-key-thm.met 𝓤 H 𝓜 𝓖 𝓡)))
+    (cited 𝓤 H (Contract-next-key 𝓤 H (𝓖 .A) (𝓜 .mem) (𝓡 .run)) 𝓜 𝓡 code.env #next-key of-next-key-def.routine code.calls-read-listing·listing·Cursor·next-key (of-next-key-thm.met 𝓤 H 𝓜 𝓖 𝓡)))

@@ -40,25 +40,25 @@ use denote.Triple.Table.{entered, cited}
 use denote.Triple.Walked.{says, Stays, stay-none, walkOf, goes-none, Walks, ends-at, walked, walk-meets}
 use denote.Exit.{yes}
 use denote.Triple.Clauses.{ensured, lasts}
-use Rattle.read.specs.Listing.{valueAt}
+use Rattle.read_listing.specs.Listing.{valueAt}
 use Rattle.view.specs.Part.{ListedIn}
 use Rattle.view.specs.Views.{ListedOf}
-use Rattle.read.specs.declared.listing.Cursor.{Cursor}
-use Rattle.read.proofs.listing.Cursor as DCursor
-use Rattle.read.proofs.listing.Cursor.Laws as DCursor′
-use Rattle.read.specs.declared.listing.Valued.{Valued}
-use Rattle.read.proofs.listing.Valued as DValued
-use Rattle.read.proofs.listing.Valued.Laws as DValued′
+use Rattle.read_listing.specs.declared.listing.Cursor.{Cursor}
+use Rattle.read_listing.proofs.listing.Cursor as DCursor
+use Rattle.read_listing.proofs.listing.Cursor.Laws as DCursor′
+use Rattle.read_listing.specs.declared.listing.Valued.{Valued}
+use Rattle.read_listing.proofs.listing.Valued as DValued
+use Rattle.read_listing.proofs.listing.Valued.Laws as DValued′
 use Rattle.view.specs.declared.table.ListedView.{ListedView}
 use Rattle.view.proofs.table.ListedView as DListedView
 use Rattle.view.proofs.table.ListedView.Laws as DListedView′
 use Rattle.view.specs.declared.table.TableView.{TableView}
 use Rattle.view.proofs.table.TableView as DTableView
 use Rattle.view.proofs.table.TableView.Laws as DTableView′
-use Rattle.read.proofs.listing.Cursor.next_value as of-next-value
-use Rattle.read.proofs.listing.Cursor.next_value.Symbol as of-next-value-def
-use Rattle.read.proofs.listing.Cursor.next_value.Symbol.{name as #next-value}
-use Rattle.read.proofs.listing.Cursor.next_value.Met as of-next-value-thm
+use Rattle.read_listing.proofs.listing.Cursor.next_value as of-next-value
+use Rattle.read_listing.proofs.listing.Cursor.next_value.Symbol as of-next-value-def
+use Rattle.read_listing.proofs.listing.Cursor.next_value.Symbol.{name as #next-value}
+use Rattle.read_listing.proofs.listing.Cursor.next_value.Met as of-next-value-thm
 use Rattle.view.proofs.part.listed_part as of-listed-part
 use Rattle.view.proofs.part.listed_part.Symbol as of-listed-part-def
 use Rattle.view.proofs.part.listed_part.Symbol.{name as #listed-part}
@@ -72,7 +72,7 @@ abbrev stayed : Stays (it.ended .signature .params) (it.ended .kept)
 stayed = (stay-none (λ κs. DTableView.the-row (namedLft 1 0 tt κs)) yes, (stay-none (λ _. DCursor.the-row) yes, tt))
 
 module _ {M : Type 1} (𝓤 : URA M) (H : Heap 𝓤) (A : Atoms 𝓤) (mem : Memory → SProp 𝓤) (run : Routine → Fun 𝓤) where
-  -- the contract of `read::listing::Cursor::next_value`
+  -- the contract of `read_listing::listing::Cursor::next_value`
   abbrev Contract-next-value : Contract 𝓤
   Contract-next-value = tripleOf 𝓤 H A of-next-value.signature (of-next-value.spec 𝓤 H A mem run)
 
@@ -87,7 +87,7 @@ module _ {M : Type 1} (𝓤 : URA M) (H : Heap 𝓤) (A : Atoms 𝓤) (W : Given
   abbrev Post : Val → SProp 𝓤
   Post = walkOf 𝓤 H A it.ended stayed (it.clauses 𝓤 H A mem run) .post (((κ₀, tt), (q₀, tt), tt, (self, (cursor, tt)), at), tt)
 
-  -- call 1, of `read::listing::Cursor::next_value`: what it is passed, what it asks, and what it says of its result
+  -- call 1, of `read_listing::listing::Cursor::next_value`: what it is passed, what it asks, and what it says of its result
   abbrev to-1 : Contract-next-value 𝓤 H A mem run .Ghost
   to-1 = (((κ₀, tt), (q₀, tt), tt, (cursor, ((self .file), ((self .start), ((self .end), tt)))), ((DCursor′.lowered cursor) ∷ [], ((sliceVal ((self .file) .ptr) (length ((self .file) .now))) ∷ [], ((vint w32 (self .start)) ∷ [], ((vint w32 (self .end)) ∷ [], tt))))), tt)
 
@@ -132,7 +132,7 @@ module _ {M : Type 1} (𝓤 : URA M) (H : Heap 𝓤) (A : Atoms 𝓤) (W : Given
           assigns ! (of-opd ! (load ! (from ! (fld ! refl (stop !))) (look-in ! 16 (sub ! 0 refl (whole !))))) (from ! (stop !)) (init ! 8 refl (tt, wt0 .1 .0)) $
           assigns ! (of-opd ! (load ! (from ! (fld ! refl (stop !))) (look-in ! 16 (sub ! 1 refl (whole !))))) (from ! (stop !)) (init ! 6 refl (tt, wt0 .1 .1 .0)) $
           assigns ! (of-opd ! (load ! (from ! (fld ! refl (stop !))) (look-in ! 16 (sub ! 2 refl (whole !))))) (from ! (stop !)) (init ! 4 refl (tt, wt0 .1 .1 .1 .0)) $
-          -- call 1, of `read::listing::Cursor::next_value`
+          -- call 1, of `read_listing::listing::Cursor::next_value`
           nothing ! $ owned ! u32 (Is u32) (uint-makes 𝓤 H A W w32) (self .end) ((vint w32 (self .end)) ∷ []) (refl, wt0 .1 .1 .1 .0 .fits) $ fjoin ! $ owned ! u32 (Is u32) (uint-makes 𝓤 H A W w32) (self .start) ((vint w32 (self .start)) ∷ []) (refl, wt0 .1 .1 .0 .fits) $ fjoin ! $ move ! (1 ∷ []) $ use1 W (‵ ((ShrSlice (named 0) κ₀ u8) .own (self .file) ((sliceVal ((self .file) .ptr) (length ((self .file) .now))) ∷ [])) ⊛ ‵ ((DTableView.the-row (namedLft 1 0 tt (κ₀, tt))) .own self ((DTableView′.lowered self) ∷ []))) out-self-0 $ split ! $ move ! (0 ∷ 2 ∷ []) $ fjoin ! $ owned ! DCursor.the-row (Is DCursor.the-row) (LL.makes DCursor.the-type DCursor′.the-plain 𝓤 H A) cursor ((DCursor′.lowered cursor) ∷ []) is1 $ fjoin ! $ nothing ! $ move ! (3 ∷ 0 ∷ []) $ join ! $ use2 W (raw (Contract-next-value 𝓤 H A mem run .pre (to-1))) (asked-1) $
           calls-at ! fm (Contract-next-value 𝓤 H A mem run) known-next-value (to-1) (and-then ! (load ! (from ! (stop !)) (look ! 14 refl)) (and-then ! (load ! (from ! (stop !)) (look ! 8 refl)) (and-then ! (load ! (from ! (stop !)) (look ! 6 refl)) (and-then ! (load ! (from ! (stop !)) (look ! 4 refl)) (no-more !))))) (λ u1.
           use1 W (later (some (λ (r1 : Valued). ((‵ (flft κ₀ q₀) ⊛ ‵ ftrue) ⊛ ‵ (DValued.the-row .own r1 (u1 ∷ []))) ⊛ raw (ensured 𝓤 H A of-next-value.ended (of-next-value.clauses 𝓤 H A mem run) (κ₀, tt) (cursor, ((self .file), ((self .start), ((self .end), tt)))) tt r1)))) (id⊢ 𝓤 _) $ await ! tt $ pick ! (λ r1.
@@ -169,5 +169,5 @@ next-value-spec 𝓤 H 𝓜 𝓖 𝓡 =
     entered 𝓤 H (tripleOf 𝓤 H (𝓖 .A) it.signature (it.spec 𝓤 H (𝓖 .A) (𝓜 .mem) (𝓡 .run)))
     (tables 𝓤 H 𝓜 𝓡 code.env .C) (tables 𝓤 H 𝓜 𝓡 code.env .Λ) #it code.function (code.unfolded 𝓤 H 𝓜 𝓡)
     (it-meets 𝓤 H (𝓖 .A) (givenOf 𝓤 H 𝓜 𝓖) (𝓜 .mem) (𝓡 .run) (tablesOf 𝓤 H 𝓜 (tables 𝓤 H 𝓜 𝓡 code.env))
-    (cited 𝓤 H (Contract-next-value 𝓤 H (𝓖 .A) (𝓜 .mem) (𝓡 .run)) 𝓜 𝓡 code.env #next-value of-next-value-def.routine code.calls-read·listing·Cursor·next-value (of-next-value-thm.met 𝓤 H 𝓜 𝓖 𝓡))
+    (cited 𝓤 H (Contract-next-value 𝓤 H (𝓖 .A) (𝓜 .mem) (𝓡 .run)) 𝓜 𝓡 code.env #next-value of-next-value-def.routine code.calls-read-listing·listing·Cursor·next-value (of-next-value-thm.met 𝓤 H 𝓜 𝓖 𝓡))
     (cited 𝓤 H (Contract-listed-part 𝓤 H (𝓖 .A) (𝓜 .mem) (𝓡 .run)) 𝓜 𝓡 code.env #listed-part of-listed-part-def.routine code.calls-view·part·listed-part (of-listed-part-thm.met 𝓤 H 𝓜 𝓖 𝓡)))

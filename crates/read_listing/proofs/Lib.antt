@@ -1,0 +1,10 @@
+pub mod MeasureLaws
+pub mod WriteLaws
+pub mod ListingLaws
+pub mod LookupLaws
+pub mod Plain
+pub mod SelfParent
+pub mod TwoFilterWords
+pub mod AnswerLaws
+pub mod BadLaws
+pub mod ChildLaws

@@ -1,0 +1,4 @@
+pub mod Listing
+pub mod Children
+pub mod Answer
+pub mod Bad

@@ -1,0 +1,3 @@
+// Listing a table: its keys, its values, and the children of one container.
+pub mod children;
+pub mod listing;
