@@ -83,8 +83,10 @@ impl Checked {
         out::progress(source.bytes.len(), || format!("{}: {}: checking {}", source.name, table_name(path), text::count(table.len(), "item")));
         let verdict = Verdict { path: path.clone(), items: table.len(), broken: Broken::of(&table) };
         tell(source, &verdict)?;
+        let tables: Box<dyn Iterator<Item = (String, Table)>> =
+            if verdict.broken.is_none() { Box::new(table.sound_tables()) } else { Box::new(table.tables()) };
         self.tables.push(verdict);
-        for (key, nested) in table.tables() {
+        for (key, nested) in tables {
             path.push(key);
             self.table(source, nested, path, walk, tell)?;
             path.pop();

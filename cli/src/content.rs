@@ -30,7 +30,7 @@ fn table<'a>(source: &'a Source, from: Table<'a>, path: &mut Vec<String>, walk: 
     walk.enter(&from, path)?;
     check::sound(&source.name, &from, path)?;
     let mut content = Content::new();
-    for entry in walk.entries(&from)? {
+    for entry in walk.entries(&from, true)? {
         let refused = |refusal| Failure::refused(NO, &format!("{}: item {}", source.name, entry.index), refusal);
         let key = entry.key.map_err(refused)?;
         let node = match entry.item.map_err(refused)? {

@@ -53,9 +53,14 @@ impl Failure {
         Failure { status, line: format!("{what}: {words} ({number})"), number: Some(number) }
     }
 
+    /// Whether nobody reads standard output any more.
+    pub fn is_gone(&self) -> bool {
+        self.line.is_empty()
+    }
+
     /// The failure, with what it means for the file that was to be written; the number stays last. That nobody reads standard output any more is said too.
     pub fn so(self, meaning: &str) -> Failure {
-        let line = if self.line.is_empty() { "standard output: nobody reads it any more" } else { &self.line };
+        let line = if self.is_gone() { "standard output: nobody reads it any more" } else { &self.line };
         let (words, number) = line.split_at(self.number.and_then(|_| line.rfind(" (")).unwrap_or(line.len()));
         Failure { line: format!("{words}; {meaning}{number}"), ..self }
     }

@@ -112,7 +112,7 @@ pub fn build(args: &Args, out: &mut Out) -> Result<u8, Failure> {
     let lost = lost.iter().map(|(place, leaf)| lost_line(place, leaf, usize::MAX)).collect();
     let lost = told(lost, Some(out));
     let left_out = unmade.iter().map(|(path, key)| format!("note container {} is left out: {}\n", text::path(path, key), why_unmade(key, separator, "")));
-    out.tell(&(lost + &left_out.collect::<String>())).map_err(|failure| failure.so(&format!("{} is not written", target.name)))?;
+    out.tell_before(&target.name, &(lost + &left_out.collect::<String>()))?;
     image.put()?;
     let values = content::values(&lines.content).len();
     let last = format!("{}: {}, {}\n", target.name, text::count(values, "value"), text::count(size, "byte"));

@@ -24,11 +24,13 @@ pub fn run(args: &Args, out: &mut Out) -> Result<u8, Failure> {
     let prefix = args.words().get(1).map_or(Ok(Vec::new()), |prefix| text::given(prefix))?;
     let source = Source::read(&args.words()[0])?;
     let (table, path) = source.table(args.values("--table"))?;
-    if let Some(broken) = Some(&table).filter(|_| !args.flag("--no-check")).and_then(Broken::of) {
+    let checked = !args.flag("--no-check");
+    let broken = Some(&table).filter(|_| checked).and_then(Broken::of);
+    if let Some(broken) = &broken {
         out::say(broken.failure(&source.name, &path, "it is listed as lookups answer").line);
     }
     let mut walk = source.walk();
-    let mut rows = rows(walk.entries(&table)?);
+    let mut rows = rows(walk.entries(&table, checked && broken.is_none())?);
     rows.retain(|row| prefix.is_empty() || row.entry.key.as_ref().is_ok_and(|key| key.as_bytes().starts_with(&prefix)));
     if args.flag("--json") {
         let items = rows.iter().map(|row| row.json(&mut walk)).collect::<Result<_, _>>()?;

@@ -80,7 +80,7 @@ fn main() -> ExitCode {
     match status.and_then(|status| flushed.map(|()| status)) {
         Ok(status) => ExitCode::from(status),
         Err(failure) => {
-            if !failure.line.is_empty() {
+            if !failure.is_gone() {
                 out::say(&failure.line);
             }
             ExitCode::from(failure.status)

@@ -124,13 +124,10 @@ impl Job {
 /// line, or the last fields, come behind the last step.
 fn carry_out(job: &Job, places: &Places, report: &Report, out: &mut Out, lay: impl Fn(&str) -> Result<Vec<u8>, Failure>) -> Result<u8, Failure> {
     let name = &places.out.name;
-    let untold = |failure: Failure| failure.so(&format!("{name} is not written"));
-    out.tell(&report.head(job.listener(Some(out)))).map_err(untold)?;
-    out.pause();
     let image = lay(name).and_then(|bytes| if job.dry_run { Ok(None) } else { places.out.write(bytes).map(Some) });
-    let text = || report.head(job.listener(None)) + &report.body(job.listener(None));
-    let file = places.report.as_ref().map(|target| target.write(text().into_bytes())).transpose();
-    out.tell(&report.body(job.listener(Some(out)))).map_err(untold)?;
+    let text = || report.body(job.listener(None)).into_bytes();
+    let file = places.report.as_ref().map(|target| target.write(text())).transpose();
+    out.tell_before(name, &report.body(job.listener(Some(out))))?;
 
     let (file, done) = put(file, image);
     let end = match &done {

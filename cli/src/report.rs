@@ -91,26 +91,14 @@ impl<'a> Report<'a> {
         self.both.iter().filter(|both| which(both.outcome)).count()
     }
 
-    /// The first line, or the first fields.
-    pub fn head(&self, listener: Listener) -> String {
-        let Heading { own, other, base, .. } = &self.heading;
-        if listener.json {
-            return "{".to_string() + &inner(vec![("own", Json::text(own)), ("other", Json::text(other))]);
-        }
-        let read = |name| in_words(name, "standard input");
-        let (own, other) = (read(own), read(other));
-        let base = base.as_ref().map_or(String::new(), |base| format!(" since base {}", read(base)));
-        told(vec![line("merge", None, format!(" of own {own} and other {other}{base}"))], listener.out)
-    }
-
     /// All that is known before OUT is in its place.
     pub fn body(&self, listener: Listener) -> String {
         if listener.json {
-            return ",".to_string() + &inner(self.fields());
+            return "{".to_string() + &inner(self.fields());
         }
         let room = |whole| if whole { usize::MAX } else { SHORT };
         let room = Room { standing: room(listener.whole), dropped: room(listener.dropped_whole) };
-        let mut lines = Vec::new();
+        let mut lines = vec![self.first_line()];
         if self.heading.order == ByteOrder::Big {
             lines.push(line("note", Colour::Yellow, " the values of both files are big-endian"));
         }
@@ -122,6 +110,14 @@ impl<'a> Report<'a> {
         }
         lines.extend(self.lost.iter().map(|(place, leaf)| lost_line(place, leaf, room.dropped)));
         told(lines, listener.out)
+    }
+
+    fn first_line(&self) -> Line {
+        let Heading { own, other, base, .. } = &self.heading;
+        let read = |name| in_words(name, "standard input");
+        let (own, other) = (read(own), read(other));
+        let base = base.as_ref().map_or(String::new(), |base| format!(" since base {}", read(base)));
+        line("merge", None, format!(" of own {own} and other {other}{base}"))
     }
 
     /// The last line, or the last fields: they say what came of it.
@@ -173,6 +169,8 @@ impl<'a> Report<'a> {
         let heading = &self.heading;
         let leaves = |leaves: Vec<(Place, Leaf)>| Json::List(leaves.iter().map(leaf_json).collect());
         vec![
+            ("own", Json::text(&heading.own)),
+            ("other", Json::text(&heading.other)),
             ("base", heading.base.as_ref().map_or(Json::Null, Json::text)),
             ("out", Json::text(&heading.out)),
             ("keep", heading.keep.map_or(Json::Null, |side| Json::text(side.name()))),

@@ -3,7 +3,7 @@
 use crate::failure::{name, Failure, NO, UNREADABLE};
 use crate::json::Json;
 use crate::{advice, input, out, text};
-use gvdb::{Entry, Header, Refusal, Table, MAX_FILE};
+use gvdb::{Entry, Header, Item, Refusal, Table, MAX_FILE};
 use std::ffi::OsStr;
 use std::path::PathBuf;
 
@@ -72,11 +72,12 @@ pub fn not_found(what: &str, table: &Table, key: &[u8], refusal: Refusal) -> Fai
         Refusal::KeyNotUtf8 { at } => return Failure::bad_key(what, key, at, advice::of(refusal.number())),
         _ => return Failure::refused(NO, what, refusal),
     }
-    let there = match (table.get(key), table.get_table(key)) {
-        (Ok(_), _) => "it is a value; gvdb get FILE KEY writes it",
-        (_, Ok(_)) => "it is a table; gvdb list FILE --table KEY shows what it holds",
-        _ if table.check().is_ok() => "it is a container; gvdb list FILE KEY shows what is below",
-        _ => "it is of another kind, in a table that is not sound; gvdb check FILE says what is broken",
+    let there = match table.item(key) {
+        Ok(Item::Value(_)) => "it is a value; gvdb get FILE KEY writes it",
+        Ok(Item::Table(_)) => "it is a table; gvdb list FILE --table KEY shows what it holds",
+        Ok(Item::Container) => "it is a container; gvdb list FILE KEY shows what is below",
+        Err(Refusal::OtherKind) => "it is of an unknown kind; gvdb check FILE says what is broken",
+        Err(_) => "it does not open; gvdb check FILE says what is broken",
     };
     Failure::told(NO, what, refusal.number(), there)
 }
@@ -104,10 +105,12 @@ impl Walk {
         Ok(())
     }
 
-    /// All entries of a table: those whose keys read in ascending order, then the others by index.
-    pub fn entries<'a>(&mut self, table: &Table<'a>) -> Result<Vec<Entry<'a>>, Failure> {
+    /// All entries of a table: those whose keys read in ascending order, then the others by index. They are the same of a table that is known to be sound, and
+    /// cost less.
+    pub fn entries<'a>(&mut self, table: &Table<'a>, sound: bool) -> Result<Vec<Entry<'a>>, Failure> {
+        let found: Box<dyn Iterator<Item = Entry>> = if sound { Box::new(table.sound_entries()) } else { Box::new(table.entries()) };
         let mut entries = Vec::new();
-        for entry in table.entries() {
+        for entry in found {
             self.hold(entry.key.as_ref().map_or(0, String::len))?;
             entries.push(entry);
         }

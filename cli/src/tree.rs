@@ -80,19 +80,23 @@ impl Growing<'_> {
         if self.ended.is_some() {
             return stopped();
         }
-        match self.walk.enter(table, &self.path).and_then(|()| self.walk.entries(table)) {
-            Ok(entries) => {
-                let broken = Broken::of(table);
-                if let (Some(broken), None) = (&broken, &self.unsound) {
-                    self.unsound = Some(broken.failure(&self.source.name, &self.path, "it is drawn as far as it reads"));
-                }
-                Below { broken, ..self.roots(table, entries) }
-            }
+        match self.walk.enter(table, &self.path).and_then(|()| self.entries(table)) {
+            Ok((broken, entries)) => Below { broken, ..self.roots(table, entries) },
             Err(failure) => {
                 self.ended = Some(failure);
                 stopped()
             }
         }
+    }
+
+    /// What a table breaks, and what it holds.
+    fn entries<'a>(&mut self, table: &Table<'a>) -> Result<(Option<Broken>, Vec<Entry<'a>>), Failure> {
+        let broken = Broken::of(table);
+        if let (Some(broken), None) = (&broken, &self.unsound) {
+            self.unsound = Some(broken.failure(&self.source.name, &self.path, "it is drawn as far as it reads"));
+        }
+        let entries = self.walk.entries(table, broken.is_none())?;
+        Ok((broken, entries))
     }
 
     /// The items of a table: first those that no container lists, then what nothing leads to, as in a ring of containers.

@@ -80,13 +80,24 @@ fn a_refused_child_is_drawn_in_its_place() {
 #[test]
 fn an_unknown_kind_is_no_container() {
     let file = unordered("unknown-kind");
-    let at = record(&file, "/c/");
+    let (at, list) = (record(&file, "/c/") + 14, record(&file, "/b/") + 16);
     let mut bytes = fs::read(&file).unwrap();
-    bytes[at + 14] = b'x';
-    fs::write(&file, bytes).unwrap();
+    bytes[at] = b'x';
+    fs::write(&file, &bytes).unwrap();
     let ran = run("list", &file, &[]).ends(0).says("not sound");
     assert!(ran.text().contains("refused       (13)  /c/\n") && ran.text().contains("container        5  /\n"), "{}", ran.text());
     run("tree", &file, &[]).ends(1).prints("child 0: the item's kind is unknown, or another than was asked for (13)");
+    // what `get` says of each does not hang on the rest of the table
+    bytes[list] += 1;
+    fs::write(&file, &bytes).unwrap();
+    for (key, said) in [
+        ("/", "it is a container; gvdb list FILE KEY shows what is below (13)\n"),
+        ("/c/", "it is of an unknown kind; gvdb check FILE says what is broken (13)\n"),
+        ("/b/", "it does not open; gvdb check FILE says what is broken (13)\n"),
+    ] {
+        run("get", &file, &[key]).ends(1).says(said);
+        run("list", &file, &["--table", key]).ends(1).says(said);
+    }
     if let Some(real) = real() {
         assert!(run("list", &real.join("dconf-empty.gvdb"), &[]).ends(0).text().starts_with("refused       (13)  "));
     }

@@ -122,32 +122,68 @@ fn a_full_disk_at_each_step() {
     assert!(written > 5 && refused > 10, "{written} {refused}");
 }
 
-/// A reader that goes away is said, and so is what that means.
+const GONE: &str = "gvdb: standard output: nobody reads it any more; out is not written\n";
+
+/// A reader that goes when it has seen enough is given a moment to do so; then nothing is written, and that is said. Two files that share no key have a report
+/// of two lines, of which the last comes behind OUT.
 #[test]
 fn a_reader_that_wants_one_line() {
     let folder = files("one-line");
-    shell(&folder, "\"$GVDB\" merge own other -o merged --keep=own").ends(0);
-    let mut said = [0; 2];
-    for _ in 0..20 {
-        let ran = shell(&folder, "rm -f out; (\"$GVDB\" merge own other -o out --keep=own 2> err; echo $? > status) | head -n 1");
-        assert_eq!(ran.text(), "merge of own own and other other\n");
-        let (err, out) = (fs::read_to_string(folder.join("err")).unwrap(), folder.join("out").exists());
-        let status = fs::read_to_string(folder.join("status")).unwrap();
-        let expected = match (out, &status[..]) {
-            (false, _) => "gvdb: standard output: nobody reads it any more; out is not written\n",
-            (true, "0\n") => "",
-            (true, _) => "gvdb: standard output: nobody reads it any more; out is written, but the end of its report is not\n",
-        };
-        assert_eq!(err, expected);
-        said[usize::from(out)] += 1;
+    build(&folder.join("apart"), "z\t05\n");
+    for other in ["other", "apart"] {
+        let mut written = 0;
+        for _ in 0..20 {
+            let ran = shell(&folder, &format!("rm -f out; (\"$GVDB\" merge own {other} -o out --keep=own 2> err; echo $? > status) | head -n 1"));
+            assert_eq!(ran.text(), format!("merge of own own and other {other}\n"));
+            let [err, status] = ["err", "status"].map(|name| fs::read_to_string(folder.join(name)).unwrap());
+            let out = folder.join("out").exists();
+            // a machine that is busy may let go of it too late
+            let late = "gvdb: standard output: nobody reads it any more; out is written, but the end of its report is not\n";
+            assert_eq!((&err[..], &status[..]), if !out { (GONE, "1\n") } else { [(late, "2\n"), ("", "0\n")][usize::from(err.is_empty())] });
+            written += usize::from(out);
+        }
+        assert!(written < 10, "{other}: {written} of 20");
     }
-    assert!(said[0] > said[1], "{said:?}");
-    // a report that a pipe does not hold: nothing is ever written
+}
+
+/// Who is gone before anything is told is always noticed, and so is who goes before the end of a report that a pipe does not hold.
+#[test]
+fn a_reader_that_is_gone() {
+    let folder = files("no-reader");
+    build(&folder.join("apart"), "z\t05\n");
     let lines: String = (0..200).map(|i| format!("{i}\t{}\n", "ab".repeat(500))).collect();
     build(&folder.join("long"), &lines);
-    let ran = shell(&folder, "rm -f out; (\"$GVDB\" merge long long -o out --report -; echo $? > status) | head -n 1");
-    assert_eq!(ran.stderr, "gvdb: standard output: nobody reads it any more; out is not written\n");
-    assert!(!folder.join("out").exists() && fs::read_to_string(folder.join("status")).unwrap() == "2\n");
+    let before = names(&folder);
+    for words in ["own other --keep=own", "own apart", "own apart --json", "own other --keep=own --report report", "own apart --dry-run", "own other"] {
+        let (reader, writer) = std::io::pipe().unwrap();
+        drop(reader);
+        let mut merge = Command::new(program());
+        merge.args(["merge", "-o", "out"]).args(words.split(' ')).current_dir(&folder).stdout(writer);
+        let output = merge.output().unwrap();
+        assert_eq!((String::from_utf8(output.stderr).unwrap(), output.status.code()), (GONE.to_string(), Some(1)), "{words}");
+        assert_eq!(names(&folder), before);
+    }
+    for _ in 0..10 {
+        let ran = shell(&folder, "(\"$GVDB\" merge long long -o out --report -; echo $? > ../no-reader-status) | head -n 1");
+        assert_eq!((&ran.stderr[..], names(&folder)), (GONE, before.clone()));
+        assert_eq!(fs::read_to_string(folder.with_file_name("no-reader-status")).unwrap(), "1\n");
+    }
+}
+
+/// A build whose losses nobody reads writes nothing either.
+#[test]
+fn a_reader_of_what_a_build_drops() {
+    let folder = files("build-reader");
+    let old = fs::read(folder.join("old")).unwrap();
+    for reader in ["true", "head -n 1 > /dev/null"] {
+        let written = |_: &i32| {
+            let ran = shell(&folder, &format!("cp old out; (sleep 0.02; printf 'new\\t01\\n' | \"$GVDB\" build -o out --replace) | {reader}"));
+            let late = "gvdb: standard output: nobody reads it any more; out is written\n";
+            assert_eq!(ran.stderr, if fs::read(folder.join("out")).unwrap() == old { GONE } else { late });
+            ran.stderr != GONE
+        };
+        assert!((0..10).filter(written).count() < 5);
+    }
 }
 
 /// JSON says at its end what came of the merge, and is whole for a refused one too.

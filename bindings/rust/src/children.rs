@@ -27,8 +27,6 @@ pub struct Children<'a> {
     key: Vec<u8>,
     /// None where the last was answered.
     position: Option<usize>,
-    /// Why the container itself is refused, until it is said.
-    refused: Option<Refusal>,
 }
 
 impl<'a> Table<'a> {
@@ -59,9 +57,7 @@ impl<'a> Table<'a> {
     /// # }
     /// ```
     pub fn children(&self, key: impl AsRef<[u8]>) -> Children<'a> {
-        let key = key.as_ref().to_vec();
-        let refused = self.container(&key).err();
-        Children { table: *self, key, position: refused.is_none().then_some(0), refused }
+        Children { table: *self, key: key.as_ref().to_vec(), position: Some(0) }
     }
 
     /// Whether a container stands under a key whose list opens.
@@ -72,7 +68,8 @@ impl<'a> Table<'a> {
         }
     }
 
-    fn child(&self, key: &[u8], position: usize) -> Result<Child<'a>, Refusal> {
+    /// The child at a position: one lookup of the container's key.
+    pub(crate) fn child(&self, key: &[u8], position: usize) -> Result<Child<'a>, Refusal> {
         let pointer = self.pointer();
         let child = ffi::next_child(self.file(), pointer.start, pointer.end, key, position);
         accepted_at(child.number, child.at)?;
@@ -87,13 +84,15 @@ impl<'a> Iterator for Children<'a> {
     type Item = Result<Child<'a>, Refusal>;
 
     fn next(&mut self) -> Option<Self::Item> {
-        let Some(position) = self.position else { return self.refused.take().map(Err) };
+        let position = self.position.take()?;
         let child = self.table.child(&self.key, position);
         self.position = match child {
-            Err(Refusal::PastTheLast) => None,
+            Err(Refusal::PastTheLast) => return None,
+            // Of a refused container that is the one answer.
+            Err(_) if self.table.container(&self.key).is_err() => None,
             _ => position.checked_add(1),
         };
-        self.position.map(|_| child)
+        Some(child)
     }
 }
 

@@ -1,8 +1,8 @@
 //! GVDB files, read, checked, built and laid by the proved library of Fikelutra (`libgvdb.a`), as safe Rust.
 //!
 //! - [`Header`] reads and lays a file's first 24 bytes: the byte order of its values, and the pointer to its root table.
-//! - [`Table`] reads: [`get`](Table::get), [`get_table`](Table::get_table), [`keys`](Table::keys), [`values`](Table::values),
-//!   [`children`](Table::children) of one container, and the [`check`](Table::check).
+//! - [`Table`] reads: [`get`](Table::get), [`get_table`](Table::get_table), [`item`](Table::item) of any kind, [`keys`](Table::keys),
+//!   [`values`](Table::values), [`entries`](Table::entries), [`children`](Table::children) of one container, and the [`check`](Table::check).
 //! - [`Builder`] builds and lays: [`insert`](Builder::insert), [`insert_table`](Builder::insert_table),
 //!   [`write`](Builder::write), and a whole file by [`write_file`](Builder::write_file).
 //! - [`Refusal`] says why a call was refused, by the number of documents 01 and 02, and where a text is not UTF-8, as [`first_bad`] does. No bytes, pointer, key or order of calls can make a call fail otherwise.
@@ -53,6 +53,7 @@ mod builder;
 mod children;
 mod ffi;
 mod header;
+mod levels;
 mod limits;
 mod refusal;
 mod table;

@@ -5,7 +5,7 @@ use crate::refusal::{accepted, accepted_at, Refusal, Unsound};
 use std::fmt;
 
 /// The longest key that a listing has room for. A longer one is refused with 14; only a file whose fragments overlap has one.
-const KEY_ROOM: usize = crate::MAX_FILE;
+pub(crate) const KEY_ROOM: usize = crate::MAX_FILE;
 
 /// A stretch of a file, from `start` to before `end`.
 #[derive(Clone, Copy, PartialEq, Eq, Hash, Debug)]
@@ -102,6 +102,38 @@ impl<'a> Table<'a> {
         self.get_table(key)
     }
 
+    /// What stands under a key, whichever kind it is. Refusals: 8, 12, 13 for an item of an unknown kind, and 2 to 7 of what does not open.
+    ///
+    /// ```
+    /// # use gvdb::{Builder, Item, Refusal, Table};
+    /// # fn main() -> Result<(), Refusal> {
+    /// # let mut builder = Builder::new(4096);
+    /// # let root = builder.new_table(Some(b'/'))?;
+    /// # builder.insert(root, "a/b", [7])?;
+    /// # let image = builder.write(root)?;
+    /// # let table = Table::open(&image.bytes, image.root.start, image.root.end)?;
+    /// assert!(matches!(table.item("a/b"), Ok(Item::Value([7]))));
+    /// assert!(matches!(table.item("a/"), Ok(Item::Container)));
+    /// assert!(matches!(table.item("a"), Err(Refusal::KeyNotFound)));
+    /// # Ok(())
+    /// # }
+    /// ```
+    pub fn item(&self, key: impl AsRef<[u8]>) -> Result<Item<'a>, Refusal> {
+        match self.get(&key) {
+            Err(Refusal::OtherKind) => self.nested(key.as_ref()),
+            value => value.map(Item::Value),
+        }
+    }
+
+    /// What stands under a key that is no value's: a container, or a table; what is neither is refused as the table that it is not.
+    fn nested(&self, key: &[u8]) -> Result<Item<'a>, Refusal> {
+        match self.container(key) {
+            Ok(()) => Ok(Item::Container),
+            Err(Refusal::OtherKind) => self.get_table(key).map(Item::Table),
+            Err(refusal) => Err(refusal),
+        }
+    }
+
     /// The key of the item with this index, whether a lookup finds it or not. Refusals: 15, then 2, 9, 10 or 11, then 14.
     pub fn key_at(&self, index: usize) -> Result<String, Refusal> {
         self.key_in(index, &mut Vec::new())
@@ -166,7 +198,7 @@ impl<'a> Table<'a> {
     /// # }
     /// ```
     pub fn entries(&self) -> Entries<'a> {
-        let mut values = ValuePlaces { table: *self, position: 0 };
+        let mut values = self.value_places();
         let ahead = values.next();
         Entries { keys: self.keys(), values, ahead }
     }
@@ -233,8 +265,13 @@ impl<'a> Table<'a> {
         self.file.get(start as usize..end as usize).ok_or(Refusal::PointerOutside)
     }
 
+    /// The values with the indices of their items.
+    pub(crate) fn value_places(&self) -> ValuePlaces<'a> {
+        ValuePlaces { table: *self, position: 0 }
+    }
+
     /// The key at an index, by way of a buffer that grows until the key fits.
-    fn key_in(&self, index: usize, buffer: &mut Vec<u8>) -> Result<String, Refusal> {
+    pub(crate) fn key_in(&self, index: usize, buffer: &mut Vec<u8>) -> Result<String, Refusal> {
         loop {
             let key = ffi::next_key(self.file, self.pointer.start, self.pointer.end, index, buffer);
             match accepted_at(key.number, key.at) {
@@ -306,7 +343,7 @@ impl<'a> Iterator for Values<'a> {
 
 /// The values of a table, each with the index of its item.
 #[derive(Clone, Debug)]
-struct ValuePlaces<'a> {
+pub(crate) struct ValuePlaces<'a> {
     table: Table<'a>,
     position: usize,
 }
@@ -381,7 +418,7 @@ impl<'a> Iterator for Entries<'a> {
         let key = self.keys.next()?;
         let item = match (value, &key) {
             (Some(bytes), _) => bytes.map(Item::Value),
-            (None, Ok(key)) => nested(&self.keys.table, key),
+            (None, Ok(key)) => self.keys.table.nested(key.as_bytes()),
             (None, Err(refusal)) => Err(*refusal),
         };
         Some(Entry { index, key, item })
@@ -413,14 +450,5 @@ impl<'a> Iterator for Tables<'a> {
                 return Some((key, nested));
             }
         }
-    }
-}
-
-/// What lies under a key that is no value's: a table, or a container; what is neither is refused as the container that it is not.
-fn nested<'a>(table: &Table<'a>, key: &str) -> Result<Item<'a>, Refusal> {
-    match table.get_table(key) {
-        Ok(nested) => Ok(Item::Table(nested)),
-        Err(Refusal::OtherKind) => table.container(key.as_bytes()).map(|()| Item::Container),
-        Err(refusal) => Err(refusal),
     }
 }
