@@ -102,7 +102,7 @@ impl Ground {
         start(&mut builder);
         fill(&mut builder, &keys);
         let mut image = vec![0; ROOM];
-        let written = builder.write(0, &mut image);
+        let written = builder.write(0, &mut image, 0);
         assert_eq!(written.number, 0);
         image.truncate(written.length as usize);
         let theirs = write_theirs(filled(&keys));
@@ -129,7 +129,7 @@ fn lookups<'a>(ground: &'a Ground, table: &'a HashTable<'a, 'a>, keys: &'a [Stri
     let ours = move || {
         timed(|| {
             for key in keys {
-                assert_eq!(ffi::get(black_box(&ground.image), 24, ground.end, black_box(key.as_bytes())).number == 0, there);
+                assert_eq!(ffi::get(black_box(&ground.image), 24, ground.end, black_box(key.as_bytes()), 0).number == 0, there);
             }
         })
         .0
@@ -179,7 +179,7 @@ fn inserts<'a>(ground: &'a Ground) -> (Turn<'a>, Turn<'a>) {
 
 fn writes<'a>(ground: &'a Ground) -> (Turn<'a>, Turn<'a>) {
     let (mut builder, mut image) = (ground.builder.clone(), vec![0; ROOM]);
-    let ours = move || timed(|| assert_eq!(black_box(&mut builder).write(0, &mut image).number, 0)).0;
+    let ours = move || timed(|| assert_eq!(black_box(&mut builder).write(0, &mut image, 0).number, 0)).0;
     let theirs = move || {
         let builder = filled(&ground.keys);
         timed(|| write_theirs(builder)).0
@@ -194,7 +194,7 @@ fn both<'a>(ground: &'a Ground) -> (Turn<'a>, Turn<'a>) {
         timed(|| {
             start(&mut builder);
             fill(&mut builder, black_box(&ground.keys));
-            assert_eq!(builder.write(0, &mut image).number, 0);
+            assert_eq!(builder.write(0, &mut image, 0).number, 0);
         })
         .0
     };
@@ -240,12 +240,14 @@ fn children(ground: &Ground) -> (Turn<'_>, Turn<'_>) {
     let keys = asked.clone();
     let child = move || {
         timed(|| {
-            asked.iter().for_each(|(key, at)| assert_eq!(ffi::next_child(black_box(&ground.image), 24, ground.end, black_box(key.as_bytes()), *at).number, 0))
+            asked
+                .iter()
+                .for_each(|(key, at)| assert_eq!(ffi::next_child(black_box(&ground.image), 24, ground.end, black_box(key.as_bytes()), *at, 0).number, 0))
         })
         .0
     };
     let lookup = move || {
-        timed(|| keys.iter().for_each(|(key, _)| assert_eq!(ffi::get(black_box(&ground.image), 24, ground.end, black_box(key.as_bytes())).number, 13))).0
+        timed(|| keys.iter().for_each(|(key, _)| assert_eq!(ffi::get(black_box(&ground.image), 24, ground.end, black_box(key.as_bytes()), 0).number, 13))).0
     };
     (turn(count, child), turn(count, lookup))
 }
@@ -253,7 +255,7 @@ fn children(ground: &Ground) -> (Turn<'_>, Turn<'_>) {
 /// All children of one container as the Rust crate's iterator asks for them, and the check of that table. It has more items than our builder takes, so gvdb-rs lays it.
 fn whole_container(file: &[u8], count: usize) -> (Turn<'_>, Turn<'_>) {
     let end = ffi::read_header(file).end;
-    let next = move |position: usize| ffi::next_child(black_box(file), 24, end, black_box(b"/parcel/"), position).number;
+    let next = move |position: usize| ffi::next_child(black_box(file), 24, end, black_box(b"/parcel/"), position, 0).number;
     let listing = move || {
         timed(|| {
             assert_eq!(next(usize::MAX), 15);
@@ -261,7 +263,7 @@ fn whole_container(file: &[u8], count: usize) -> (Turn<'_>, Turn<'_>) {
         })
         .0
     };
-    let check = move || timed(|| assert_eq!(ffi::check(black_box(file), 24, end).number, 0)).0;
+    let check = move || timed(|| assert_eq!(ffi::check(black_box(file), 24, end, 0).number, 0)).0;
     (turn(count, listing), turn(count, check))
 }
 
@@ -321,7 +323,7 @@ fn column(rounds: usize, count: usize) -> Vec<(f64, f64)> {
         measure(rounds, lookups(&ground, &table, &ground.keys, true)),
         measure(rounds, lookups(&ground, &table, &ground.absent, false)),
         measure(rounds, (turn(items, || list_ours(&ground, items)), listing())),
-        measure(rounds, (turn(items, || timed(|| assert_eq!(ffi::check(black_box(&ground.image), 24, ground.end).number, 0)).0), listing())),
+        measure(rounds, (turn(items, || timed(|| assert_eq!(ffi::check(black_box(&ground.image), 24, ground.end, 0).number, 0)).0), listing())),
     ]
 }
 

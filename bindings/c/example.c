@@ -88,7 +88,7 @@ static void say_count(uint32_t table)
 
 static void get(gvdb_image at, const char *key)
 {
-    gvdb_place place = gvdb_get(image, at.length, at.start, at.end, BYTES(key));
+    gvdb_place place = gvdb_get(image, at.length, at.start, at.end, BYTES(key), 0);
     say_key("get", key);
     say_number(place.number, place.at);
     printf(", \"%.*s\"\n", (int)(place.end - place.start), (const char *)image + place.start);
@@ -122,7 +122,7 @@ static void list_values(gvdb_image at)
 /* The children of a container, one by one. A refused one is passed over, and where the container itself is bad there is none. */
 static void list_children(gvdb_image at, const char *key)
 {
-    gvdb_child child = gvdb_next_child(image, at.length, at.start, at.end, BYTES(key), SIZE_MAX);
+    gvdb_child child = gvdb_next_child(image, at.length, at.start, at.end, BYTES(key), SIZE_MAX, 0);
     say_key("children of", key);
     say_number(child.number, child.at);
     printf("\n");
@@ -130,7 +130,7 @@ static void list_children(gvdb_image at, const char *key)
         return;
     }
     for (size_t position = 0;; position++) {
-        child = gvdb_next_child(image, at.length, at.start, at.end, BYTES(key), position);
+        child = gvdb_next_child(image, at.length, at.start, at.end, BYTES(key), position, 0);
         if (child.number == GVDB_PAST_THE_LAST) {
             return;
         }
@@ -145,7 +145,7 @@ static void list_children(gvdb_image at, const char *key)
 
 static void check(const char *what, gvdb_image at)
 {
-    gvdb_checked checked = gvdb_check(image, at.length, at.start, at.end);
+    gvdb_checked checked = gvdb_check(image, at.length, at.start, at.end, 0);
     printf("check of %s: %" PRIu32 ", rule %" PRIu32 ", item %zu", what, checked.number, checked.rule, checked.item);
     if (checked.why != 0) {
         printf(", its key: ");
@@ -162,7 +162,7 @@ static void read_back(gvdb_image root)
     get(root, "parcel/12/");
     get(root, "parcel/12");
     get(root, "a\xC3");
-    gvdb_place lost = gvdb_get_table(image, root.length, root.start, root.end, BYTES("\xC3\xA9\xFF"));
+    gvdb_place lost = gvdb_get_table(image, root.length, root.start, root.end, BYTES("\xC3\xA9\xFF"), 0);
     say_key("get table", "\xC3\xA9\xFF");
     say_number(lost.number, lost.at);
     printf("\n");
@@ -174,7 +174,7 @@ static void read_back(gvdb_image root)
     list_children(root, "parcel/12");
     list_children(root, "caf\xE9");
     check("the root table", root);
-    gvdb_place nested = gvdb_get_table(image, root.length, root.start, root.end, BYTES("owner"));
+    gvdb_place nested = gvdb_get_table(image, root.length, root.start, root.end, BYTES("owner"), 0);
     printf("get table \"owner\": %" PRIu32 "\n", nested.number);
     root.start = nested.start;
     root.end = nested.end;
@@ -221,6 +221,35 @@ static void say_first_bad(void)
     }
 }
 
+/* A name with an accent, laid in both forms of the hash: the other one does not find it, and the images differ in the word of that hash alone. */
+static void say_forms(void)
+{
+    static const char *const names[] = {"plain", "signed"};
+    uint8_t laid[2][128];
+    gvdb_image written[2];
+    gvdb_fresh(BUILDER);
+    uint32_t table = new_table("");
+    insert(table, "\xC3\xA9", "oak");
+    for (uint32_t manner = 0; manner <= GVDB_SIGNED; manner++) {
+        written[manner] = gvdb_write(BUILDER, table, laid[manner], sizeof laid[manner], manner);
+        printf("write in the %s form: %" PRIu32 ", length %" PRIu32 ", bytes 36 to 39", names[manner], written[manner].number, written[manner].length);
+        for (size_t i = 36; i < 40; i++) {
+            printf(" %02X", (unsigned)laid[manner][i]);
+        }
+        printf("\n");
+    }
+    memcpy(laid[0] + 36, laid[1] + 36, 4);
+    printf("all other bytes: %s\n", memcmp(laid[0], laid[1], written[0].length) == 0 ? "equal" : "not equal");
+    for (uint32_t manner = 0; manner <= GVDB_SIGNED; manner++) {
+        gvdb_place place = gvdb_get(laid[1], written[1].length, written[1].start, written[1].end, BYTES("\xC3\xA9"), manner);
+        gvdb_checked checked = gvdb_check(laid[1], written[1].length, written[1].start, written[1].end, manner);
+        say_key("get", "\xC3\xA9");
+        printf("%" PRIu32 " in the %s form; check: %" PRIu32 ", rule %" PRIu32 "\n", place.number, names[manner], checked.number, checked.rule);
+    }
+    gvdb_place unread = gvdb_get(laid[1], written[1].length, written[1].start, written[1].end, BYTES("\xC3\xA9"), GVDB_SIGNED | 0xFFFFFFFEu);
+    printf("with every other bit of the manner: %" PRIu32 "\n", unread.number);
+}
+
 /* The first place of a text in the image. */
 static uint8_t *find(const char *text, size_t length)
 {
@@ -254,9 +283,9 @@ int main(void)
     say_count(register_table);
     say_count(owner);
     say_count(7);
-    gvdb_image written = gvdb_write(BUILDER, register_table, image, 100);
+    gvdb_image written = gvdb_write(BUILDER, register_table, image, 100, 0);
     printf("write into 100 bytes: %" PRIu32 "\n", written.number);
-    written = gvdb_write(BUILDER, register_table, image, sizeof image);
+    written = gvdb_write(BUILDER, register_table, image, sizeof image, 0);
     printf("write: %" PRIu32 ", root %" PRIu32 " to %" PRIu32 ", length %" PRIu32 "\n", written.number, written.start, written.end, written.length);
     read_header("the image", image, written.length);
     printf("lay its header: %" PRIu32 "\n", gvdb_lay_header(image, written.length, 0, written.start, written.end));
@@ -278,6 +307,7 @@ int main(void)
     insert(register_table, "parcel/12/stand/4", "pine");
     words[0] += 1;
     insert(register_table, "kept", "memory that was changed");
+    say_forms();
     free(words);
     return 0;
 }

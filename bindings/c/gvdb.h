@@ -38,11 +38,18 @@ extern "C" {
  *   2: gvdb_abi, gvdb_read_header with gvdb_header, gvdb_lay_header; the numbers 16, 17 and 19
  *   3: gvdb_first_bad; the field at, which is last, in gvdb_place, gvdb_key and gvdb_inserted; the fields why and at, which are last, in gvdb_checked
  *   4: gvdb_next_child with gvdb_child
+ *   5: GVDB_SIGNED; the parameter manner, which is last, of gvdb_get, gvdb_get_table, gvdb_next_child, gvdb_check and gvdb_write
  */
-#define GVDB_ABI 4
+#define GVDB_ABI 5
 
 /* The number of the library that is linked. Another than GVDB_ABI is a library of other structs than those below. */
 uint32_t gvdb_abi(void);
+
+/*
+ * A manner says how a table is read, checked and laid: 0, or GVDB_SIGNED. A table is found, checked and laid under one: what is laid in one form of the hash is
+ * read in that form. Keys whose bytes are all below 128 are found, checked and laid alike in both, in every file. No other bit of a manner is read.
+ */
+#define GVDB_SIGNED 1u /* in the hash of a key its bytes count -128 to 127, as in GLib; without this bit 0 to 255, as in gvdb-rs */
 
 /* The numbers of the answers. 18, 32, 33 and 34 are set aside for calls to come; no call here answers them. */
 enum {
@@ -212,11 +219,14 @@ size_t gvdb_first_bad(const uint8_t *text, size_t text_length);
 /* Opens a table. */
 gvdb_opened gvdb_open(const uint8_t *file, size_t file_length, uint32_t start, uint32_t end);
 
-/* Looks a value up. The answer is its place in the file, or 8 with at, 12, 13, or 2 and 3 of its own pointer. */
-gvdb_place gvdb_get(const uint8_t *file, size_t file_length, uint32_t start, uint32_t end, const uint8_t *key, size_t key_length);
+/* Looks a value up, in a manner. The answer is its place in the file, or 8 with at, 12, 13, or 2 and 3 of its own pointer. */
+gvdb_place gvdb_get(const uint8_t *file, size_t file_length, uint32_t start, uint32_t end, const uint8_t *key, size_t key_length, uint32_t manner);
 
-/* Looks a nested table up. The answer is its pointer, once it opens; or 8 with at, 12, 13, or what opening it refuses. */
-gvdb_place gvdb_get_table(const uint8_t *file, size_t file_length, uint32_t start, uint32_t end, const uint8_t *key, size_t key_length);
+/*
+ * Looks a nested table up, in a manner. The answer is its pointer, once it opens; or 8 with at, 12, 13, or what opening it refuses. A pointer has no manner: whoever
+ * looks up in the nested table gives it again.
+ */
+gvdb_place gvdb_get_table(const uint8_t *file, size_t file_length, uint32_t start, uint32_t end, const uint8_t *key, size_t key_length, uint32_t manner);
 
 /*
  * Writes the key of the item at a position, counted from 0, to the front of out; bytes of out past the key stay. Refuses with 15 past the last item;
@@ -231,25 +241,27 @@ gvdb_key gvdb_next_key(const uint8_t *file, size_t file_length, uint32_t start, 
 gvdb_value gvdb_next_value(const uint8_t *file, size_t file_length, uint32_t start, uint32_t end, size_t position);
 
 /*
- * The child at a position, counted from 0, of the container under a key, in stored order. Refuses with 8 with at, 12; of the container 13 where the item is none,
- * 2 or 3 of its value pointer, whose alignment is 4, and 13 where its length is not divisible by 4; 15 past the last child; of the child 10 where its index is not
- * below the item count, 13 where its kind is unknown, then 2 or 9 with at of its fragment. It is not asked whether the child names this container as its parent:
- * the check does that. After a child's refusal a caller may go on at position + 1. A first call at the greatest position, SIZE_MAX, answers 15 exactly where the
- * container itself is good; any refusal but 15 at a lower position is then the child's.
+ * The child at a position, counted from 0, of the container under a key, which is looked up in a manner; children stand in stored order. Refuses with 8 with at,
+ * 12; of the container 13 where the item is none, 2 or 3 of its value pointer, whose alignment is 4, and 13 where its length is not divisible by 4; 15 past the
+ * last child; of the child 10 where its index is not below the item count, 13 where its kind is unknown, then 2 or 9 with at of its fragment. It is not asked
+ * whether the child names this container as its parent: the check does that. After a child's refusal a caller may go on at position + 1. A first call at the
+ * greatest position, SIZE_MAX, answers 15 exactly where the container itself is good; any refusal but 15 at a lower position is then the child's.
  */
-gvdb_child gvdb_next_child(const uint8_t *file, size_t file_length, uint32_t start, uint32_t end, const uint8_t *key, size_t key_length, size_t position);
+gvdb_child gvdb_next_child(const uint8_t *file, size_t file_length, uint32_t start, uint32_t end, const uint8_t *key, size_t key_length, size_t position,
+                           uint32_t manner);
 
 /*
- * Checks a table, not those nested in it. The rules, for each item: (1) its key would list; (2) lookup of that key answers this item; (3) its kind is
- * known; (4) its value pointer opens, for 'H' as a table, for 'L' with a length divisible by 4; (5) of an 'L', each child index is below the count,
+ * Checks a table, not those nested in it, in a manner. The rules, for each item: (1) its key would list; (2) lookup of that key, in that manner, answers this item;
+ * (3) its kind is known; (4) its value pointer opens, for 'H' as a table, for 'L' with a length divisible by 4; (5) of an 'L', each child index is below the count,
  * names this item as parent and appears once; (6) its parent, if any, is an 'L' that keeps rule 4 and lists it.
  * With 40 and rule 1, why and at say what listing the item refuses with. What it costs is linear for ordinary tables; of a hostile file see 'time' above.
  */
-gvdb_checked gvdb_check(const uint8_t *file, size_t file_length, uint32_t start, uint32_t end);
+gvdb_checked gvdb_check(const uint8_t *file, size_t file_length, uint32_t start, uint32_t end, uint32_t manner);
 
 /*
  * Building. A builder is two lent buffers, words and arena, which every call gets whole, with the lengths of the fresh start. The words hold records, at
- * least gvdb_memory_words() of them; the arena holds keys and values and may have any length, 0 too. Both can be copied: a copy is a second builder.
+ * least gvdb_memory_words() of them; the arena holds keys and values and may have any length, 0 too. Both can be copied: a copy is a second builder. A builder
+ * has no manner: the write alone takes one, and the same tables may be written in each.
  *
  * 29 comes first in every call. Whoever changes neither between calls never meets it. Of memory that was changed a write refuses what breaks any rule,
  * so that all it lays is sound; the other calls refuse only lengths, counts and room used that cannot be, and else answer for the memory as it is.
@@ -282,10 +294,11 @@ gvdb_inserted gvdb_insert_table(size_t *words, size_t words_length, uint8_t *are
 gvdb_count gvdb_item_count(const size_t *words, size_t words_length, const uint8_t *arena, size_t arena_length, uint32_t table);
 
 /*
- * Lays the image of a table, with those nested in it, into the front of a buffer; bytes past the image stay, and bytes 0 to 23 are zeros, for
+ * Lays the image of a table, with those nested in it, in a manner, into the front of a buffer; bytes past the image stay, and bytes 0 to 23 are zeros, for
  * gvdb_lay_header. The builder is as it was afterwards and can be used on; its words are borrowed during the call. Refuses with 24, 30, 31.
  */
-gvdb_image gvdb_write(size_t *words, size_t words_length, const uint8_t *arena, size_t arena_length, uint32_t table, uint8_t *image, size_t image_length);
+gvdb_image gvdb_write(size_t *words, size_t words_length, const uint8_t *arena, size_t arena_length, uint32_t table, uint8_t *image, size_t image_length,
+                      uint32_t manner);
 
 #ifdef __cplusplus
 }

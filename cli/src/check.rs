@@ -2,11 +2,12 @@
 
 use crate::args::Args;
 use crate::failure::{name, Failure, NO};
+use crate::form;
 use crate::json::Json;
 use crate::out::{self, Colour, Out};
 use crate::source::{Source, Walk};
 use crate::text;
-use gvdb::{Refusal, Table, Unsound};
+use gvdb::{Form, Refusal, Table, Unsound};
 use std::ffi::OsStr;
 use std::io::Write;
 
@@ -16,6 +17,8 @@ struct Verdict {
     path: Vec<String>,
     items: usize,
     broken: Option<Broken>,
+    /// Whether it is sound in the signed form alone.
+    signed: bool,
 }
 
 /// A rule that a table breaks.
@@ -26,15 +29,16 @@ pub struct Broken {
 }
 
 pub fn run(args: &Args, out: &mut Out) -> Result<u8, Failure> {
+    let form = form::named(args, None)?;
     let mut status = 0;
     let mut files = Vec::new();
     for file in args.words() {
         let mut checked = Checked::default();
         if args.flag("--json") {
-            checked.file(file, &mut |_, _| Ok(()))?;
+            checked.file(file, form, &mut |_, _| Ok(()))?;
             files.push(checked.json(file));
         } else {
-            checked.file(file, &mut |source, verdict| verdict.print(source, out))?;
+            checked.file(file, form, &mut |source, verdict| verdict.print(source, out))?;
             checked.failure.iter().for_each(|failure| out::say(&failure.line));
         }
         status = status.max(checked.status());
@@ -51,19 +55,20 @@ type Tell<'t> = &'t mut dyn FnMut(&Source, &Verdict) -> Result<(), Failure>;
 /// A file's tables, as far as they could be walked, and what ended the walk early.
 #[derive(Default)]
 struct Checked {
-    order: Option<&'static str>,
+    /// The byte order and the form, once the header is read.
+    read: Option<[&'static str; 2]>,
     tables: Vec<Verdict>,
     failure: Option<Failure>,
 }
 
 impl Checked {
     /// Checks a file. Only what `tell` says ends it early; what is wrong with the file is kept.
-    fn file(&mut self, file: &OsStr, tell: Tell) -> Result<(), Failure> {
-        let source = match Source::read(file) {
+    fn file(&mut self, file: &OsStr, form: Option<Form>, tell: Tell) -> Result<(), Failure> {
+        let source = match Source::read(file, form) {
             Ok(source) => source,
             Err(failure) => return self.ended(failure),
         };
-        self.order = Some(source.header.order.name());
+        self.read = Some([source.header.order.name(), source.form.name()]);
         match source.root() {
             Ok(root) => self.table(&source, root, &mut Vec::new(), &mut source.walk(), tell),
             Err(failure) => self.ended(failure),
@@ -76,17 +81,18 @@ impl Checked {
     }
 
     /// Checks a table and those nested in it: each before those it holds.
-    fn table(&mut self, source: &Source, table: Table, path: &mut Vec<String>, walk: &mut Walk, tell: Tell) -> Result<(), Failure> {
+    fn table<'a>(&mut self, source: &'a Source, table: Table<'a>, path: &mut Vec<String>, walk: &mut Walk, tell: Tell) -> Result<(), Failure> {
         if let Err(failure) = walk.enter(&table, path) {
             return self.ended(failure);
         }
         out::progress(source.bytes.len(), || format!("{}: {}: checking {}", source.name, table_name(path), text::count(table.len(), "item")));
-        let verdict = Verdict { path: path.clone(), items: table.len(), broken: Broken::of(&table) };
+        let broken = Broken::of(source, &table);
+        let signed = source.form == Form::Signed && broken.is_none() && table.with_form(Form::Plain).check().is_err();
+        let verdict = Verdict { path: path.clone(), items: table.len(), broken, signed };
         tell(source, &verdict)?;
-        let tables: Box<dyn Iterator<Item = (String, Table)>> =
-            if verdict.broken.is_none() { Box::new(table.sound_tables()) } else { Box::new(table.tables()) };
+        let sound = verdict.broken.is_none();
         self.tables.push(verdict);
-        for (key, nested) in tables {
+        for (key, nested) in source.nested(&table, sound) {
             path.push(key);
             self.table(source, nested, path, walk, tell)?;
             path.pop();
@@ -108,7 +114,8 @@ impl Checked {
             ("file", Json::text(name(file))),
             ("sound", Json::Bool(self.status() == 0)),
             ("status", Json::Number(self.status().into())),
-            ("byte_order", self.order.map_or(Json::Null, Json::text)),
+            ("byte_order", self.read.map_or(Json::Null, |[order, _]| Json::text(order))),
+            ("form", self.read.map_or(Json::Null, |[_, form]| Json::text(form))),
             ("tables", Json::List(self.tables.iter().map(Verdict::json).collect())),
             ("failure", self.failure.as_ref().map_or(Json::Null, refusal)),
         ])
@@ -119,7 +126,10 @@ impl Verdict {
     /// The table's line, which is out before the next table is begun.
     fn print(&self, source: &Source, out: &mut Out) -> Result<(), Failure> {
         let said = match &self.broken {
-            None => format!("{}, {}", out.paint(Colour::Green, "sound"), text::count(self.items, "item")),
+            None => {
+                let form = if self.signed { " in the signed form (GLib's)" } else { "" };
+                format!("{}{form}, {}", out.paint(Colour::Green, "sound"), text::count(self.items, "item"))
+            }
             Some(broken) => format!("{}: {} {}", out.paint(Colour::Red, "not sound"), broken.words(), broken.numbers()),
         };
         out.line(format!("{}: {}: {said}", source.name, table_name(&self.path)))?;
@@ -134,8 +144,8 @@ impl Verdict {
 }
 
 /// Whether a table passes, as a failure that names what is broken.
-pub fn sound(name: &str, table: &Table, path: &[String]) -> Result<(), Failure> {
-    Broken::of(table).map_or(Ok(()), |broken| Err(broken.failure(name, path, "gvdb list FILE shows what reads")))
+pub fn sound(source: &Source, table: &Table, path: &[String]) -> Result<(), Failure> {
+    Broken::of(source, table).map_or(Ok(()), |broken| Err(broken.failure(&source.name, path, "gvdb list FILE shows what reads")))
 }
 
 fn table_name(path: &[String]) -> String {
@@ -147,8 +157,8 @@ fn table_name(path: &[String]) -> String {
 
 impl Broken {
     /// The first rule that a table breaks, if it breaks one.
-    pub fn of(table: &Table) -> Option<Broken> {
-        let unsound = table.check().err()?;
+    pub fn of(source: &Source, table: &Table) -> Option<Broken> {
+        let unsound = source.check(table).err()?;
         Some(Broken { unsound, key: unsound.why.map_or_else(|| table.key_at(unsound.item), Err) })
     }
 

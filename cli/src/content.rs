@@ -28,7 +28,7 @@ pub fn read(source: &Source) -> Result<Content<'_>, Failure> {
 
 fn table<'a>(source: &'a Source, from: Table<'a>, path: &mut Vec<String>, walk: &mut Walk) -> Result<Content<'a>, Failure> {
     walk.enter(&from, path)?;
-    check::sound(&source.name, &from, path)?;
+    check::sound(source, &from, path)?;
     let mut content = Content::new();
     for entry in walk.entries(&from, true)? {
         let refused = |refusal| Failure::refused(NO, &format!("{}: item {}", source.name, entry.index), refusal);

@@ -32,7 +32,7 @@ pub fn same(args: &Args, _: &mut Out) -> Result<u8, Failure> {
 }
 
 fn read(args: &Args) -> Result<[Source; 2], Failure> {
-    Ok([Source::read(&args.words()[0])?, Source::read(&args.words()[1])?])
+    Ok([Source::read(&args.words()[0], None)?, Source::read(&args.words()[1], None)?])
 }
 
 /// What a file holds. Of a table that is not sound something may not read, so no answer would be sure: the file counts as one that cannot be read.

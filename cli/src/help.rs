@@ -19,27 +19,37 @@ Where a file is read, - is standard input. Keys are given as `gvdb list` prints 
 backslash is \\\\, a tab \\t, a newline \\n, a return \\r, and a byte of any other control
 character, or of one that is not seen, \\xHH. File names are printed so too.
 
+The names in a file are found by a hash, of which there are two forms: in the plain one a
+byte of a name counts 0 to 255, as in gvdb-rs, in the signed one -128 to 127, as in GLib and
+dconf. They differ for names with letters above 127. Where a file is read, --form auto takes
+the form in which its root table and those nested in it are sound, else that of the root
+table, plain first; --form plain and --form signed name one. Files are written in the plain
+form unless --form signed is given.
+
 Exit status: 0 done; 1 the answer is no (not sound, no such key, not alike, a conflict, a
 refusal); 2 bad usage, or something cannot be read or written.
 ";
 
 pub const CHECK: &str = "\
-gvdb check FILE... [--json]
+gvdb check FILE... [--form plain|signed|auto] [--json]
 
 Checks each table of each file, nested ones too, against six rules: (1) the key of each
 item reads, (2) a lookup of it finds the item, (3) its kind is known, (4) its value opens,
 (5) a container's children are there, name it and stand once, (6) the parent of an item is
 a container that lists it. Of a table that is not sound the first broken rule is told, as
 soon as it is found; of rule 1 why the key does not read, and at which byte of its fragment
-it is not UTF-8. Exit status: 0 all sound, 1 one is not, 2 one cannot be read.
+it is not UTF-8. A table that is sound in GLib's form of the hash alone is told so. Exit
+status: 0 all sound, 1 one is not, 2 one cannot be read.
 
+    --form F  the form: plain, signed (GLib's), or auto as if not given; see gvdb --help
     --json    one list, with an object for each file; `why` and `at` are those of rule 1
 
     gvdb check owners/*.gvdb
 ";
 
 pub const LIST: &str = "\
-gvdb list FILE [PREFIX] [--values] [--table KEY]... [--no-check] [--json]
+gvdb list FILE [PREFIX] [--values] [--table KEY]... [--form plain|signed|auto]
+          [--no-check] [--json]
 
 Lists the keys of the root table that start with PREFIX, in ascending order. The size is
 in bytes for a value, in items for a table, and for a container in items right below it.
@@ -48,32 +58,36 @@ A table that is not sound is listed as lookups answer, and it is said.
 
     --values      hex of values of at most 32 bytes, behind a TAB
     --table KEY   the nested table at KEY instead; again for one in that
-    --no-check    do not ask whether the table is sound; that can take long
+    --form F      the form: plain, signed (GLib's), or auto as if not given; see gvdb --help
+    --no-check    do not ask whether the table is sound, which can take long, nor for its
+                  form: that is plain then, unless one is named
     --json        one object, with every byte of each value
 
     gvdb list anna.gvdb /parcel/12/ --values
 ";
 
 pub const TREE: &str = "\
-gvdb tree FILE [--json]
+gvdb tree FILE [--form plain|signed|auto] [--json]
 
 Draws the containers and nested tables of a file, with the size of each value: below a
 container its children, in stored order. Exit status 1 where a table is not sound: it is
 drawn as far as it reads, and it is said; a child that is refused stands in its place, with
 the number.
 
+    --form F  the form: plain, signed (GLib's), or auto as if not given; see gvdb --help
     --json    one object; what is below an item is in its list `below`
 
     gvdb tree anna.gvdb
 ";
 
 pub const GET: &str = "\
-gvdb get FILE KEY [--table KEY]... [--hex | --raw]
+gvdb get FILE KEY [--table KEY]... [--form plain|signed|auto] [--hex | --raw]
 
 Writes the value at KEY: its bytes as they are to a pipe or a file, hex to a terminal.
 Keys are given as `gvdb list` prints them.
 
     --table KEY   look in the nested table at KEY; again for one in that
+    --form F      the form: plain, signed (GLib's), or auto as if not given; see gvdb --help
     --hex, --raw  hex, or the bytes, wherever it goes
 
     gvdb get anna.gvdb /parcel/12/year | xxd
@@ -104,7 +118,8 @@ Exit status: 0 alike, 1 not, 2 one cannot be read or is not sound.
 
 pub const MERGE: &str = "\
 gvdb merge OWN OTHER -o OUT [--keep own|other] [--decide FILE] [--base BASE] [--dry-run]
-           [--report FILE] [--replace] [--without-containers] [--separator C|none] [--json]
+           [--report FILE] [--replace] [--without-containers] [--separator C|none]
+           [--form plain|signed|auto] [--json]
 
 Writes the values of both files into OUT. Every key that stands in both is named with both
 values. `same`: the values are equal, nothing is lost. `conflict`: they differ, or one is a
@@ -140,13 +155,15 @@ error then).
     --without-containers
                      leave out containers that cannot be laid; the report names them
     --separator C    makes the containers of OUT; / if not given, none for no containers
+    --form F         the form of OUT: plain if not given, signed (GLib's), or auto, OWN's; files
+                     are read in the form in which they are sound
     --json           the report as one object
 
     gvdb merge anna.gvdb district.gvdb -o merged.gvdb --keep own --report merged.txt
 ";
 
 pub const DUMP: &str = "\
-gvdb dump FILE [--separator C|none] [--json]
+gvdb dump FILE [--separator C|none] [--form plain|signed|auto] [--json]
 
 Writes a file as lines, which `gvdb build` lays again: the keys ascend, but for the children
 of a container, which stand in their order.
@@ -163,6 +180,8 @@ control character, or of one that is not seen, \\xHH. Other containers have no l
 separator makes them. The file has to pass the check. A word - for FILE is standard input.
 
     --separator C    the separator that `build` will be given; / if not given
+    --form F         the form: plain, signed (GLib's), or auto as if not given; no line
+                     tells it, so `build` is told again
     --json           one object with every item, containers too
 
     gvdb dump anna.gvdb | sed s/oak/beech/ | gvdb build -o changed.gvdb
@@ -170,7 +189,7 @@ separator makes them. The file has to pass the check. A word - for FILE is stand
 
 pub const BUILD: &str = "\
 gvdb build -o OUT [--replace] [--separator C|none] [--without-containers] [--big-endian]
-           [--empty]
+           [--form plain|signed] [--empty]
 
 Lays a file from lines on standard input, as `gvdb dump --help` describes them. The children
 of a container are stored in the order of the lines that are first to name them. A key that stands twice is refused, and so is one that is both a value and a
@@ -186,6 +205,7 @@ put in place; what changed there since the run began refuses it.
     --without-containers
                      leave out containers that cannot be laid, and name them
     --big-endian     the header says that the values are big-endian; so does a line
+    --form F         the form: plain if not given, or signed, as GLib reads it
     --empty          input without a line of content lays an empty table
 
     printf '/parcel/12/year\\te9070000\\n' | gvdb build -o anna.gvdb

@@ -50,8 +50,8 @@ impl Input {
 
     pub fn source(&mut self, word: &OsStr) -> Result<Source, Failure> {
         match self.piped.take_if(|_| word == "-") {
-            Some((name, bytes)) => Ok(Source { path: word.into(), ..Source::of(&name, bytes)? }),
-            None => Source::read(word),
+            Some((name, bytes)) => Ok(Source { path: word.into(), ..Source::of(&name, bytes, None)? }),
+            None => Source::read(word, None),
         }
     }
 

@@ -5,16 +5,17 @@
 use crate::args::Args;
 use crate::content::{self, Content, Node, Place};
 use crate::failure::{Failure, NO};
+use crate::form;
 use crate::input;
 use crate::json::Json;
-use crate::lay::{lay, Form};
+use crate::lay::{lay, Layout};
 use crate::order::Order;
 use crate::out::Out;
 use crate::report::{lost_line, told, why_unmade};
 use crate::source::Source;
 use crate::target::{self, Target};
 use crate::{advice, replace, text};
-use gvdb::{ByteOrder, Refusal, MAX_NESTING};
+use gvdb::{ByteOrder, Form, Refusal, MAX_NESTING};
 use std::borrow::Cow;
 use std::collections::BTreeMap;
 use std::ffi::OsStr;
@@ -27,7 +28,7 @@ const BIG_ENDIAN: &str = "big-endian";
 const MARK: &[u8] = b"\xef\xbb\xbf";
 
 pub fn dump(args: &Args, out: &mut Out) -> Result<u8, Failure> {
-    let source = Source::read(&args.words()[0])?;
+    let source = Source::read(&args.words()[0], form::named(args, None)?)?;
     let content = content::read(&source)?;
     if args.flag("--json") {
         json(&source, &content).print(out)?;
@@ -84,12 +85,13 @@ fn json(source: &Source, content: &Content) -> Json {
         };
         Json::List(content.iter().map(item).collect())
     }
-    Json::Object(vec![("file", source.json_name()), ("byte_order", Json::text(source.header.order.name())), ("items", items(content))])
+    Json::Object(source.json().into_iter().chain([("items", items(content))]).collect())
 }
 
 pub fn build(args: &Args, out: &mut Out) -> Result<u8, Failure> {
     let mut target = Target::find(args.needed("-o")?)?;
     let separator = content::separator(args.value("--separator"))?;
+    let form = form::named(args, Some(Form::Plain))?.ok_or_else(|| Failure::usage("build: lines have no form, so --form is plain or signed here"))?;
     // The lines may have been made from what is there: it has to be the same when they are laid.
     target.look()?;
     let old = replace::old(&target, args.flag("--replace"))?;
@@ -102,7 +104,8 @@ pub fn build(args: &Args, out: &mut Out) -> Result<u8, Failure> {
     }
     target::take_turns([&mut target])?;
     let children = Order::of_lines(&lines.numbers, separator);
-    let bytes = lay(&target.name, &lines.content, Form { separator, order, children: &children }, &|path, key| lines.named(path, key))?;
+    let layout = Layout { separator, order, form, children: &children };
+    let bytes = lay(&target.name, &lines.content, layout, &|path, key| lines.named(path, key))?;
     let size = bytes.len();
     let mut image = target.write(bytes)?;
 

@@ -3,11 +3,12 @@
 use crate::args::Args;
 use crate::check::Broken;
 use crate::failure::Failure;
+use crate::form;
 use crate::json::Json;
 use crate::out::{self, Colour, Out};
 use crate::source::{not_found, Source, Walk};
 use crate::text;
-use gvdb::{Entry, Item, Refusal};
+use gvdb::{Entry, Form, Item, Refusal};
 use std::io::Write;
 
 /// Values of so many bytes are shown by `--values`.
@@ -22,10 +23,11 @@ struct Row<'a> {
 
 pub fn run(args: &Args, out: &mut Out) -> Result<u8, Failure> {
     let prefix = args.words().get(1).map_or(Ok(Vec::new()), |prefix| text::given(prefix))?;
-    let source = Source::read(&args.words()[0])?;
+    let form = form::named(args, Some(Form::Plain).filter(|_| args.flag("--no-check")))?;
+    let source = Source::read(&args.words()[0], form)?;
     let (table, path) = source.table(args.values("--table"))?;
     let checked = !args.flag("--no-check");
-    let broken = Some(&table).filter(|_| checked).and_then(Broken::of);
+    let broken = Some(&table).filter(|_| checked).and_then(|table| Broken::of(&source, table));
     if let Some(broken) = &broken {
         out::say(broken.failure(&source.name, &path, "it is listed as lookups answer").line);
     }
@@ -34,8 +36,7 @@ pub fn run(args: &Args, out: &mut Out) -> Result<u8, Failure> {
     rows.retain(|row| prefix.is_empty() || row.entry.key.as_ref().is_ok_and(|key| key.as_bytes().starts_with(&prefix)));
     if args.flag("--json") {
         let items = rows.iter().map(|row| row.json(&mut walk)).collect::<Result<_, _>>()?;
-        let order = Json::text(source.header.order.name());
-        Json::Object(vec![("file", source.json_name()), ("byte_order", order), ("table", Json::texts(&path)), ("items", Json::List(items))]).print(out)?;
+        Json::Object(source.json().into_iter().chain([("table", Json::texts(&path)), ("items", Json::List(items))]).collect()).print(out)?;
         return Ok(0);
     }
     for row in &rows {
@@ -138,7 +139,11 @@ pub fn unread(index: usize, refusal: Refusal) -> String {
 /// `gvdb get`: the value's bytes, as they are to a pipe or file, in hex to a terminal.
 pub fn get(args: &Args, out: &mut Out) -> Result<u8, Failure> {
     let key = text::given(&args.words()[1])?;
-    let source = Source::read(&args.words()[0])?;
+    let tables = args.values("--table").map(text::given).collect::<Result<Vec<_>, _>>()?;
+    // Keys below 128 are found alike in both forms: which one the file is in, which is found out by a check, is not asked then.
+    let alike = tables.iter().chain([&key]).all(|key| key.is_ascii());
+    let form = form::named(args, Some(Form::Plain).filter(|_| alike))?;
+    let source = Source::read(&args.words()[0], form)?;
     let (table, _) = source.table(args.values("--table"))?;
     let what = format!("{}: key {}", source.name, text::quoted_bytes(&key));
     let value = table.get(&key).map_err(|refusal| not_found(&what, &table, &key, refusal))?;

@@ -8,6 +8,7 @@ mod content;
 mod decide;
 mod diff;
 mod failure;
+mod form;
 mod help;
 mod hidden;
 mod input;
@@ -42,15 +43,20 @@ struct Command {
 }
 
 const COMMANDS: &[Command] = &[
-    Command { name: "check", help: help::CHECK, spec: Spec { flags: &["--json"], valued: &[], words: &["FILE..."] }, run: check::run },
+    Command { name: "check", help: help::CHECK, spec: Spec { flags: &["--json"], valued: &["--form"], words: &["FILE..."] }, run: check::run },
     Command {
         name: "list",
         help: help::LIST,
-        spec: Spec { flags: &["--json", "--values", "--no-check"], valued: &["--table"], words: &["FILE", "[PREFIX]"] },
+        spec: Spec { flags: &["--json", "--values", "--no-check"], valued: &["--table", "--form"], words: &["FILE", "[PREFIX]"] },
         run: list::run,
     },
-    Command { name: "tree", help: help::TREE, spec: Spec { flags: &["--json"], valued: &[], words: &["FILE"] }, run: tree::run },
-    Command { name: "get", help: help::GET, spec: Spec { flags: &["--hex", "--raw"], valued: &["--table"], words: &["FILE", "KEY"] }, run: list::get },
+    Command { name: "tree", help: help::TREE, spec: Spec { flags: &["--json"], valued: &["--form"], words: &["FILE"] }, run: tree::run },
+    Command {
+        name: "get",
+        help: help::GET,
+        spec: Spec { flags: &["--hex", "--raw"], valued: &["--table", "--form"], words: &["FILE", "KEY"] },
+        run: list::get,
+    },
     Command { name: "diff", help: help::DIFF, spec: Spec { flags: &["--json"], valued: &[], words: &["A", "B"] }, run: diff::run },
     Command { name: "same", help: help::SAME, spec: Spec { flags: &[], valued: &[], words: &["A", "B"] }, run: diff::same },
     Command {
@@ -58,16 +64,16 @@ const COMMANDS: &[Command] = &[
         help: help::MERGE,
         spec: Spec {
             flags: &["--json", "--replace", "--dry-run", "--without-containers"],
-            valued: &["-o", "--keep", "--decide", "--base", "--report", "--separator"],
+            valued: &["-o", "--keep", "--decide", "--base", "--report", "--separator", "--form"],
             words: &["OWN", "OTHER"],
         },
         run: merge::run,
     },
-    Command { name: "dump", help: help::DUMP, spec: Spec { flags: &["--json"], valued: &["--separator"], words: &["FILE"] }, run: lines::dump },
+    Command { name: "dump", help: help::DUMP, spec: Spec { flags: &["--json"], valued: &["--separator", "--form"], words: &["FILE"] }, run: lines::dump },
     Command {
         name: "build",
         help: help::BUILD,
-        spec: Spec { flags: &["--big-endian", "--empty", "--replace", "--without-containers"], valued: &["-o", "--separator"], words: &[] },
+        spec: Spec { flags: &["--big-endian", "--empty", "--replace", "--without-containers"], valued: &["-o", "--separator", "--form"], words: &[] },
         run: lines::build,
     },
 ];

@@ -5,8 +5,9 @@ use crate::both::Side;
 use crate::content::{self, Content, Place};
 use crate::decide::Decisions;
 use crate::failure::{name, Failure};
+use crate::form;
 use crate::input::Input;
-use crate::lay::{lay, Form};
+use crate::lay::{lay, Layout};
 use crate::merging::Merging;
 use crate::order::Order;
 use crate::out::Out;
@@ -15,7 +16,7 @@ use crate::report::{End, Heading, Listener, Report};
 use crate::source::Source;
 use crate::target::{self, Pending, Target};
 use crate::text;
-use gvdb::ByteOrder;
+use gvdb::{ByteOrder, Form};
 use std::collections::BTreeSet;
 use std::ffi::OsStr;
 use std::fs;
@@ -26,14 +27,15 @@ pub fn run(args: &Args, out: &mut Out) -> Result<u8, Failure> {
     let mut input = places.begin(args, &job)?;
     let files = Files::read(args, &mut input)?;
     let order = files.byte_order()?;
+    let form = job.form.unwrap_or(files.own.form);
     let [base, own, other] = files.contents()?;
     let decisions = job.decisions(args, &mut input)?;
     let old = if places.out_is_input(args) { None } else { replace::old(&places.out, job.replace)? };
     let old_content = old.as_ref().map(replace::read).transpose()?.unwrap_or_default();
 
-    let mut report = Report::new(job.heading(args, order));
+    let mut report = Report::new(job.heading(args, order, form));
     let merged = Merging::new(&decisions, job.keep, &mut report).tables(&base, &own, &other);
-    report.notes = decisions.idle().into_iter().chain(places.old_report.clone()).collect();
+    report.notes = decisions.idle().into_iter().chain(places.old_report.clone()).chain(files.turned(form, &places.out)).collect();
     report.values = content::values(&merged).len();
     report.unmade = unmade([&own, &other], &merged, job.separator);
     report.lost = old.as_ref().map_or(Vec::new(), |old| replace::lost(old, &old_content, &merged, order));
@@ -41,8 +43,8 @@ pub fn run(args: &Args, out: &mut Out) -> Result<u8, Failure> {
     let mut error = Out::error();
     let told = if places.out.is_standard() { &mut error } else { out };
     let children = Order::of(&files.own, &own)?.then(Order::of(&files.other, &other)?);
-    let form = Form { separator: job.separator, order, children: &children };
-    carry_out(&job, &places, &report, told, |name| job.lay(name, &report, &merged, form))
+    let layout = Layout { separator: job.separator, order, form, children: &children };
+    carry_out(&job, &places, &report, told, |name| job.lay(name, &report, &merged, layout))
 }
 
 /// The containers that cannot be in OUT. One that the keys below it made in its own file goes with them.
@@ -55,6 +57,8 @@ fn unmade(files: [&Content; 2], merged: &Content, separator: Option<u8>) -> Vec<
 struct Job {
     keep: Option<Side>,
     separator: Option<u8>,
+    /// The form of OUT; none is that of OWN.
+    form: Option<Form>,
     json: bool,
     replace: bool,
     dry_run: bool,
@@ -78,6 +82,7 @@ impl Job {
                 keep => keep.flatten(),
             },
             separator: content::separator(args.value("--separator"))?,
+            form: form::named(args, Some(Form::Plain))?,
             json: args.flag("--json"),
             replace: args.flag("--replace"),
             dry_run: args.flag("--dry-run"),
@@ -93,14 +98,14 @@ impl Job {
         Decisions::parse(name, &lines, self.separator)
     }
 
-    fn heading(&self, args: &Args, order: ByteOrder) -> Heading {
+    fn heading(&self, args: &Args, order: ByteOrder, form: Form) -> Heading {
         let [own, other] = [0, 1].map(|at| name(&args.words()[at]));
         let [base, out] = ["--base", "-o"].map(|option| args.value(option).map(name));
-        Heading { own, other, base, out: out.unwrap_or_default(), keep: self.keep, separator: self.separator, order }
+        Heading { own, other, base, out: out.unwrap_or_default(), keep: self.keep, separator: self.separator, order, form }
     }
 
     /// OUT's bytes, unless the merge is refused.
-    fn lay(&self, name: &str, report: &Report, merged: &Content, form: Form) -> Result<Vec<u8>, Failure> {
+    fn lay(&self, name: &str, report: &Report, merged: &Content, layout: Layout) -> Result<Vec<u8>, Failure> {
         let conflicts = report.open_conflicts();
         if conflicts > 0 {
             let count = text::count(conflicts, "conflict");
@@ -110,7 +115,7 @@ impl Job {
             let count = text::count(report.unmade.len(), "container");
             return Err(Failure::no(format!("{name}: {count} cannot be laid, nothing is written; --without-containers leaves out what the notes name")));
         }
-        lay(name, merged, form, &|path, key| format!("{name}: key {}", text::cut(&text::path(path, key))))
+        lay(name, merged, layout, &|path, key| format!("{name}: key {}", text::cut(&text::path(path, key))))
     }
 
     /// Standard output, or a file.
@@ -237,6 +242,13 @@ impl Files {
     fn contents(&self) -> Result<[Content<'_>; 3], Failure> {
         let base = self.base.as_ref().map(content::read).transpose()?.unwrap_or_default();
         Ok([base, content::read(&self.own)?, content::read(&self.other)?])
+    }
+
+    /// What is said of each file in GLib's form, where OUT is to be in the other.
+    fn turned(&self, form: Form, out: &Target) -> Vec<String> {
+        let turned = [&self.own, &self.other].into_iter().filter(|source| form == Form::Plain && source.form == Form::Signed);
+        let said = |source: &Source| format!("{} is in the signed form (GLib's), {} in the plain one: --form signed keeps it", source.name, out.name);
+        turned.map(said).collect()
     }
 
     /// The byte order of the values, which all files have to share: nobody here knows how to turn a value around.

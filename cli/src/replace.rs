@@ -14,7 +14,7 @@ pub fn old(target: &Target, replace: bool) -> Result<Option<Source>, Failure> {
         None => Ok(None),
         Some(_) if !replace => Err(Failure::no(format!("{}: it is there already; --replace writes over it, and names what is lost", target.name))),
         Some([]) => Ok(None),
-        Some(bytes) => Source::of(&target.name, bytes.to_vec()).map(Some).map_err(unnamed),
+        Some(bytes) => Source::of(&target.name, bytes.to_vec(), None).map(Some).map_err(unnamed),
     }
 }
 

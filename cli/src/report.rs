@@ -6,7 +6,7 @@ use crate::failure::in_words;
 use crate::json::Json;
 use crate::out::{Colour, Out};
 use crate::text;
-use gvdb::ByteOrder;
+use gvdb::{ByteOrder, Form};
 
 /// Values of so many bytes are printed whole where they stand in OUT; the report's file and JSON have every byte.
 const SHORT: usize = 32;
@@ -22,6 +22,7 @@ pub struct Heading {
     pub keep: Option<Side>,
     pub separator: Option<u8>,
     pub order: ByteOrder,
+    pub form: Form,
 }
 
 pub struct Report<'a> {
@@ -175,6 +176,7 @@ impl<'a> Report<'a> {
             ("out", Json::text(&heading.out)),
             ("keep", heading.keep.map_or(Json::Null, |side| Json::text(side.name()))),
             ("byte_order", Json::text(heading.order.name())),
+            ("form", Json::text(heading.form.name())),
             ("separator", heading.separator.map_or(Json::Null, |byte| Json::text(byte as char))),
             ("both", Json::List(self.both.iter().map(Both::json).collect())),
             ("dropped", leaves(Side::BOTH.into_iter().flat_map(|side| self.dropped(side)).collect())),

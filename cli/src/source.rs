@@ -1,9 +1,10 @@
 //! Files that are read, and the walk over their tables.
 
 use crate::failure::{name, Failure, NO, UNREADABLE};
+use crate::form::{self, Found, Sound};
 use crate::json::Json;
 use crate::{advice, input, out, text};
-use gvdb::{Entry, Header, Item, Refusal, Table, MAX_FILE};
+use gvdb::{Entry, Form, Header, Item, Pointer, Refusal, Table, Unsound, MAX_FILE};
 use std::ffi::OsStr;
 use std::path::PathBuf;
 
@@ -21,20 +22,48 @@ pub struct Source {
     pub name: String,
     pub bytes: Vec<u8>,
     pub header: Header,
+    /// The form that its tables are read in.
+    pub form: Form,
+    /// Tables that are known to be sound in that form.
+    pub sound: Sound,
 }
 
 impl Source {
-    /// The file at a path, or standard input for `-`.
-    pub fn read(path: &OsStr) -> Result<Source, Failure> {
+    /// The file at a path, or standard input for `-`, in a form; without one in that which it is found to be in.
+    pub fn read(path: &OsStr, form: Option<Form>) -> Result<Source, Failure> {
         let (name, bytes) = input::read(path, MAX_FILE)?;
         out::progress(bytes.len(), || format!("{name}: {} read", text::count(bytes.len(), "byte")));
-        Ok(Source { path: PathBuf::from(path), ..Source::of(&name, bytes)? })
+        Ok(Source { path: PathBuf::from(path), ..Source::of(&name, bytes, form)? })
     }
 
     /// Bytes that are read as a file of this name.
-    pub fn of(name: &str, bytes: Vec<u8>) -> Result<Source, Failure> {
+    pub fn of(name: &str, bytes: Vec<u8>, form: Option<Form>) -> Result<Source, Failure> {
         let header = Header::read(&bytes).map_err(|refusal| Failure::refused(UNREADABLE, name, refusal))?;
-        Ok(Source { path: PathBuf::new(), name: name.to_string(), bytes, header })
+        let plain = Source { path: PathBuf::new(), name: name.to_string(), bytes, header, form: Form::Plain, sound: Sound::new() };
+        let Found { form, sound } = form.map_or_else(|| form::found(&plain), |form| Found { form, ..Found::default() });
+        Ok(Source { form, sound, ..plain })
+    }
+
+    /// What the check says of a table of this file. One that was checked while the form was found out is not checked again.
+    pub fn check(&self, table: &Table) -> Result<(), Unsound> {
+        if self.sound.contains_key(&table.pointer()) {
+            return Ok(());
+        }
+        table.check()
+    }
+
+    /// The tables that are nested in one of this file, which is sound or not: those that were met while the form was found out, or those that a walk meets.
+    pub fn nested<'a>(&'a self, table: &Table<'a>, sound: bool) -> Box<dyn Iterator<Item = (String, Table<'a>)> + 'a> {
+        match self.sound.get(&table.pointer()) {
+            Some(nested) => Box::new(nested.iter().filter_map(|(key, at)| Some((key.clone(), self.open(*at).ok()?)))),
+            None if sound => Box::new(table.sound_tables()),
+            None => Box::new(table.tables()),
+        }
+    }
+
+    /// The table at a pointer, in the form that the file is read in.
+    fn open(&self, at: Pointer) -> Result<Table<'_>, Refusal> {
+        Ok(Table::open(&self.bytes, at.start, at.end)?.with_form(self.form))
     }
 
     /// The path, for JSON: it can hold no byte that is not UTF-8.
@@ -42,9 +71,13 @@ impl Source {
         Json::text(name(self.path.as_os_str()))
     }
 
+    /// What JSON says of the file before what is in it.
+    pub fn json(&self) -> Vec<(&'static str, Json)> {
+        vec![("file", self.json_name()), ("byte_order", Json::text(self.header.order.name())), ("form", Json::text(self.form.name()))]
+    }
+
     pub fn root(&self) -> Result<Table<'_>, Failure> {
-        let root = self.header.root;
-        Table::open(&self.bytes, root.start, root.end).map_err(|refusal| Failure::refused(UNREADABLE, &format!("{}: root table", self.name), refusal))
+        self.open(self.header.root).map_err(|refusal| Failure::refused(UNREADABLE, &format!("{}: root table", self.name), refusal))
     }
 
     /// The table that is reached from the root by the keys of nested ones, given as `gvdb list` prints them; and those keys.
@@ -118,7 +151,8 @@ impl Walk {
         Ok(entries)
     }
 
-    fn hold(&mut self, bytes: usize) -> Result<(), Failure> {
+    /// Takes the bytes of keys that are held.
+    pub fn hold(&mut self, bytes: usize) -> Result<(), Failure> {
         self.key_bytes = spend(&self.name, "keys", self.key_bytes, bytes, KEY_BYTES)?;
         Ok(())
     }

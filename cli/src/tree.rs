@@ -3,6 +3,7 @@
 use crate::args::Args;
 use crate::check::Broken;
 use crate::failure::Failure;
+use crate::form;
 use crate::json::Json;
 use crate::list::{item_json, unread};
 use crate::out::{Colour, Out};
@@ -15,12 +16,12 @@ use std::collections::BTreeMap;
 const DEEPEST: usize = 64;
 
 pub fn run(args: &Args, out: &mut Out) -> Result<u8, Failure> {
-    let source = Source::read(&args.words()[0])?;
+    let source = Source::read(&args.words()[0], form::named(args, None)?)?;
     let root = source.root()?;
     let mut growing = Growing { source: &source, walk: source.walk(), path: Vec::new(), depth: 0, ended: None, unsound: None };
     let below = growing.table(&root);
     if args.flag("--json") {
-        let mut fields = vec![("file", source.json_name()), ("byte_order", Json::text(source.header.order.name()))];
+        let mut fields = source.json();
         fields.extend([("size", Json::Number(root.len()))].into_iter().chain(below.json()));
         Json::Object(fields).print(out)?;
     } else {
@@ -91,7 +92,7 @@ impl Growing<'_> {
 
     /// What a table breaks, and what it holds.
     fn entries<'a>(&mut self, table: &Table<'a>) -> Result<(Option<Broken>, Vec<Entry<'a>>), Failure> {
-        let broken = Broken::of(table);
+        let broken = Broken::of(self.source, table);
         if let (Some(broken), None) = (&broken, &self.unsound) {
             self.unsound = Some(broken.failure(&self.source.name, &self.path, "it is drawn as far as it reads"));
         }

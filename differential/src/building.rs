@@ -3,11 +3,13 @@
 use crate::dice::Dice;
 use crate::document::build as document;
 use crate::document::build::Held;
+use crate::document::Form;
 use crate::ffi::{memory_words, MAX_FILE, MAX_ITEMS, MAX_NESTING, MAX_TABLES};
 use crate::lent::Memory;
 use crate::make;
 use crate::ours;
 use crate::reading::{hex, Case};
+use crate::signed;
 use crate::tally::{number, Difference, Outcome, Tally, Who};
 use crate::theirs;
 
@@ -20,7 +22,7 @@ pub enum Call {
     Insert(u32, Vec<u8>, Vec<u8>),
     InsertTable(u32, Vec<u8>, u32),
     Count(u32),
-    Write(u32),
+    Write(u32, Form),
 }
 
 impl Call {
@@ -30,7 +32,7 @@ impl Call {
             Call::Insert(table, key, value) => format!("insert into {table}: [{}] = [{}]", hex(key), hex(value)),
             Call::InsertTable(table, key, guest) => format!("insert table into {table}: [{}] = {guest}", hex(key)),
             Call::Count(table) => format!("count {table}"),
-            Call::Write(table) => format!("write {table}"),
+            Call::Write(table, form) => format!("write {table} {form:?}"),
         }
     }
 }
@@ -73,7 +75,7 @@ impl History {
                     Call::NewTable(separator(dice))
                 }
                 2..=4 => Call::InsertTable(table, make::key(dice, Some(b'/'), &keys), dice.below(tables + 1) as u32),
-                5 => Call::Write(table),
+                5 => Call::Write(table, *dice.pick(&Form::BOTH)),
                 6 => Call::Count(table),
                 _ => {
                     let size = *dice.pick(&[0, 0, 1, 2, 3, 7, 8, 9, 40]);
@@ -85,7 +87,7 @@ impl History {
             }
             history.calls.push(call);
         }
-        history.calls.extend((0..tables as u32).map(Call::Write));
+        history.calls.extend((0..tables as u32).flat_map(written));
         history
     }
 
@@ -99,10 +101,10 @@ impl History {
             calls.push(Call::NewTable(separator(dice)));
             calls.push(Call::InsertTable(table, make::key(dice, Some(b'/'), &[]), table - 1));
             if dice.one_in(3) {
-                calls.push(Call::Write(table));
+                calls.push(Call::Write(table, *dice.pick(&Form::BOTH)));
             }
         }
-        calls.extend((0..DEEP).map(Call::Write));
+        calls.extend((0..DEEP).flat_map(written));
         History { room: 1 << 17, calls }
     }
 
@@ -120,6 +122,11 @@ impl History {
     }
 }
 
+/// A table written in both forms.
+fn written(table: u32) -> [Call; 2] {
+    Form::BOTH.map(|form| Call::Write(table, form))
+}
+
 pub fn described(calls: &[Call]) -> String {
     calls.iter().map(Call::describe).collect::<Vec<_>>().join("; ")
 }
@@ -132,11 +139,12 @@ fn fresh_key(dice: &Dice, many: bool, keys: &[Vec<u8>]) -> Vec<u8> {
     make::key(dice, Some(b'/'), keys)
 }
 
-/// The same builder three times.
+/// The same builder three times, of gvdb-rs once for each form.
 pub struct State {
     memory: Memory,
     paper: document::Builder,
     pub rust: theirs::Builder,
+    signed: signed::Builder,
     pub images: Vec<Case>,
 }
 
@@ -144,7 +152,7 @@ impl State {
     pub fn fresh(room: usize) -> State {
         let mut memory = Memory::new(&vec![0x5A5A_5A5A; memory_words() + room % 3], &vec![0xC3; room]);
         assert_eq!(memory.fresh(), 0);
-        State { memory, paper: document::Builder::fresh(room), rust: theirs::Builder::default(), images: Vec::new() }
+        State { memory, paper: document::Builder::fresh(room), rust: theirs::Builder::default(), signed: signed::Builder::default(), images: Vec::new() }
     }
 
     /// One call; a refusal is held to change nothing.
@@ -155,7 +163,7 @@ impl State {
             difference
         })?;
         tally.number(ours.err().unwrap_or(0));
-        let reads = matches!(call, Call::Count(_) | Call::Write(_));
+        let reads = matches!(call, Call::Count(_) | Call::Write(..));
         assert!((ours.is_ok() && !reads) || self.memory == before, "a refusal, a count or a write changed the builder");
         Ok(ours)
     }
@@ -166,7 +174,7 @@ impl State {
             Call::Insert(table, key, value) => self.insert(*table, key, value, tally),
             Call::InsertTable(table, key, guest) => self.insert_table(*table, key, *guest, tally),
             Call::Count(table) => self.count(*table, tally),
-            Call::Write(table) => self.write(*table, tally),
+            Call::Write(table, form) => self.write(*table, *form, tally),
         }
     }
 
@@ -175,6 +183,7 @@ impl State {
         tally.same(Who::Document, "new table", &ours, &paper.map(|table| table as u32), String::new)?;
         if ours.is_ok() {
             self.rust.new_table(separator);
+            self.signed.new_table(separator);
         }
         Ok(ours)
     }
@@ -185,7 +194,7 @@ impl State {
         let ours = ours.map_err(|why| why.number);
         if ours.is_ok() || ours == Err(21) {
             let text = std::str::from_utf8(key).expect("accepted");
-            let rust = self.rust.insert(table as usize, text, value);
+            let rust = [self.rust.insert(table as usize, text, value), self.signed.insert(table as usize, text, value)];
             self.with_rust("insert", table, ours, rust, tally)?;
         }
         Ok(ours)
@@ -197,16 +206,16 @@ impl State {
         let ours = ours.map_err(|why| why.number);
         if ours.is_ok() || ours == Err(21) {
             let text = std::str::from_utf8(key).expect("accepted");
-            let rust = self.rust.insert_table(table as usize, text, guest as usize);
+            let rust = [self.rust.insert_table(table as usize, text, guest as usize), self.signed.insert_table(table as usize, text, guest as usize)];
             self.with_rust("insert table", table, ours, rust, tally)?;
         }
         Ok(ours)
     }
 
     /// gvdb-rs says nothing of what was replaced; its item count is compared, or 21.
-    fn with_rust(&mut self, kind: &'static str, table: u32, ours: Answer, rust: Answer, tally: &mut Tally) -> Outcome {
+    fn with_rust(&mut self, kind: &'static str, table: u32, ours: Answer, rust: [Answer; 2], tally: &mut Tally) -> Outcome {
         let counted = ours.and_then(|_| self.memory.item_count(table));
-        tally.same(Who::Rust, kind, &counted, &rust, || "count or refusal".into())
+        Form::BOTH.into_iter().zip(rust).try_for_each(|(form, rust)| tally.same(Who::rust(form), kind, &counted, &rust, || "count or refusal".into()))
     }
 
     fn count(&mut self, table: u32, tally: &mut Tally) -> Result<Answer, Difference> {
@@ -216,12 +225,16 @@ impl State {
     }
 
     /// A write into a buffer with room to spare, one that just fits and one a byte too short. Of an image over the limit gvdb-rs's is only measured.
-    fn write(&mut self, table: u32, tally: &mut Tally) -> Result<Answer, Difference> {
+    fn write(&mut self, table: u32, form: Form, tally: &mut Tally) -> Result<Answer, Difference> {
         let paper = self.paper.write(table);
-        let rust = if paper == Err(24) { Err(24) } else { self.rust.write(table as usize) };
+        let rust = match (paper, form) {
+            (Err(24), _) => Err(24),
+            (_, Form::Plain) => self.rust.write(table as usize),
+            (_, Form::Signed) => self.signed.write(table as usize),
+        };
         let room = rust.as_ref().map_or(64, Vec::len);
         let expected = paper.and(if room > MAX_FILE { Err(31) } else { Ok(room) });
-        let ours = self.memory.write(table, room + 40);
+        let ours = self.memory.write(table, room + 40, form);
         let length = ours.as_ref().map(|(image, _)| image.len()).map_err(|number| *number);
         tally.same(Who::Document, "write", &length, &expected, String::new)?;
         if expected == Err(24) || expected == Err(31) {
@@ -230,37 +243,41 @@ impl State {
         let (image, end) = match ours {
             Ok(written) => written,
             Err(number) => {
-                tally.same(Who::Rust, "file", &Err(number), &rust, String::new)?;
+                tally.same(Who::rust(form), "file", &Err(number), &rust, String::new)?;
                 return Ok(Err(number));
             }
         };
         assert!(image[..24].iter().all(|byte| *byte == 0), "the header is not zero");
-        self.files(table, &image, end, [rust, self.rust.write_big(table as usize)], tally)?;
-        assert!(self.memory.write(table, room) == Ok((image.clone(), end)), "a second write differs");
+        self.files(table, &image, end, form, rust, tally)?;
+        assert!(self.memory.write(table, room, form) == Ok((image.clone(), end)), "a second write differs");
         tally.number(31);
-        tally.same(Who::Document, "write", &self.memory.write(table, room - 1).map(|_| ()), &Err(31), || "a byte too few".into())?;
-        let keys = self.reads_back(&image, 24, end, table as usize, tally)?;
+        tally.same(Who::Document, "write", &self.memory.write(table, room - 1, form).map(|_| ()), &Err(31), || "a byte too few".into())?;
+        let keys = self.reads_back(&image, 24, end, table as usize, form, tally)?;
         self.images.push(Case { file: image, start: 24, end, keys });
         Ok(Ok(0))
     }
 
     /// The file of an image, little endian and big, beside gvdb-rs's; its header reads back.
-    fn files(&self, table: u32, image: &[u8], end: u32, rust: [Result<Vec<u8>, u32>; 2], tally: &mut Tally) -> Outcome {
-        for (big, theirs) in (0..).zip(rust) {
+    fn files(&self, table: u32, image: &[u8], end: u32, form: Form, rust: Result<Vec<u8>, u32>, tally: &mut Tally) -> Outcome {
+        let big = match form {
+            Form::Plain => self.rust.write_big(table as usize),
+            Form::Signed => self.signed.write_big(table as usize),
+        };
+        for (big, theirs) in (0..).zip([rust, big]) {
             let (number, file) = ours::lay_header(image, big, 24, end);
             tally.same(Who::Document, "lay header", &number, &0, || format!("table {table}, big {big}"))?;
             tally.same(Who::Document, "header", &ours::header(&file), &Ok((big, 24, end)), || format!("table {table}, big {big}"))?;
-            tally.same(Who::Rust, "file", &Ok(file), &theirs, || format!("table {table}, big {big}"))?;
+            tally.same(Who::rust(form), "file", &Ok(file), &theirs, || format!("table {table}, big {big}"))?;
         }
         Ok(())
     }
 
     /// Each item of a table is found in the image as the builder holds it, nested ones too, and the tables pass the check.
-    fn reads_back(&self, image: &[u8], start: u32, end: u32, table: usize, tally: &mut Tally) -> Result<Vec<Vec<u8>>, Difference> {
-        tally.same(Who::Document, "image passes", &ours::check(image, start, end), &Ok(None), String::new)?;
+    fn reads_back(&self, image: &[u8], start: u32, end: u32, table: usize, form: Form, tally: &mut Tally) -> Result<Vec<Vec<u8>>, Difference> {
+        tally.same(Who::Document, "image passes", &ours::check(image, start, end, form), &Ok(None), String::new)?;
         let items = &self.paper.tables[table].items;
         for (key, held) in items {
-            let place = ours::get(image, start, end, key);
+            let place = ours::get(image, start, end, key, form);
             let found = match place {
                 Ok((from, to)) => Ok(Held::Value(image[from as usize..to as usize].to_vec())),
                 Err(_) => Err(number(&place)),
@@ -268,10 +285,10 @@ impl State {
             let expected = if matches!(held, Held::Value(_)) { Ok(held.clone()) } else { Err(13) };
             tally.same(Who::Document, "image reads back", &found, &expected, || hex(key))?;
             if let Held::Table(guest) = held {
-                let nested = ours::get_table(image, start, end, key);
+                let nested = ours::get_table(image, start, end, key, form);
                 tally.same(Who::Document, "image reads back", &nested.is_ok(), &true, || hex(key))?;
                 let (from, to) = nested.expect("compared");
-                self.reads_back(image, from, to, *guest, tally)?;
+                self.reads_back(image, from, to, *guest, form, tally)?;
             }
         }
         Ok(items.keys().take(40).cloned().collect())

@@ -1,7 +1,7 @@
 //! The children of a container: each refusal in its place, on a table made by hand; and of images that were written, the order of arrival.
 
 use crate::dice::Dice;
-use crate::document::hash;
+use crate::document::{hash, Form};
 use crate::ffi::memory_words;
 use crate::lent::Memory;
 use crate::ours;
@@ -24,7 +24,7 @@ const CHILDREN: [u32; 7] = [1, 2, 3, 4, COUNT, 0, 6];
 fn table(list: (u32, u32)) -> Vec<u8> {
     let mut file = vec![0; START as usize];
     let mut put = |words: &[u32]| file.extend(words.iter().flat_map(|word| word.to_le_bytes()));
-    let item = |key: &[u8], parent: u32, fragment: (u32, u32), kind: u8| [hash(key), parent, fragment.0, fragment.1 | u32::from(kind) << 16];
+    let item = |key: &[u8], parent: u32, fragment: (u32, u32), kind: u8| [hash(key, Form::Plain), parent, fragment.0, fragment.1 | u32::from(kind) << 16];
     put(&[0x2800_0000, 1, 0]);
     put(&item(b"c/", ROOT, (END, 2), b'L'));
     put(&[list.0, list.1]);
@@ -73,12 +73,12 @@ pub fn show(tally: &mut Tally) -> Outcome {
     ];
     for (what, list, key, position, said) in questions {
         let file = table(list);
-        tally.same(Who::Document, "children", &ours::child(&file, START, END, key, position), &said, || what.into())?;
+        tally.same(Who::Document, "children", &ours::child(&file, START, END, key, position, Form::Plain), &said, || what.into())?;
         tally.number(number(&said));
         Case { file, start: START, end: END, keys: vec![key.to_vec()] }.compare(tally)?;
     }
     for (start, end, opening) in [(25, 24, 2), (25, END, 3), (24, FILE + 1, 2), (24, 28, 4)] {
-        tally.same(Who::Document, "children", &ours::child(&table(good), start, end, b"\xE9", 0), &no(opening), || "opening before 8".into())?;
+        tally.same(Who::Document, "children", &ours::child(&table(good), start, end, b"\xE9", 0, Form::Plain), &no(opening), || "opening before 8".into())?;
     }
     worked(tally)
 }
@@ -98,9 +98,13 @@ fn worked(tally: &mut Tally) -> Outcome {
 
 /// Each container of an image has these children, in this order, and 15 behind them.
 fn listed(memory: &mut Memory, meant: &BTreeMap<String, Vec<String>>, tally: &mut Tally) -> Outcome {
-    let (image, end) = memory.write(0, 1 << 14).expect("an image");
+    Form::BOTH.into_iter().try_for_each(|form| listed_in(memory, meant, form, tally))
+}
+
+fn listed_in(memory: &mut Memory, meant: &BTreeMap<String, Vec<String>>, form: Form, tally: &mut Tally) -> Outcome {
+    let (image, end) = memory.write(0, 1 << 14, form).expect("an image");
     for (container, fragments) in meant {
-        let ask = |position: usize| ours::child(&image, START, end, container.as_bytes(), position);
+        let ask = |position: usize| ours::child(&image, START, end, container.as_bytes(), position, form);
         for (position, fragment) in fragments.iter().enumerate() {
             let (_, from, to, index) = ask(position).unwrap_or_default();
             let question = || format!("{} at {position}", hex(container.as_bytes()));

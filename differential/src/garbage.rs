@@ -2,6 +2,7 @@
 
 use crate::building::Call;
 use crate::dice::Dice;
+use crate::document::Form;
 use crate::ffi::{memory_words, MAX_ITEMS, MAX_KEY, MAX_NESTING, MAX_TABLES};
 use crate::lent::Memory;
 use crate::make;
@@ -115,7 +116,7 @@ fn any_call(dice: &Dice) -> Call {
         1 | 2 => Call::Insert(table, make::key(dice, Some(b'/'), &[b"p/1/2".to_vec()]), b"value".to_vec()),
         3 => Call::InsertTable(table, make::key(dice, Some(b'/'), &[]), dice.below(4) as u32),
         4 => Call::Count(table),
-        _ => Call::Write(table),
+        _ => Call::Write(table, *dice.pick(&Form::BOTH)),
     }
 }
 
@@ -127,7 +128,7 @@ fn answer(memory: &mut Memory, call: &Call, room: usize) -> (u32, Option<(Vec<u8
         Call::Insert(table, key, value) => told(memory.insert(*table, key, value)),
         Call::InsertTable(table, key, guest) => told(memory.insert_table(*table, key, *guest)),
         Call::Count(table) => told(memory.item_count(*table).map_err(Why::from)),
-        Call::Write(table) => match memory.write(*table, room) {
+        Call::Write(table, form) => match memory.write(*table, room, *form) {
             Ok(written) => (0, Some(written)),
             Err(number) => (number, None),
         },
@@ -160,7 +161,9 @@ fn fresh(dice: &Dice, tally: &mut Tally) -> Outcome {
     if number == 0 {
         tally.same(Who::Document, "fresh", &memory.item_count(0), &Err(24), || "no table".into())?;
         tally.same(Who::Document, "fresh", &memory.new_table(b"/"), &Ok(0), || "the first table".into())?;
-        tally.same(Who::Document, "fresh", &memory.write(0, 32).map(|(image, end)| (image.len(), end)), &Ok((32, 32)), || "an empty image".into())?;
+        tally.same(Who::Document, "fresh", &memory.write(0, 32, *dice.pick(&Form::BOTH)).map(|(image, end)| (image.len(), end)), &Ok((32, 32)), || {
+            "an empty image".into()
+        })?;
     }
     Ok(())
 }
@@ -172,17 +175,17 @@ fn step(memory: &mut Memory, call: &Call, room: usize, tally: &mut Tally) -> Res
     let (number, image) = answer(memory, call, room);
     tally.number(number);
     tally.alone(if number == 29 { "calls on garbage memory, refused with 29" } else { "calls on garbage memory, else" }, 1);
-    let reads = matches!(call, Call::Count(_) | Call::Write(_));
+    let reads = matches!(call, Call::Count(_) | Call::Write(..));
     assert!((number == 0 && !reads) || *memory == before, "a refusal, a count or a write changed garbage memory");
     assert!(answer(&mut twin, call, room) == (number, image.clone()) && twin == *memory, "the same call on the same memory differs");
-    if let Some((image, end)) = image {
-        tally.same(Who::Document, "image passes", &ours::check(&image, 24, end), &Ok(None), || "of garbage memory".into())?;
+    if let (Some((image, end)), Call::Write(_, form)) = (image, call) {
+        tally.same(Who::Document, "image passes", &ours::check(&image, 24, end, *form), &Ok(None), || "of garbage memory".into())?;
     }
     Ok(number)
 }
 
 fn refused(mut memory: Memory, tally: &mut Tally, what: impl FnOnce() -> String) -> Outcome {
-    let number = step(&mut memory, &Call::Write(0), 999, tally)?;
+    let number = step(&mut memory, &Call::Write(0, Form::Plain), 999, tally)?;
     tally.same(Who::Document, "a broken rule", &number, &29, what)
 }
 
@@ -231,7 +234,7 @@ fn one_word(tally: &mut Tally) -> Outcome {
         assert_eq!(honest.insert(table, key, b"value"), Ok(0));
     }
     assert_eq!(honest.insert_table(0, b"t", 1), Ok(0));
-    assert!(honest.clone().write(0, 999).is_ok());
+    assert!(honest.clone().write(0, 999, Form::Plain).is_ok());
     assert_eq!((honest.words().len(), honest.words()[item(HOLDER, 6)]), (WORDS, 72));
     for (at, word) in BROKEN {
         let mut memory = honest.clone();

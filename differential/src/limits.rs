@@ -2,6 +2,7 @@
 //! no such limit it is shown to go on.
 
 use crate::building::{Answer, Call, State};
+use crate::document::Form;
 use crate::ffi::{MAX_FILE, MAX_ITEMS, MAX_KEY, MAX_NESTING, MAX_TABLES};
 use crate::lent::File;
 use crate::tally::{Outcome, Tally, Who};
@@ -36,6 +37,11 @@ impl Limit<'_> {
         self.tally.same(Who::Document, "limits", &ours, &answer, || call.describe())
     }
 
+    /// A write in both forms.
+    fn write(&mut self, table: u32, answer: Answer) -> Outcome {
+        Form::BOTH.into_iter().try_for_each(|form| self.is(Call::Write(table, form), answer))
+    }
+
     /// A call that is refused here, and that gvdb-rs takes.
     fn only_here(&mut self, call: Call, number: u32) -> Outcome {
         self.is(call.clone(), Err(number))?;
@@ -47,7 +53,7 @@ impl Limit<'_> {
             }
             Call::Insert(table, key, value) => rust.insert(table as usize, &text(key), &value),
             Call::InsertTable(table, key, guest) => rust.insert_table(table as usize, &text(key), guest as usize),
-            Call::Count(_) | Call::Write(_) => panic!("no call that changes"),
+            Call::Count(_) | Call::Write(..) => panic!("no call that changes"),
         };
         self.tally.same(Who::Rust, "no limit", &taken.is_ok(), &true, || format!("{taken:?}"))
     }
@@ -70,7 +76,7 @@ fn key_bytes(tally: &mut Tally) -> Outcome {
     limit.is(insert(0, key(MAX_KEY), b"v"), Ok(0))?;
     limit.is(insert(0, b"\xc3", b"v"), Err(8))?;
     limit.is(insert(1, "a", b"v"), Err(24))?;
-    limit.is(Call::Write(0), Ok(0))?;
+    limit.write(0, Ok(0))?;
     for size in [MAX_KEY + 1, 65_535, 65_536, 65_537] {
         limit.only_here(insert(0, key(size), b"v"), 20)?;
     }
@@ -88,7 +94,7 @@ fn items(tally: &mut Tally) -> Outcome {
     }
     limit.is(insert(0, "7", b"w"), Ok(118))?;
     limit.is(Call::Count(0), Ok(MAX_ITEMS as u32))?;
-    limit.is(Call::Write(0), Ok(0))?;
+    limit.write(0, Ok(0))?;
     limit.only_here(insert(0, "one more", b"v"), 22)?;
     limit.read()
 }
@@ -114,7 +120,7 @@ fn arena(tally: &mut Tally) -> Outcome {
     none.is(new_table(b""), Ok(0))?;
     none.is(insert(0, "a", b""), Err(23))?;
     none.is(insert(0, "", b""), Ok(0))?;
-    none.is(Call::Write(0), Err(30))
+    none.write(0, Err(30))
 }
 
 fn tables(tally: &mut Tally) -> Outcome {
@@ -143,13 +149,13 @@ fn nesting(tally: &mut Tally) -> Outcome {
     limit.is(insert(3, "x", b"v"), Err(24))?;
     limit.is(insert_table(NEXT, 3), Err(24))?;
     limit.is(Call::Count(3), Ok(1))?;
-    limit.is(Call::Write(NEXT - 1), Ok(0))?;
+    limit.write(NEXT - 1, Ok(0))?;
     limit.only_here(insert_table(NEXT, NEXT - 1), 26)?;
     assert!(limit.state.rust.write(MAX_NESTING).is_ok());
     limit.is(insert(NEXT - 1, "t", b"v"), Ok(72))?;
     limit.is(insert_table(NEXT, NEXT - 1), Ok(0))?;
-    limit.is(Call::Write(NEXT - 1), Err(24))?;
-    limit.is(Call::Write(NEXT), Ok(0))?;
+    limit.write(NEXT - 1, Err(24))?;
+    limit.write(NEXT, Ok(0))?;
     limit.read()
 }
 
@@ -162,7 +168,7 @@ fn containers(tally: &mut Tally) -> Outcome {
     limit.is(insert(0, "a/", b"now a value"), Ok(76))?;
     limit.is(insert(0, "a/z", b""), Err(21))?;
     limit.is(insert(0, "a/b", b"again"), Err(21))?;
-    limit.is(Call::Write(0), Ok(0))?;
+    limit.write(0, Ok(0))?;
     limit.read()
 }
 
@@ -173,17 +179,17 @@ fn image_bytes(tally: &mut Tally) -> Outcome {
         limit.is(new_table(b""), Ok(table))?;
     }
     limit.is(insert(0, "a", &vec![7; MAX_FILE - 64]), Ok(0))?;
-    limit.is(Call::Write(0), Ok(0))?;
+    limit.write(0, Ok(0))?;
     assert_eq!(limit.state.images[0].file.len(), MAX_FILE);
     limit.is(insert(0, "a", &vec![7; MAX_FILE - 63]), Ok(118))?;
-    limit.is(Call::Write(0), Err(31))?;
+    limit.write(0, Err(31))?;
     assert_eq!(limit.state.rust.write(0).map(|image| image.len()), Ok(MAX_FILE + 1));
     limit.is(insert(2, "", b""), Ok(0))?;
     limit.is(insert_table(1, 2), Ok(0))?;
     limit.is(insert_table(0, 1), Ok(0))?;
-    limit.is(Call::Write(0), Err(30))?;
-    limit.is(Call::Write(1), Err(24))?;
-    limit.is(Call::Write(3), Err(24))?;
+    limit.write(0, Err(30))?;
+    limit.write(1, Err(24))?;
+    limit.write(3, Err(24))?;
     limit.read()
 }
 

@@ -1,4 +1,4 @@
-//! This library, gvdb-rs and a third reading of the documents, asked the same questions in one process.
+//! This library, gvdb-rs and a third reading of the documents, asked the same questions in one process, in both forms of the hash: in the signed one a copy of gvdb-rs answers whose hash has it.
 //! Use: differential [--lists FOLDER] [--seeds A..B] [--minutes N]. The lists are the oracle's stored questions. A seed is a history of builder calls with its images and damaged copies of them, tables made by hand and
 //! at random, a header, texts that may be no UTF-8, keys whose order of arrival is that of the children, and a builder on garbage memory. With --minutes it goes on from the last seed for that long.
 
@@ -9,6 +9,7 @@ mod dice;
 mod document;
 #[path = "../../tests/outside/ffi.rs"]
 mod ffi;
+mod forms;
 mod garbage;
 mod headers;
 mod lent;
@@ -16,6 +17,7 @@ mod limits;
 mod make;
 mod ours;
 mod reading;
+mod signed;
 mod stored;
 mod tally;
 mod texts;
@@ -23,6 +25,7 @@ mod theirs;
 
 use building::History;
 use dice::Dice;
+use gvdb as rust;
 use lent::Memory;
 use reading::Case;
 use std::io::{Seek, Write};
@@ -172,7 +175,7 @@ impl Run {
         let dice = &Dice::new(seed);
         let history = if dice.one_in(15) { History::deep(dice) } else { History::random(dice) };
         let images = self.build(seed, &history);
-        for image in images.iter().rev().take(2) {
+        for image in images.iter().rev().take(3) {
             let mut asked = image.clone();
             asked.keys = image.keys.iter().take(8).map(|key| make::near(dice, b'/', key.clone())).collect();
             self.read(seed, &asked);
@@ -234,6 +237,7 @@ fn all(arguments: Arguments) -> Run {
     run.fixed(garbage::rules, "a write takes memory that breaks a rule");
     run.fixed(children::show, "the children of a container are not as they should be");
     run.fixed(texts::show, "a text is bad elsewhere than is said");
+    run.fixed(forms::show, "a form of the hash is not as it should be");
     for list in arguments.lists.iter().flat_map(|folder| std::fs::read_dir(folder).expect("the lists")) {
         run.stored(&std::fs::read_to_string(list.expect("a list").path()).expect("a list"));
     }

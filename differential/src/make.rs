@@ -1,13 +1,14 @@
 //! Keys and files to ask about: random bytes, tables made by hand, damaged copies of images.
 
 use crate::dice::Dice;
-use crate::document::hash;
 use crate::document::read::{open, word, Table};
+use crate::document::{hash, Form};
 use crate::ffi::MAX_KEY;
 use crate::reading::Case;
 
 /// "ab" and "bA" have one hash, and so have "Ez" and "FY", alone or within a key.
-const SEGMENTS: [&str; 16] = ["a", "b", "ab", "bA", "Ez", "FY", "abab", "bAbA", "abbA", "\u{e9}", "", "x", "aa", "\u{20ac}", "\u{1F333}", "0"];
+const SEGMENTS: [&str; 18] =
+    ["a", "b", "ab", "bA", "Ez", "FY", "abab", "bAbA", "abbA", "\u{e9}", "", "x", "aa", "\u{20ac}", "\u{1F333}", "0", "\u{7f}", "\u{80}"];
 
 const BROKEN: [&[u8]; 8] = [b"\xff", b"\xc3", b"\xe9", b"\xed\xa0\x80", b"\xf4\x90\x80\x80", b"\xc0\x80", b"\xe2\x82", b"\x80"];
 
@@ -110,8 +111,9 @@ fn made_items(dice: &Dice, count: usize) -> Vec<Made> {
         };
         items.push(Made { fragment, parent, kind: *dice.pick(b"vvvvHLLx"), hash: 0 });
     }
+    let form = *dice.pick(&Form::BOTH);
     for index in 0..count {
-        items[index].hash = hash(&joined(&items, index));
+        items[index].hash = hash(&joined(&items, index), form);
     }
     items
 }
@@ -204,7 +206,7 @@ fn lay_items(dice: &Dice, items: &[Made], order: &[usize], end: usize, file: &mu
 /// A changed copy of a file: bytes flipped, cut off, words and pointers shifted, items copied over others.
 pub fn damaged(dice: &Dice, sound: &Case) -> Case {
     let mut case = sound.clone();
-    let Ok(table) = open(&sound.file, sound.start, sound.end) else { return case };
+    let Ok(table) = open(&sound.file, sound.start, sound.end, Form::Plain) else { return case };
     for _ in 0..*dice.pick(&[1, 1, 1, 2, 3]) {
         damage(dice, sound, &table, &mut case);
     }

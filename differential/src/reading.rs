@@ -1,8 +1,9 @@
 //! One table of one file, read by all three.
 
-use crate::document::read as document;
+use crate::document::{read as document, Form};
 use crate::lent::File;
 use crate::ours;
+use crate::signed;
 use crate::tally::{number, Outcome, Tally, Who, Why};
 use crate::theirs;
 use gvdb::read::HashTable;
@@ -31,7 +32,7 @@ impl Case {
 
     /// The tables that items of this one hold, at most two.
     pub fn nested(&self) -> Vec<Case> {
-        let Ok(table) = document::open(&self.file, self.start, self.end) else { return Vec::new() };
+        let Ok(table) = document::open(&self.file, self.start, self.end, Form::Plain) else { return Vec::new() };
         let held = (0..table.count).filter(|index| table.kind(*index) == b'H').take(2).map(|index| table.value(index));
         held.map(|(start, end)| Case { start, end, ..self.clone() }).collect()
     }
@@ -51,12 +52,14 @@ impl Case {
         let file = File::new(&self.with_header());
         let bytes = file.bytes();
         let keys = self.asked(bytes);
-        self.with_document(tally, bytes, &keys)?;
+        self.opened_with_document(tally, bytes)?;
+        Form::BOTH.into_iter().try_for_each(|form| self.with_document(tally, bytes, &keys, form))?;
         if bytes.len() < 24 {
             tally.alone("files too short for a header", 1);
             return Ok(());
         }
         theirs::with_root(bytes, |opened| self.with_rust(tally, bytes, &keys, opened))?;
+        Form::BOTH.into_iter().try_for_each(|form| self.lookups_with_rust(tally, bytes, &keys, form))?;
         self.at_odd_address(tally, bytes, &keys)?;
         assert!(bytes == self.with_header(), "a file that is only read has changed");
         Ok(())
@@ -65,37 +68,21 @@ impl Case {
     /// The keys to ask for: those given, and some that the table lists.
     fn asked(&self, bytes: &[u8]) -> Vec<Vec<u8>> {
         let mut keys = self.keys.clone();
-        if let Ok(table) = document::open(bytes, self.start, self.end) {
+        if let Ok(table) = document::open(bytes, self.start, self.end, Form::Plain) {
             let step = table.count.div_ceil(24).max(1);
             keys.extend((0..table.count).step_by(step).filter_map(|index| table.key(index).ok()).filter(|key| key.len() < 5000));
         }
         keys
     }
 
-    fn with_document(&self, tally: &mut Tally, bytes: &[u8], keys: &[Vec<u8>]) -> Outcome {
+    /// What looks at no hash.
+    fn opened_with_document(&self, tally: &mut Tally, bytes: &[u8]) -> Outcome {
         let (start, end) = (self.start, self.end);
-        let paper = document::open(bytes, start, end);
+        let paper = document::open(bytes, start, end, Form::Plain);
         let parts = paper.as_ref().map(|table| (table.count as u32, table.buckets as u32, table.blooms as u32)).map_err(|number| *number);
         let ours = ours::open(bytes, start, end);
         tally.number(ours.err().unwrap_or(0));
         tally.same(Who::Document, "open", &ours, &parts, String::new)?;
-        let check = ours::check(bytes, start, end);
-        match check {
-            Ok(Some((rule, _, why))) => tally.rule(rule, why),
-            Ok(None) => tally.number(0),
-            Err(number) => tally.number(number),
-        }
-        tally.same(Who::Document, "check", &check, &paper.as_ref().map(|table| table.check()).map_err(|number| *number), String::new)?;
-        for key in keys {
-            let place = ours::get(bytes, start, end, key);
-            tally.number(number(&place));
-            let other = paper.as_ref().map_err(|number| Why::from(*number));
-            tally.same(Who::Document, "get", &place, &other.and_then(|table| table.get(key)), || hex(key))?;
-            let nested = ours::get_table(bytes, start, end, key);
-            tally.number(number(&nested));
-            tally.same(Who::Document, "get table", &nested, &other.and_then(|table| table.get_table(key)), || hex(key))?;
-            self.children_with_document(tally, bytes, &paper, key)?;
-        }
         match paper {
             Ok(table) => self.lists_with_document(tally, bytes, &table),
             Err(number) => {
@@ -105,10 +92,34 @@ impl Case {
         }
     }
 
+    /// The check, both lookups and the children, in a form.
+    fn with_document(&self, tally: &mut Tally, bytes: &[u8], keys: &[Vec<u8>], form: Form) -> Outcome {
+        let (start, end) = (self.start, self.end);
+        let paper = document::open(bytes, start, end, form);
+        let check = ours::check(bytes, start, end, form);
+        match check {
+            Ok(Some((rule, _, why))) => tally.rule(rule, why),
+            Ok(None) => tally.number(0),
+            Err(number) => tally.number(number),
+        }
+        tally.same(Who::Document, "check", &check, &paper.as_ref().map(|table| table.check()).map_err(|number| *number), String::new)?;
+        for key in keys {
+            let place = ours::get(bytes, start, end, key, form);
+            tally.number(number(&place));
+            let other = paper.as_ref().map_err(|number| Why::from(*number));
+            tally.same(Who::Document, "get", &place, &other.and_then(|table| table.get(key)), || hex(key))?;
+            let nested = ours::get_table(bytes, start, end, key, form);
+            tally.number(number(&nested));
+            tally.same(Who::Document, "get table", &nested, &other.and_then(|table| table.get_table(key)), || hex(key))?;
+            self.children_with_document(tally, bytes, &paper, key, form)?;
+        }
+        Ok(())
+    }
+
     /// The child at the greatest position, which says whether the container is good, and then from the first on up to the one past the last.
-    fn children_with_document(&self, tally: &mut Tally, bytes: &[u8], paper: &Result<document::Table, u32>, key: &[u8]) -> Outcome {
+    fn children_with_document(&self, tally: &mut Tally, bytes: &[u8], paper: &Result<document::Table, u32>, key: &[u8], form: Form) -> Outcome {
         let mut ask = |position: usize| {
-            let ours = ours::child(bytes, self.start, self.end, key, position);
+            let ours = ours::child(bytes, self.start, self.end, key, position, form);
             let other = paper.as_ref().map_err(|number| Why::from(*number)).and_then(|table| table.child(key, position));
             tally.number(number(&ours));
             tally.same(Who::Document, "children", &ours, &other, || format!("{} at {position}", hex(key))).map(|()| number(&ours))
@@ -156,32 +167,42 @@ impl Case {
         }
         let values: Vec<_> = ours::values(bytes, self.start, self.end).into_iter().map(|(_, place)| place).collect();
         tally.same(Who::Rust, "values", &values, &theirs::values(bytes, table), String::new)?;
-        let paper = document::open(bytes, self.start, self.end).ok();
-        for key in keys {
-            let Ok(text) = std::str::from_utf8(key) else {
-                tally.alone("lookups of a key that is not UTF-8, which gvdb-rs cannot be given", 1);
-                continue;
-            };
-            if paper.as_ref().is_some_and(|table| table.recurses(key)) {
-                tally.alone("lookups on which gvdb-rs recurses without end", 1);
-                continue;
-            }
-            let place = ours::get(bytes, self.start, self.end, key);
-            tally.same(Who::Rust, "get", &place, &theirs::get(bytes, table, text), || hex(key))?;
-            let nested = theirs::place_as_theirs(ours::get_table(bytes, self.start, self.end, key));
-            tally.same(Who::Rust, "get table", &nested, &theirs::get_table(table, text), || hex(key))?;
-        }
-        match paper {
-            Some(paper) if ours::check(bytes, self.start, self.end) == Ok(None) => self.joined(tally, bytes, keys, table, &paper),
+        match document::open(bytes, self.start, self.end, Form::Plain) {
+            Ok(paper) if ours::check(bytes, self.start, self.end, Form::Plain) == Ok(None) => self.joined(tally, bytes, keys, table, &paper),
             _ => Ok(()),
         }
+    }
+
+    /// Both lookups, as gvdb-rs makes them in the plain form and its copy in the signed one.
+    fn lookups_with_rust(&self, tally: &mut Tally, bytes: &[u8], keys: &[Vec<u8>], form: Form) -> Outcome {
+        let Ok(paper) = document::open(bytes, self.start, self.end, form) else { return Ok(()) };
+        let mut texts = Vec::new();
+        for key in keys {
+            match std::str::from_utf8(key) {
+                Err(_) => tally.alone("lookups of a key that is not UTF-8, which gvdb-rs cannot be given", 1),
+                Ok(_) if paper.recurses(key) => tally.alone("lookups on which gvdb-rs recurses without end", 1),
+                Ok(text) => texts.push(text),
+            }
+        }
+        let answers = match form {
+            Form::Plain => theirs::lookups(bytes, &texts),
+            Form::Signed => signed::lookups(bytes, &texts),
+        };
+        assert_eq!(answers.len(), texts.len(), "a table that opens");
+        for (text, [value, table]) in texts.into_iter().zip(answers) {
+            let place = ours::get(bytes, self.start, self.end, text.as_bytes(), form);
+            tally.same(Who::rust(form), "get", &place, &value, || hex(text.as_bytes()))?;
+            let nested = theirs::place_as_theirs(ours::get_table(bytes, self.start, self.end, text.as_bytes(), form));
+            tally.same(Who::rust(form), "get table", &nested, &table, || hex(text.as_bytes()))?;
+        }
+        Ok(())
     }
 
     /// In a sound table the container's key and a child's fragment, joined, are a key under which gvdb-rs finds that child.
     fn joined(&self, tally: &mut Tally, bytes: &[u8], keys: &[Vec<u8>], table: &HashTable<'_, '_>, paper: &document::Table) -> Outcome {
         for key in keys {
             for position in 0.. {
-                let Ok((_, from, to, index)) = ours::child(bytes, self.start, self.end, key, position) else { break };
+                let Ok((_, from, to, index)) = ours::child(bytes, self.start, self.end, key, position, Form::Plain) else { break };
                 let joined = [key, &bytes[from as usize..to as usize]].concat();
                 let text = std::str::from_utf8(&joined).expect("two texts");
                 let found = theirs::item(table, text);
@@ -195,9 +216,12 @@ impl Case {
     fn at_odd_address(&self, tally: &mut Tally, bytes: &[u8], keys: &[Vec<u8>]) -> Outcome {
         let (start, end) = (self.start, self.end);
         let file = File::shifted(bytes, 1 + self.end as usize % 7);
-        tally.same(Who::Document, "check", &ours::check(file.bytes(), start, end), &ours::check(bytes, start, end), || "odd address".into())?;
+        tally.same(Who::Document, "check", &ours::check(file.bytes(), start, end, Form::Signed), &ours::check(bytes, start, end, Form::Signed), || {
+            "odd address".into()
+        })?;
         if let Some(key) = keys.last() {
-            tally.same(Who::Document, "get", &ours::get(file.bytes(), start, end, key), &ours::get(bytes, start, end, key), || "odd address".into())?;
+            let [odd, even] = [file.bytes(), bytes].map(|bytes| ours::get(bytes, start, end, key, Form::Plain));
+            tally.same(Who::Document, "get", &odd, &even, || "odd address".into())?;
         }
         Ok(())
     }

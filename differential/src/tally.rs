@@ -1,5 +1,6 @@
 //! What was compared, and what differs.
 
+use crate::document::Form;
 use std::collections::BTreeMap;
 use std::fmt::Debug;
 
@@ -7,15 +8,26 @@ use std::fmt::Debug;
 #[derive(Clone, Copy, PartialEq, Eq, PartialOrd, Ord)]
 pub enum Who {
     Rust,
+    /// gvdb-rs with a hash of signed bytes.
+    SignedRust,
     Document,
     /// `Utf8Error::valid_up_to` of Rust's own library.
     Std,
 }
 
 impl Who {
+    /// gvdb-rs, or its copy with the signed form.
+    pub fn rust(form: Form) -> Who {
+        match form {
+            Form::Plain => Who::Rust,
+            Form::Signed => Who::SignedRust,
+        }
+    }
+
     pub fn name(self) -> &'static str {
         match self {
             Who::Rust => "gvdb-rs",
+            Who::SignedRust => "gvdb-rs with a hash of signed bytes",
             Who::Document => "the documents",
             Who::Std => "Rust's from_utf8",
         }
@@ -70,7 +82,7 @@ pub struct Tally {
 
 impl Tally {
     /// Compares two answers and counts them.
-    pub fn same<T: PartialEq + Debug>(&mut self, who: Who, kind: &'static str, ours: &T, theirs: &T, question: impl FnOnce() -> String) -> Outcome {
+    pub fn same<T: PartialEq + Debug + ?Sized>(&mut self, who: Who, kind: &'static str, ours: &T, theirs: &T, question: impl FnOnce() -> String) -> Outcome {
         *self.counts.entry((who, kind)).or_default() += 1;
         if ours == theirs {
             return Ok(());
@@ -102,7 +114,7 @@ impl Tally {
     }
 
     pub fn print(&self) {
-        for who in [Who::Rust, Who::Document, Who::Std] {
+        for who in [Who::Rust, Who::SignedRust, Who::Document, Who::Std] {
             let list: Vec<String> = self.counts.iter().filter(|((w, _), _)| *w == who).map(|((_, kind), count)| format!("{kind} {count}")).collect();
             println!("compared with {}: {}", who.name(), list.join(", "));
         }

@@ -2,7 +2,7 @@
 //! by chance. The offset is that of Rust's `Utf8Error::valid_up_to`.
 
 use crate::dice::Dice;
-use crate::document::hash;
+use crate::document::{hash, Form};
 use crate::ffi::{memory_words, MAX_KEY};
 use crate::lent::Memory;
 use crate::ours;
@@ -45,7 +45,7 @@ fn chain(fragments: [&[u8]; 3]) -> Vec<u8> {
     let mut from = TABLE.1;
     for (fragment, (parent, kind)) in fragments.iter().zip([(1, b'v'), (2, b'L'), (u32::MAX, b'L')]) {
         let size = fragment.len() as u32;
-        put(&[hash(b"a"), parent, from, size | u32::from(kind) << 16, 0, 0]);
+        put(&[hash(b"a", Form::Plain), parent, from, size | u32::from(kind) << 16, 0, 0]);
         from += size;
     }
     file.extend(fragments.concat());
@@ -59,8 +59,8 @@ fn given(text: &[u8], memory: &mut Memory, tally: &mut Tally) -> Outcome {
     tally.same(Who::Std, "first bad", &ours::first_bad(text), &bad(text).unwrap_or(text.len()), question)?;
     let file = chain([b"", b"b", b"\xFF"]);
     let (start, end) = TABLE;
-    tally.same(Who::Std, "get", &ours::get(&file, start, end, text), &Err(said(12)), question)?;
-    tally.same(Who::Std, "get table", &ours::get_table(&file, start, end, text), &Err(said(12)), question)?;
+    tally.same(Who::Std, "get", &ours::get(&file, start, end, text, Form::Plain), &Err(said(12)), question)?;
+    tally.same(Who::Std, "get table", &ours::get_table(&file, start, end, text, Form::Plain), &Err(said(12)), question)?;
     let room = if text.len() > MAX_KEY { 20 } else { 23 };
     tally.same(Who::Std, "insert", &memory.insert(0, text, b""), &Err(said(room)), question)?;
     tally.same(Who::Std, "insert table", &memory.insert_table(0, text, 1), &Err(said(room)), question)?;
@@ -80,10 +80,10 @@ fn stored(fragments: [&[u8]; 3], tally: &mut Tally) -> Outcome {
         tally.same(Who::Std, "keys", &ours::key(&file, start, end, item, room), &first(item).map_or(Ok(joined), Err), question)?;
     }
     if let Some(why) = first(0) {
-        tally.same(Who::Std, "check", &ours::check(&file, start, end), &Ok(Some((1, 0, Some(why)))), question)?;
+        tally.same(Who::Std, "check", &ours::check(&file, start, end, Form::Plain), &Ok(Some((1, 0, Some(why)))), question)?;
     }
     if first(2).is_some() {
-        tally.same(Who::Std, "get", &ours::get(&file, start, end, b"a"), &Err(Why::from(12)), question)?;
+        tally.same(Who::Std, "get", &ours::get(&file, start, end, b"a", Form::Plain), &Err(Why::from(12)), question)?;
     }
     Case { file, start, end, keys: vec![b"a".to_vec(), fragments[0].to_vec()] }.compare(tally)
 }

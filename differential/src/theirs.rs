@@ -1,9 +1,9 @@
-//! gvdb-rs's answers, with the documents' numbers for its errors.
+//! gvdb-rs's answers, with the documents' numbers for its errors. This is read twice: over gvdb-rs, and over its signed copy.
 
+use super::rust::read::{oracle as raw, Error, File, HashTable};
+use super::rust::write::{Error as WriteError, FileWriter, HashTableBuilder};
 use crate::document::header::Headed;
 use crate::tally::{Place, Why};
-use gvdb::read::{oracle as raw, Error, File, HashTable};
-use gvdb::write::{FileWriter, HashTableBuilder};
 use std::borrow::Cow;
 
 /// gvdb-rs has one error for bloom words (5) and for buckets (6) that do not fit.
@@ -91,6 +91,12 @@ pub fn get_table(table: &HashTable, key: &str) -> Place {
     Ok((word(16), word(20)))
 }
 
+/// Both lookups of each key in the root table, if that opens.
+pub fn lookups(bytes: &[u8], keys: &[&str]) -> Vec<[Place; 2]> {
+    let answers = |table: &HashTable| keys.iter().map(|key| [get(bytes, table, key), get_table(table, key)]).collect();
+    with_root(bytes, |opened| opened.map(answers).unwrap_or_default())
+}
+
 /// The bytes of the item that a lookup finds, of any kind.
 pub fn item(table: &HashTable, key: &str) -> Option<[u8; 24]> {
     raw::item(table, key)
@@ -110,10 +116,10 @@ enum Insert {
     Table(String, usize),
 }
 
-fn consistency(error: gvdb::write::Error) -> u32 {
+fn consistency(error: WriteError) -> u32 {
     match error {
-        gvdb::write::Error::Consistency(text) if text.contains("is not of type container") => 21,
-        gvdb::write::Error::Consistency(text) if text.contains("key is empty") => 30,
+        WriteError::Consistency(text) if text.contains("is not of type container") => 21,
+        WriteError::Consistency(text) if text.contains("key is empty") => 30,
         other => panic!("an error of gvdb-rs without a number: {other}"),
     }
 }

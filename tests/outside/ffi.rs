@@ -47,7 +47,7 @@ impl Builder {
         item_count(&self.words, &self.arena, table)
     }
 
-    pub fn write(&mut self, table: u32, image: &mut [u8]) -> Written {
-        write(&mut self.words, &self.arena, table, image)
+    pub fn write(&mut self, table: u32, image: &mut [u8], manner: u32) -> Written {
+        write(&mut self.words, &self.arena, table, image, manner)
     }
 }

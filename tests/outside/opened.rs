@@ -18,7 +18,7 @@ fn main() {
         let list = std::fs::read_to_string(&path).unwrap_or_else(|error| panic!("{path}: {error}"));
         stored::walk(&list, |words, file| {
             if let ["open", start, end] = words {
-                let said = check(file, start.parse().expect("a start"), end.parse().expect("an end"));
+                let said = check(file, start.parse().expect("a start"), end.parse().expect("an end"), 0);
                 println!("{} {start} {end} {} {} {}", hex(file), said.number, said.rule, said.item);
             }
         });

@@ -1,10 +1,10 @@
-//! Walks GVDB files that GLib, dconf and gvdb-rs made, nested tables too, and writes one line for each: what its header says, what opens, lists and is looked
-//! up, and what the check says.
+//! Walks GVDB files that GLib, dconf and gvdb-rs made, nested tables too, and writes one line for each: what its header says, what opens and lists; then for both forms
+//! of the hash what is found and what the check says.
 //! Use: real FOLDER
 
 mod ffi;
 
-use ffi::{check, get, get_table, next_child, next_key, next_value, open, read_header, Opened};
+use ffi::{check, get, get_table, next_child, next_key, next_value, open, read_header, Opened, SIGNED};
 
 #[derive(Default)]
 struct Sum {
@@ -19,11 +19,11 @@ struct Sum {
 }
 
 /// The indices of the children of a container. In a table whose keys list, the key and each fragment are the child's key.
-fn children(file: &[u8], start: u32, end: u32, key: &[u8]) -> Vec<usize> {
+fn children(file: &[u8], start: u32, end: u32, key: &[u8], manner: u32) -> Vec<usize> {
     let mut found = Vec::new();
-    assert_eq!(next_child(file, start, end, key, usize::MAX).number, 15);
+    assert_eq!(next_child(file, start, end, key, usize::MAX, manner).number, 15);
     loop {
-        let child = next_child(file, start, end, key, found.len());
+        let child = next_child(file, start, end, key, found.len(), manner);
         if child.number == 15 {
             return found;
         }
@@ -43,7 +43,7 @@ fn with_parent(file: &[u8], start: u32, opened: &Opened) -> Vec<usize> {
 
 /// A table and those nested in it. Every key that lists is looked up; one that is found as a value lies where value listing has it. Of a sound table, the
 /// children of all containers are all items with a parent, each once.
-fn walk(file: &[u8], start: u32, end: u32, sum: &mut Sum) {
+fn walk(file: &[u8], start: u32, end: u32, manner: u32, sum: &mut Sum) {
     let opened = open(file, start, end);
     if opened.number != 0 {
         sum.refused += 1;
@@ -51,7 +51,7 @@ fn walk(file: &[u8], start: u32, end: u32, sum: &mut Sum) {
     }
     sum.tables += 1;
     sum.items += opened.items;
-    let checked = check(file, start, end);
+    let checked = check(file, start, end, manner);
     if checked.number != 0 {
         sum.broken.push((checked.rule, checked.item));
     }
@@ -75,8 +75,8 @@ fn walk(file: &[u8], start: u32, end: u32, sum: &mut Sum) {
             sum.refused += 1;
             continue;
         }
-        let place = get(file, start, end, &out[..key.length]);
-        let nested = get_table(file, start, end, &out[..key.length]);
+        let place = get(file, start, end, &out[..key.length], manner);
+        let nested = get_table(file, start, end, &out[..key.length], manner);
         match (place.number, nested.number) {
             (0, _) => {
                 assert!(places.contains(&(place.start, place.end)));
@@ -84,11 +84,11 @@ fn walk(file: &[u8], start: u32, end: u32, sum: &mut Sum) {
             }
             (_, 0) => {
                 sum.found += 1;
-                walk(file, nested.start, nested.end, sum);
+                walk(file, nested.start, nested.end, manner, sum);
             }
-            (13, 13) if next_child(file, start, end, &out[..key.length], usize::MAX).number == 15 => {
+            (13, 13) if next_child(file, start, end, &out[..key.length], usize::MAX, manner).number == 15 => {
                 sum.found += 1;
-                below.extend(children(file, start, end, &out[..key.length]));
+                below.extend(children(file, start, end, &out[..key.length], manner));
             }
             (13, 13) => sum.found += 1,
             (12, 12) => sum.missed += 1,
@@ -98,6 +98,15 @@ fn walk(file: &[u8], start: u32, end: u32, sum: &mut Sum) {
     sum.children += below.len();
     below.sort();
     assert!(checked.number != 0 || below == with_parent(file, start, &opened));
+}
+
+/// What a walk in one form found.
+fn said(sum: &Sum) -> String {
+    let sound = match sum.broken.first() {
+        None => "sound".to_string(),
+        Some((rule, item)) => format!("rule {rule} broken by item {item}"),
+    };
+    format!("found {}, not found {}, children {}, refused {}, {sound}", sum.found, sum.missed, sum.children, sum.refused)
 }
 
 fn main() {
@@ -113,15 +122,12 @@ fn main() {
             continue;
         }
         let order = if header.big == 0 { "little" } else { "big" };
-        let mut sum = Sum::default();
-        walk(&file, header.start, header.end, &mut sum);
-        let sound = match sum.broken.first() {
-            None => "sound".to_string(),
-            Some((rule, item)) => format!("rule {rule} broken by item {item}"),
-        };
-        println!(
-            "{name}: {order}, tables {}, items {}, values {}, found {}, not found {}, children {}, refused {}; {sound}",
-            sum.tables, sum.items, sum.values, sum.found, sum.missed, sum.children, sum.refused
-        );
+        let [plain, signed] = [0, SIGNED].map(|manner| {
+            let mut sum = Sum::default();
+            walk(&file, header.start, header.end, manner, &mut sum);
+            sum
+        });
+        let [tables, items, values] = [signed.tables, signed.items, signed.values];
+        println!("{name}: {order}, tables {tables}, items {items}, values {values}; plain: {}; signed: {}", said(&plain), said(&signed));
     }
 }

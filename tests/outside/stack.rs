@@ -3,7 +3,7 @@
 
 mod ffi;
 
-use ffi::{abi, check, first_bad, get, get_table, lay_header, memory_words, next_child, next_key, next_value, open, read_header, Builder, ABI};
+use ffi::{abi, check, first_bad, get, get_table, lay_header, memory_words, next_child, next_key, next_value, open, read_header, Builder, ABI, SIGNED};
 use std::process::{Command, Stdio};
 
 const HEADER: &str = include_str!("../../bindings/c/gvdb.h");
@@ -41,7 +41,7 @@ fn full() -> Builder {
 fn make(call: &str, kib: usize) {
     let mut builder = full();
     let mut image = vec![0; 4 << 20];
-    let written = builder.write(7, &mut image);
+    let written = builder.write(7, &mut image, SIGNED);
     assert_eq!(written.number, 0);
     let (start, end) = (written.start, written.end);
     let mut out = vec![0; 2048];
@@ -58,19 +58,19 @@ fn make(call: &str, kib: usize) {
         "gvdb_lay_header" => lay_header(&mut image, 1, start, end),
         "gvdb_first_bad" => u32::from(first_bad(&key) != key.len()),
         "gvdb_open" => open(&image, start, end).number,
-        "gvdb_get" => get(&image, start, end, &key).number,
-        "gvdb_get_table" => get_table(&image, start, end, b"t").number,
+        "gvdb_get" => get(&image, start, end, &key, SIGNED).number,
+        "gvdb_get_table" => get_table(&image, start, end, b"t", SIGNED).number,
         "gvdb_next_key" => next_key(&image, start, end, 9, &mut out).number,
         "gvdb_next_value" => next_value(&image, start, end, 9).number,
-        "gvdb_next_child" => next_child(&image, start, end, &key[..key.len() - 1], 9).number,
-        "gvdb_check" => check(&image, start, end).number,
+        "gvdb_next_child" => next_child(&image, start, end, &key[..key.len() - 1], 9, SIGNED).number,
+        "gvdb_check" => check(&image, start, end, SIGNED).number,
         "gvdb_memory_words" => u32::from(memory_words() == 0),
         "gvdb_fresh" => empty.again(),
         "gvdb_new_table" => empty.new_table(b"/").number,
         "gvdb_insert" => two.insert(0, b"a/b/c/d", b"value").number,
         "gvdb_insert_table" => two.insert_table(0, b"a/b/c/d", 1).number,
         "gvdb_item_count" => builder.item_count(7).number,
-        "gvdb_write" => builder.write(7, &mut image).number,
+        "gvdb_write" => builder.write(7, &mut image, SIGNED).number,
         _ => panic!("{call} is not made here"),
     };
     let thread = std::thread::Builder::new().stack_size(kib << 10).spawn(made).expect("a thread");

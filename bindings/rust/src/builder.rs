@@ -1,6 +1,7 @@
 //! Building and writing: tables in memory of their own, laid as an image.
 
 use crate::ffi;
+use crate::form::Form;
 use crate::header::{ByteOrder, Header};
 use crate::limits::{MAX_FILE, MAX_ITEMS, MAX_TABLES};
 use crate::refusal::{accepted, accepted_at, Refusal};
@@ -61,6 +62,24 @@ pub struct Image {
     pub bytes: Vec<u8>,
     /// Where the written table lies in it.
     pub root: Pointer,
+}
+
+impl Image {
+    /// A whole file: over the image the header with its root pointer and the byte order of the values, which are laid as they were inserted.
+    ///
+    /// ```
+    /// # use gvdb::{Builder, ByteOrder, Form, Header};
+    /// let mut builder = Builder::new(16);
+    /// let root = builder.new_table(None).unwrap();
+    /// builder.insert(root, "a", [1, 2]).unwrap();
+    /// let file = builder.write_as(root, Form::Signed).unwrap().into_file(ByteOrder::Big).unwrap();
+    /// assert_eq!(Header::read(&file).map(|header| header.order), Ok(ByteOrder::Big));
+    /// ```
+    pub fn into_file(self, order: ByteOrder) -> Result<Vec<u8>, Refusal> {
+        let Image { mut bytes, root } = self;
+        Header { order, root }.lay(&mut bytes)?;
+        Ok(bytes)
+    }
 }
 
 /// Tables in the making. A builder holds at most [`MAX_ITEMS`] items and [`MAX_TABLES`] tables, nested at most [`MAX_NESTING`](crate::MAX_NESTING) deep, with keys
@@ -132,7 +151,7 @@ impl Builder {
         Ok(counted.count as usize)
     }
 
-    /// Lays a table and those nested in it as an image. The builder stays as it was and usable. Refusals: 24, 30, 31 (over [`MAX_FILE`] bytes).
+    /// Lays a table and those nested in it as an image, in the plain form. The builder stays as it was and usable. Refusals: 24, 30, 31 (over [`MAX_FILE`] bytes).
     ///
     /// ```
     /// # use gvdb::{Builder, Refusal};
@@ -145,18 +164,32 @@ impl Builder {
     /// assert_eq!(builder.write(root), Err(Refusal::EmptyKey));
     /// ```
     pub fn write(&mut self, table: TableNumber) -> Result<Image, Refusal> {
+        self.write_as(table, Form::Plain)
+    }
+
+    /// [`write`](Builder::write) in a form of the hash. A builder has none itself: the same tables may be laid in both.
+    ///
+    /// ```
+    /// # use gvdb::{Builder, Form};
+    /// let mut builder = Builder::new(64);
+    /// let root = builder.new_table(None).unwrap();
+    /// builder.insert(root, "\u{E9}", [1, 2]).unwrap();
+    /// let [plain, signed] = Form::BOTH.map(|form| builder.write_as(root, form).unwrap());
+    /// assert_eq!((&plain.bytes[36..40], &signed.bytes[36..40]), (&[0x11, 0x84, 0x59, 0x00][..], &[0x11, 0x62, 0x59, 0x00][..]));
+    /// assert_eq!((&plain.bytes[..36], &plain.bytes[40..]), (&signed.bytes[..36], &signed.bytes[40..]));
+    /// ```
+    pub fn write_as(&mut self, table: TableNumber, form: Form) -> Result<Image, Refusal> {
         // Keys and values of an image are in the arena, so this is room enough; a longer image is over the limit.
         let room = self.arena.len().saturating_add(IMAGE_FRAME).min(MAX_FILE);
         let mut bytes = vec![0; room];
-        let written = ffi::write(&mut self.words, &self.arena, table.0, &mut bytes);
+        let written = ffi::write(&mut self.words, &self.arena, table.0, &mut bytes, form.manner());
         accepted(written.number)?;
         bytes.truncate(written.length as usize);
         bytes.shrink_to_fit();
         Ok(Image { bytes, root: Pointer { start: written.start, end: written.end } })
     }
 
-    /// A whole file: [`write`](Builder::write), and over the image the header with its root pointer and the byte order of the values, which are laid as they were
-    /// inserted. Refusals: those of a write.
+    /// A whole file: [`write`](Builder::write) and [`into_file`](Image::into_file). Refusals: those of a write.
     ///
     /// ```
     /// # use gvdb::{Builder, ByteOrder, Header, Refusal};
@@ -169,9 +202,7 @@ impl Builder {
     /// assert_eq!(Header::read(&file).map(|header| header.order), Ok(ByteOrder::Big));
     /// ```
     pub fn write_file(&mut self, table: TableNumber, order: ByteOrder) -> Result<Vec<u8>, Refusal> {
-        let Image { mut bytes, root } = self.write(table)?;
-        Header { order, root }.lay(&mut bytes)?;
-        Ok(bytes)
+        self.write(table)?.into_file(order)
     }
 }
 

@@ -3,7 +3,10 @@
 #![allow(unsafe_code)]
 
 /// The number of the interface that this crate is written for, `GVDB_ABI` of gvdb.h. The build holds it to that and to the library's.
-pub const ABI: u32 = 4;
+pub const ABI: u32 = 5;
+
+/// The bit of a manner for the signed form, `GVDB_SIGNED` of gvdb.h.
+pub const SIGNED: u32 = 1;
 
 #[repr(C)]
 pub struct Headed {
@@ -99,12 +102,12 @@ extern "C" {
     fn gvdb_lay_header(target: *mut u8, size: usize, big: u32, start: u32, end: u32) -> u32;
     fn gvdb_first_bad(text: *const u8, length: usize) -> usize;
     fn gvdb_open(file: *const u8, size: usize, start: u32, end: u32) -> Opened;
-    fn gvdb_get(file: *const u8, size: usize, start: u32, end: u32, key: *const u8, length: usize) -> Place;
-    fn gvdb_get_table(file: *const u8, size: usize, start: u32, end: u32, key: *const u8, length: usize) -> Place;
+    fn gvdb_get(file: *const u8, size: usize, start: u32, end: u32, key: *const u8, length: usize, manner: u32) -> Place;
+    fn gvdb_get_table(file: *const u8, size: usize, start: u32, end: u32, key: *const u8, length: usize, manner: u32) -> Place;
     fn gvdb_next_key(file: *const u8, size: usize, start: u32, end: u32, position: usize, out: *mut u8, room: usize) -> Key;
     fn gvdb_next_value(file: *const u8, size: usize, start: u32, end: u32, position: usize) -> Value;
-    fn gvdb_next_child(file: *const u8, size: usize, start: u32, end: u32, key: *const u8, length: usize, position: usize) -> Child;
-    fn gvdb_check(file: *const u8, size: usize, start: u32, end: u32) -> Checked;
+    fn gvdb_next_child(file: *const u8, size: usize, start: u32, end: u32, key: *const u8, length: usize, position: usize, manner: u32) -> Child;
+    fn gvdb_check(file: *const u8, size: usize, start: u32, end: u32, manner: u32) -> Checked;
     fn gvdb_memory_words() -> usize;
     fn gvdb_fresh(words: *mut usize, count: usize, arena: *mut u8, room: usize) -> u32;
     fn gvdb_new_table(words: *mut usize, count: usize, arena: *mut u8, room: usize, separator: *const u8, length: usize) -> Numbered;
@@ -122,7 +125,7 @@ extern "C" {
     ) -> Inserted;
     fn gvdb_insert_table(words: *mut usize, count: usize, arena: *mut u8, room: usize, table: u32, key: *const u8, length: usize, guest: u32) -> Inserted;
     fn gvdb_item_count(words: *const usize, count: usize, arena: *const u8, room: usize, table: u32) -> Counted;
-    fn gvdb_write(words: *mut usize, count: usize, arena: *const u8, room: usize, table: u32, image: *mut u8, size: usize) -> Written;
+    fn gvdb_write(words: *mut usize, count: usize, arena: *const u8, room: usize, table: u32, image: *mut u8, size: usize, manner: u32) -> Written;
 }
 
 /// The number of the interface of the library that is linked.
@@ -146,12 +149,12 @@ pub fn open(file: &[u8], start: u32, end: u32) -> Opened {
     unsafe { gvdb_open(file.as_ptr(), file.len(), start, end) }
 }
 
-pub fn get(file: &[u8], start: u32, end: u32, key: &[u8]) -> Place {
-    unsafe { gvdb_get(file.as_ptr(), file.len(), start, end, key.as_ptr(), key.len()) }
+pub fn get(file: &[u8], start: u32, end: u32, key: &[u8], manner: u32) -> Place {
+    unsafe { gvdb_get(file.as_ptr(), file.len(), start, end, key.as_ptr(), key.len(), manner) }
 }
 
-pub fn get_table(file: &[u8], start: u32, end: u32, key: &[u8]) -> Place {
-    unsafe { gvdb_get_table(file.as_ptr(), file.len(), start, end, key.as_ptr(), key.len()) }
+pub fn get_table(file: &[u8], start: u32, end: u32, key: &[u8], manner: u32) -> Place {
+    unsafe { gvdb_get_table(file.as_ptr(), file.len(), start, end, key.as_ptr(), key.len(), manner) }
 }
 
 pub fn next_key(file: &[u8], start: u32, end: u32, position: usize, out: &mut [u8]) -> Key {
@@ -162,12 +165,12 @@ pub fn next_value(file: &[u8], start: u32, end: u32, position: usize) -> Value {
     unsafe { gvdb_next_value(file.as_ptr(), file.len(), start, end, position) }
 }
 
-pub fn next_child(file: &[u8], start: u32, end: u32, key: &[u8], position: usize) -> Child {
-    unsafe { gvdb_next_child(file.as_ptr(), file.len(), start, end, key.as_ptr(), key.len(), position) }
+pub fn next_child(file: &[u8], start: u32, end: u32, key: &[u8], position: usize, manner: u32) -> Child {
+    unsafe { gvdb_next_child(file.as_ptr(), file.len(), start, end, key.as_ptr(), key.len(), position, manner) }
 }
 
-pub fn check(file: &[u8], start: u32, end: u32) -> Checked {
-    unsafe { gvdb_check(file.as_ptr(), file.len(), start, end) }
+pub fn check(file: &[u8], start: u32, end: u32, manner: u32) -> Checked {
+    unsafe { gvdb_check(file.as_ptr(), file.len(), start, end, manner) }
 }
 
 pub fn memory_words() -> usize {
@@ -195,6 +198,6 @@ pub fn item_count(words: &[usize], arena: &[u8], table: u32) -> Counted {
     unsafe { gvdb_item_count(words.as_ptr(), words.len(), arena.as_ptr(), arena.len(), table) }
 }
 
-pub fn write(words: &mut [usize], arena: &[u8], table: u32, image: &mut [u8]) -> Written {
-    unsafe { gvdb_write(words.as_mut_ptr(), words.len(), arena.as_ptr(), arena.len(), table, image.as_mut_ptr(), image.len()) }
+pub fn write(words: &mut [usize], arena: &[u8], table: u32, image: &mut [u8], manner: u32) -> Written {
+    unsafe { gvdb_write(words.as_mut_ptr(), words.len(), arena.as_ptr(), arena.len(), table, image.as_mut_ptr(), image.len(), manner) }
 }

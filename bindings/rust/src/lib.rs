@@ -5,6 +5,7 @@
 //!   [`values`](Table::values), [`entries`](Table::entries), [`children`](Table::children) of one container, and the [`check`](Table::check).
 //! - [`Builder`] builds and lays: [`insert`](Builder::insert), [`insert_table`](Builder::insert_table),
 //!   [`write`](Builder::write), and a whole file by [`write_file`](Builder::write_file).
+//! - [`Form`] is how the bytes of a key count in the hash: as in gvdb-rs, unless [`with_form`](Table::with_form) and [`write_as`](Builder::write_as) say as in GLib.
 //! - [`Refusal`] says why a call was refused, by the number of documents 01 and 02, and where a text is not UTF-8, as [`first_bad`] does. No bytes, pointer, key or order of calls can make a call fail otherwise.
 //!
 //! ```
@@ -52,6 +53,7 @@ compile_error!("libgvdb.a is made for Linux on x86-64 or Arm");
 mod builder;
 mod children;
 mod ffi;
+mod form;
 mod header;
 mod levels;
 mod limits;
@@ -62,6 +64,7 @@ mod text;
 pub use builder::{Builder, Image, Inserted, Kind, TableNumber};
 pub use children::{Child, Children};
 pub use ffi::{abi, ABI};
+pub use form::Form;
 pub use header::{ByteOrder, Header};
 pub use limits::{MAX_FILE, MAX_ITEMS, MAX_KEY, MAX_NESTING, MAX_TABLES};
 pub use refusal::{Refusal, Unsound};

@@ -1,6 +1,7 @@
 //! Reading: a table of a file, its items, and the check.
 
 use crate::ffi;
+use crate::form::Form;
 use crate::refusal::{accepted, accepted_at, Refusal, Unsound};
 use std::fmt;
 
@@ -48,14 +49,25 @@ pub struct Table<'a> {
     items: u32,
     buckets: u32,
     blooms: u32,
+    form: Form,
 }
 
 impl<'a> Table<'a> {
-    /// Opens the table at a pointer of the file. Refusals: 1 to 7.
+    /// Opens the table at a pointer of the file, in the plain form: [`with_form`](Table::with_form) takes another. Refusals: 1 to 7.
     pub fn open(file: &'a [u8], start: u32, end: u32) -> Result<Table<'a>, Refusal> {
         let opened = ffi::open(file, start, end);
         accepted(opened.number)?;
-        Ok(Table { file, pointer: Pointer { start, end }, items: opened.items, buckets: opened.buckets, blooms: opened.blooms })
+        Ok(Table { file, pointer: Pointer { start, end }, items: opened.items, buckets: opened.buckets, blooms: opened.blooms, form: Form::Plain })
+    }
+
+    /// The same table in a form of the hash, in which lookups and the check are made, and those of the tables nested in it. Listings ask for no hash.
+    pub fn with_form(self, form: Form) -> Table<'a> {
+        Table { form, ..self }
+    }
+
+    /// The form that lookups and the check are made in.
+    pub fn form(&self) -> Form {
+        self.form
     }
 
     /// Where the table lies in its file.
@@ -85,16 +97,16 @@ impl<'a> Table<'a> {
 
     /// The value at a key: a part of the file. Refusals: 8, 12, 13, then 2 or 3 of the value's pointer.
     pub fn get(&self, key: impl AsRef<[u8]>) -> Result<&'a [u8], Refusal> {
-        let place = ffi::get(self.file, self.pointer.start, self.pointer.end, key.as_ref());
+        let place = ffi::get(self.file, self.pointer.start, self.pointer.end, key.as_ref(), self.form.manner());
         accepted_at(place.number, place.at)?;
         self.part(place.start, place.end)
     }
 
-    /// The nested table at a key. Refusals: 8, 12, 13, then 2 to 7 of the nested table.
+    /// The nested table at a key, in the form of this one. Refusals: 8, 12, 13, then 2 to 7 of the nested table.
     pub fn get_table(&self, key: impl AsRef<[u8]>) -> Result<Table<'a>, Refusal> {
-        let place = ffi::get_table(self.file, self.pointer.start, self.pointer.end, key.as_ref());
+        let place = ffi::get_table(self.file, self.pointer.start, self.pointer.end, key.as_ref(), self.form.manner());
         accepted_at(place.number, place.at)?;
-        Table::open(self.file, place.start, place.end)
+        Ok(Table::open(self.file, place.start, place.end)?.with_form(self.form))
     }
 
     /// [`get_table`](Table::get_table) under the name that gvdb-rs gives it.
@@ -248,7 +260,7 @@ impl<'a> Table<'a> {
     /// # }
     /// ```
     pub fn check(&self) -> Result<(), Unsound> {
-        let checked = ffi::check(self.file, self.pointer.start, self.pointer.end);
+        let checked = ffi::check(self.file, self.pointer.start, self.pointer.end, self.form.manner());
         match checked.number {
             0 => Ok(()),
             _ => Err(Unsound::of(&checked)),

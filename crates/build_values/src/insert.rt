@@ -24,6 +24,7 @@ use model::Inserted;
 use text::prefix::next_end;
 use text::utf8::first_bad;
 use text::utf8::is_utf8;
+use words::hash::Form;
 use words::hash::hash_on;
 use words::wide::word_size;
 ghost use mathlib.Core.Path.{_≡_};
@@ -77,7 +78,7 @@ fn make_containers(
             kind: CONTAINER_KIND,
             guest: 0,
         };
-        let further = hash_on(hash, &key[at..e]);
+        let further = hash_on(hash, &key[at..e], Form::Plain);
         let word = word_size(further);
         make_item(words, arena, new, &key[..e], word, &key[..0]);
         at = e;
@@ -187,7 +188,7 @@ fn insert_or_replace(
     let table = job.table;
     let way = walked.way;
     let from = way.from;
-    let hash = word_size(hash_on(walked.hash, &key[from..]));
+    let hash = word_size(hash_on(walked.hash, &key[from..], Form::Plain));
     let i = find_hashed(words, arena, table, key, hash);
     if i < words[ITEMS] {
         return overwrite_item(words, arena, i, job, value);

@@ -5,6 +5,7 @@ use build_memory::fields::item_word;
 use build_memory::find::find_hashed;
 use layout::kind::CONTAINER_KIND;
 use text::prefix::next_end;
+use words::hash::Form;
 use words::hash::HASH_START;
 use words::hash::hash_on;
 use words::wide::word_size;
@@ -67,7 +68,7 @@ pub fn descend_to(words: &[usize], arena: &[u8], table: usize, key: &[u8], sep: 
         if key.len() <= e {
             return ended(true, from, parent, hash);
         }
-        let further = hash_on(hash, &key[from..e]);
+        let further = hash_on(hash, &key[from..e], Form::Plain);
         let i = find_hashed(words, arena, table, &key[..e], word_size(further));
         if n <= i {
             return ended(true, from, parent, hash);

@@ -11,14 +11,15 @@ use read::lookup::Found;
 use read::lookup::Run;
 use read::lookup::bloom_passes;
 use read::lookup::run_of;
+use read::manner::Manner;
 use words::wide::half_size;
 use words::wide::word_size;
 ghost use mathlib.Core.Path.{_≡_};
 ghost use Prim.Native.Nat.{_<_};
-ghost use Rattle.words.specs.Hash.{plain, hashOf};
+ghost use Rattle.words.specs.Hash.{hashBy, ruleOf};
 ghost use Rattle.layout.specs.Table.{InFile};
 ghost use Rattle.read.specs.Chain.{keyOf, names};
-ghost use Rattle.read.specs.Find.{itemMatches, firstOf, findItem};
+ghost use Rattle.read.specs.Find.{mannerOf, itemMatches, firstOf, findItem};
 ghost use Rattle.check_keys.specs.Key.{bytesOf, Keyed};
 ghost use Rattle.check_keys.specs.Front.{FrontFits, ItemCompared};
 
@@ -84,9 +85,10 @@ fn joined_matches(
     size: usize,
     hash: u32,
     at: usize,
+    manner: Manner,
 ) -> bool
-    requires { ⌜ Keyed (now file) table index size × (at < table .count) × (hash ≡ hashOf (bytesOf (keyOf (now file) table (table .count) index))) ⌝ }
-    ensures { λ r. ⌜ r ≡ itemMatches plain (now (file .entry)) table (bytesOf (keyOf (now (file .entry)) table (table .count) index)) at ⌝ }
+    requires { ⌜ Keyed (now file) table index size × (at < table .count) × (hash ≡ hashBy (ruleOf (manner .form)) (bytesOf (keyOf (now file) table (table .count) index))) ⌝ }
+    ensures { λ r. ⌜ r ≡ itemMatches (mannerOf manner) (now (file .entry)) table (bytesOf (keyOf (now (file .entry)) table (table .count) index)) at ⌝ }
 {
     let item = item_at(file, table, at);
     if item.hash != hash {
@@ -99,9 +101,17 @@ fn joined_matches(
 }
 
 // The first item of a run that matches.
-fn first_same(file: &[u8], table: Table, index: usize, size: usize, hash: u32, run: Run) -> Found
-    requires { ⌜ Keyed (now file) table index size × (hash ≡ hashOf (bytesOf (keyOf (now file) table (table .count) index))) ⌝ }
-    ensures { λ r. ⌜ r ≡ firstOf plain (now (file .entry)) table (bytesOf (keyOf (now (file .entry)) table (table .count) index)) run ⌝ }
+fn first_same(
+    file: &[u8],
+    table: Table,
+    index: usize,
+    size: usize,
+    hash: u32,
+    run: Run,
+    manner: Manner,
+) -> Found
+    requires { ⌜ Keyed (now file) table index size × (hash ≡ hashBy (ruleOf (manner .form)) (bytesOf (keyOf (now file) table (table .count) index))) ⌝ }
+    ensures { λ r. ⌜ r ≡ firstOf (mannerOf manner) (now (file .entry)) table (bytesOf (keyOf (now (file .entry)) table (table .count) index)) run ⌝ }
 {
     let last = run.last;
     let count = table.count;
@@ -110,7 +120,7 @@ fn first_same(file: &[u8], table: Table, index: usize, size: usize, hash: u32, r
         if count <= at {
             return Found::Nothing;
         }
-        if joined_matches(file, table, index, size, hash, at) {
+        if joined_matches(file, table, index, size, hash, at, manner) {
             return Found::At(at);
         }
         at += 1;
@@ -119,9 +129,16 @@ fn first_same(file: &[u8], table: Table, index: usize, size: usize, hash: u32, r
 }
 
 // The item that the joined key of item `index` names; the key's length and hash are known.
-pub fn find_joined(file: &[u8], table: Table, index: usize, size: usize, hash: u32) -> Found
-    requires { ⌜ Keyed (now file) table index size × (hash ≡ hashOf (bytesOf (keyOf (now file) table (table .count) index))) ⌝ }
-    ensures { λ r. ⌜ r ≡ findItem plain (now (file .entry)) table (bytesOf (keyOf (now (file .entry)) table (table .count) index)) ⌝ }
+pub fn find_joined(
+    file: &[u8],
+    table: Table,
+    index: usize,
+    size: usize,
+    hash: u32,
+    manner: Manner,
+) -> Found
+    requires { ⌜ Keyed (now file) table index size × (hash ≡ hashBy (ruleOf (manner .form)) (bytesOf (keyOf (now file) table (table .count) index))) ⌝ }
+    ensures { λ r. ⌜ r ≡ findItem (mannerOf manner) (now (file .entry)) table (bytesOf (keyOf (now (file .entry)) table (table .count) index)) ⌝ }
 {
     let buckets = table.buckets;
     if buckets == 0 {
@@ -129,7 +146,7 @@ pub fn find_joined(file: &[u8], table: Table, index: usize, size: usize, hash: u
     }
     if bloom_passes(file, table, hash) {
         let run = run_of(file, table, word_size(hash) % buckets);
-        first_same(file, table, index, size, hash, run)
+        first_same(file, table, index, size, hash, run, manner)
     } else {
         Found::Nothing
     }

@@ -3,13 +3,14 @@ use layout::item::item_at;
 use layout::table::Table;
 use read::chain::Step;
 use read::chain::climb;
+use words::hash::Form;
+use words::hash::byte_counts;
 use words::hash::wrapping_mul;
-use words::wide::byte_word;
 use words::wide::half_size;
 use words::wide::word_size;
 ghost use mathlib.Core.Path.{_≡_};
 ghost use Prim.Native.Nat.{_<_};
-ghost use Rattle.words.specs.Hash.{plain};
+ghost use Rattle.words.specs.Hash.{ruleOf};
 ghost use Rattle.layout.specs.Table.{InFile};
 ghost use Rattle.read.specs.Chain.{keyOf};
 ghost use Rattle.check_keys.specs.Tally.{before, prepend, finish};
@@ -28,11 +29,11 @@ pub enum JoinedKey {
 }
 
 // The tally with one byte more in front.
-fn prepend_byte(byte: u8, tally: Tally) -> Tally
-    ensures { λ r. ⌜ r ≡ before plain byte tally ⌝ }
+fn prepend_byte(byte: u8, tally: Tally, form: Form) -> Tally
+    ensures { λ r. ⌜ r ≡ before (ruleOf form) byte tally ⌝ }
 {
     let weight = tally.weight;
-    let counted = wrapping_mul(byte_word(byte), weight);
+    let counted = wrapping_mul(byte_counts(byte, form), weight);
     Tally {
         weight: wrapping_mul(33, weight),
         sum: std::num::wrapping_add_u32(counted, tally.sum),
@@ -40,14 +41,14 @@ fn prepend_byte(byte: u8, tally: Tally) -> Tally
 }
 
 // The tally with all of a slice in front.
-fn prepend_all(bytes: &[u8], tally: Tally) -> Tally
-    ensures { λ r. ⌜ r ≡ prepend plain (now (bytes .entry)) tally ⌝ }
+fn prepend_all(bytes: &[u8], tally: Tally, form: Form) -> Tally
+    ensures { λ r. ⌜ r ≡ prepend (ruleOf form) (now (bytes .entry)) tally ⌝ }
 {
     let mut state = tally;
     let mut i = bytes.len();
     while 0 < i {
         i -= 1;
-        state = prepend_byte(bytes[i], state);
+        state = prepend_byte(bytes[i], state, form);
     }
     state
 }
@@ -61,9 +62,9 @@ fn finished(tally: Tally) -> u32
 }
 
 // The hash and the length of the joined key of the item at an index.
-pub fn joined_key(file: &[u8], table: Table, index: usize) -> JoinedKey
+pub fn joined_key(file: &[u8], table: Table, index: usize, form: Form) -> JoinedKey
     requires { ⌜ InFile (now file) table × (index < table .count) ⌝ }
-    ensures { λ r. ⌜ r ≡ joinedKey plain (keyOf (now (file .entry)) table (table .count) index) ⌝ }
+    ensures { λ r. ⌜ r ≡ joinedKey (ruleOf form) (keyOf (now (file .entry)) table (table .count) index) ⌝ }
 {
     let count = table.count;
     let mut at = index;
@@ -82,12 +83,12 @@ pub fn joined_key(file: &[u8], table: Table, index: usize) -> JoinedKey
             }
             Step::Root => {
                 return JoinedKey::Key {
-                    hash: finished(prepend_all(&file[start..stop], tally)),
+                    hash: finished(prepend_all(&file[start..stop], tally, form)),
                     size: total,
                 };
             }
             Step::Up(parent) => {
-                tally = prepend_all(&file[start..stop], tally);
+                tally = prepend_all(&file[start..stop], tally, form);
                 at = parent;
             }
         }

@@ -15,35 +15,36 @@ use Rattle.check_table.specs.Sound.{SoundTable}
 use Rattle.check_table.specs.Broken.{BrokenAt}
 use Rattle.check_table.proofs.ExplainLaws.{explained-same}
 use Rattle.check_table.proofs.SoundLaws.{passes-exactly-the-sound}
+use Rattle.read.specs.Find.{Manner}
 use Rattle.check_table.proofs.BrokenLaws.{at-broken, names-the-first, refused-as-opening}
 
-module _ (rule : ℕ → ℕ) (file : List ℕ) (start end : ℕ) where
-  pub check-0 : SoundTable rule file start end → checkedNumber (checkTable rule file start end) ≡ 0
+module _ (manner : Manner) (file : List ℕ) (start end : ℕ) where
+  pub check-0 : SoundTable manner file start end → checkedNumber (checkTable manner file start end) ≡ 0
   unfolding checkedNumber
-  check-0 sound = ap checkedNumber (passes-exactly-the-sound rule file start end .1 sound)
+  check-0 sound = ap checkedNumber (passes-exactly-the-sound manner file start end .1 sound)
 
-  pub check-40 : {broken item : ℕ} → BrokenAt rule file start end broken item
-      → (checkedNumber (checkTable rule file start end) ≡ 40) × (checkedRule (checkTable rule file start end) ≡ broken) × (checkedItem (checkTable rule file start end) ≡ item)
+  pub check-40 : {broken item : ℕ} → BrokenAt manner file start end broken item
+      → (checkedNumber (checkTable manner file start end) ≡ 40) × (checkedRule (checkTable manner file start end) ≡ broken) × (checkedItem (checkTable manner file start end) ≡ item)
   check-40 {broken} {item} b =
-      let e = at-broken rule file start end b in
+      let e = at-broken manner file start end b in
       let same = explained-same file (b .table) broken item in
       (ap checkedNumber e ∙ same .number, ap checkedRule e ∙ same .rule, ap checkedItem e ∙ same .item)
 
   -- with rule 1 the number and the offset of what listing the item refuses with, and with no other
-  pub check-why : {item : ℕ} {why : Refusal} → BrokenAt rule file start end 1 item → keyAt file start end item ≡ Joined.broken why
-      → (checkedWhy (checkTable rule file start end) ≡ number why) × (checkedAt (checkTable rule file start end) ≡ badAt why)
+  pub check-why : {item : ℕ} {why : Refusal} → BrokenAt manner file start end 1 item → keyAt file start end item ≡ Joined.broken why
+      → (checkedWhy (checkTable manner file start end) ≡ number why) × (checkedAt (checkTable manner file start end) ≡ badAt why)
   unfolding checkedWhy checkedAt
   check-why {item} {why} b key =
-      let e = names-the-first rule file start end item .1 why .1 (b, key) in
+      let e = names-the-first manner file start end item .1 why .1 (b, key) in
       (ap checkedWhy e, ap checkedAt e)
 
-  pub check-no-why : {broken item : ℕ} → BrokenAt rule file start end broken item → (broken ≡ 1 → ⊥)
-      → (checkedWhy (checkTable rule file start end) ≡ 0) × (checkedAt (checkTable rule file start end) ≡ 0)
+  pub check-no-why : {broken item : ℕ} → BrokenAt manner file start end broken item → (broken ≡ 1 → ⊥)
+      → (checkedWhy (checkTable manner file start end) ≡ 0) × (checkedAt (checkTable manner file start end) ≡ 0)
   unfolding checkedWhy checkedAt
   check-no-why {broken} {item} b other =
-      let e = names-the-first rule file start end item .0 broken .1 (b, other) in
+      let e = names-the-first manner file start end item .0 broken .1 (b, other) in
       (ap checkedWhy e, ap checkedAt e)
 
-  pub check-opening : {why : Refusal} → openTable file start end ≡ Opened.Refused why → checkedNumber (checkTable rule file start end) ≡ number why
+  pub check-opening : {why : Refusal} → openTable file start end ≡ Opened.Refused why → checkedNumber (checkTable manner file start end) ≡ number why
   unfolding checkedNumber
-  check-opening {why} e = ap checkedNumber (refused-as-opening rule file start end why .1 e)
+  check-opening {why} e = ap checkedNumber (refused-as-opening manner file start end why .1 e)

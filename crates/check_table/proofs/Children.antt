@@ -13,6 +13,7 @@ use Rattle.read.specs.Chain.{fragmentOf, parentOf, climbFrom, Joined, append, j
 use Rattle.read.proofs.ChainLaws.{key-turn, climb-or}
 use Rattle.check_table.specs.Rules.{indexOf}
 use Rattle.check_table.specs.Sound.{SoundIn}
+use Rattle.read.specs.Find.{Manner}
 use Rattle.check_table.proofs.RuleWords.{parent-up, few-items}
 
 joined-same : {a b : List ℕ} → Joined.joined a ≡ Joined.joined b → a ≡ b
@@ -70,7 +71,7 @@ module _ (file : List ℕ) (t : Table) (inside : InFile file t) (i j : ℕ) (hi 
       whole ∙ ap (λ (z : List ℕ). z ++ f) same
 
   -- looking up the container's key and the child's fragment, joined, answers the child
-  pub child-found : (rule : ℕ → ℕ) → SoundIn rule file t → (ki : List ℕ) → keyOf file t (t .count) i ≡ Joined.joined ki → indexOf rule file t (ki ++ fragmentOf file (itemAt file t j)) ≡ Found.At j
-  child-found rule s ki ei =
+  pub child-found : (manner : Manner) → SoundIn manner file t → (ki : List ℕ) → keyOf file t (t .count) i ≡ Joined.joined ki → indexOf manner file t (ki ++ fragmentOf file (itemAt file t j)) ≡ Found.At j
+  child-found manner s ki ei =
       let (kj, ej, found) = s .keys j hj in
-      ap (indexOf rule file t) (sym (child-key ei ej)) ∙ found
+      ap (indexOf manner file t) (sym (child-key ei ej)) ∙ found

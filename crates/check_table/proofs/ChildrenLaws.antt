@@ -27,7 +27,7 @@ use Rattle.read.specs.declared.lookup.Found.{Found}
 use Rattle.read.specs.declared.lookup.Sought.{Sought}
 use Rattle.read_listing.specs.declared.children.Childed.{Childed}
 use Rattle.read.specs.Chain.{fragmentOf, climbFrom, Joined, keyOf}
-use Rattle.read.specs.Find.{findItem}
+use Rattle.read.specs.Find.{Manner, findItem}
 use Rattle.read.specs.Lookup.{atFound, lookupIn}
 use Rattle.read_listing.specs.Children.{childAt, childCount, wholeWords, openList, childFrom, childOfSought, childInOpened, nextChild}
 use Rattle.read.proofs.ChainLaws.{key-turn, climb-or, Climbs}
@@ -48,10 +48,10 @@ key-climbs : (file : List ℕ) (t : Table) (j : ℕ) {k : List ℕ} → j < t .c
 key-climbs file t j below e = climb-or file (t .count) (itemAt file t j) (not-refused _ _ _ (sym (key-turn file t (t .count) j (itemAt file t j) _ (omega arith) refl refl) ∙ e))
 
 -- what a key looks up, it is UTF-8 and finds
-index-finds : (rule : ℕ → ℕ) (file : List ℕ) (t : Table) (key : List ℕ) {i : ℕ} → indexOf rule file t key ≡ Found.At i → (isUtf8 key ≡ true) × (findItem rule file t key ≡ Found.At i)
+index-finds : (manner : Manner) (file : List ℕ) (t : Table) (key : List ℕ) {i : ℕ} → indexOf manner file t key ≡ Found.At i → (isUtf8 key ≡ true) × (findItem manner file t key ≡ Found.At i)
 unfolding indexOf
-index-finds rule file t key {i} =
-    let P : Found → Type 0 = λ f. f ≡ Found.At i → (isUtf8 key ≡ true) × (findItem rule file t key ≡ Found.At i) in
+index-finds manner file t key {i} =
+    let P : Found → Type 0 = λ f. f ≡ Found.At i → (isUtf8 key ≡ true) × (findItem manner file t key ≡ Found.At i) in
     pick-with P _ _ _ (λ text e. (text, e)) (λ _ e. let z : _≡_ {A = ℕ} 0 1 = cc in absurd (omega arith))
 
 -- the value pointer of a container that is good
@@ -63,32 +63,32 @@ list-good file item is (ValueGood.list kind inside whole) = (inside, whole)
 index-of-child : {i j kind kindly start begin end last : ℕ} {next after : _} → Childed.Child i kind start end next ≡ Childed.Child j kindly begin last after → i ≡ j
 index-of-child e = cc
 
-module _ (rule : ℕ → ℕ) (file : List ℕ) (start end : ℕ) (key : List ℕ) (t : Table) (i : ℕ) (c : Container rule file start end key t i) where
-  finds : (isUtf8 key ≡ true) × (findItem rule file t key ≡ Found.At i)
-  finds = index-finds rule file t key (c .finds)
+module _ (manner : Manner) (file : List ℕ) (start end : ℕ) (key : List ℕ) (t : Table) (i : ℕ) (c : Container manner file start end key t i) where
+  finds : (isUtf8 key ≡ true) × (findItem manner file t key ≡ Found.At i)
+  finds = index-finds manner file t key (c .finds)
 
   named : (i < t .count) × (keyOf file t (t .count) i ≡ Joined.joined key)
-  named = let says = found-names rule file t key i (finds .1) in (says .0, says .2)
+  named = let says = found-names manner file t key i (finds .1) in (says .0, says .2)
 
   list : (openPointer (length file) (itemAt file t i .from) (itemAt file t i .to) 4 ≡ Pointed.Inside) × ((itemAt file t i .to - itemAt file t i .from) % 4 ≡ 0)
   list = list-good file (itemAt file t i) (c .holds) (c .sound .values i (named .0))
 
-  past : (k : ℕ) → childCount (itemAt file t i) ≤ k → nextChild rule file start end key k ≡ Childed.Refused PastTheLast
-  past k = children-past rule file start end key k (c .opens) (finds .0) (finds .1) (c .holds) (list .0) (list .1)
+  past : (k : ℕ) → childCount (itemAt file t i) ≤ k → nextChild manner file start end key k ≡ Childed.Refused PastTheLast
+  past k = children-past manner file start end key k (c .opens) (finds .0) (finds .1) (c .holds) (list .0) (list .1)
 
   child : (k : ℕ) → k < childCount (itemAt file t i) → (childAt file (itemAt file t i .from) k < t .count) × (itemAt file t (childAt file (itemAt file t i .from) k) .parent ≡ i)
   child k listed = c .sound .lists i _ (named .0) (c .holds) .0 (k, listed, refl)
 
-  listed-answers : (k : ℕ) → k < childCount (itemAt file t i) → Answers rule file start end key t k (childAt file (itemAt file t i .from) k)
+  listed-answers : (k : ℕ) → k < childCount (itemAt file t i) → Answers manner file start end key t k (childAt file (itemAt file t i .from) k)
   listed-answers k listed =
       let j = childAt file (itemAt file t i .from) k in
       let below = child k listed .0 in
       let climbs = key-climbs file t j below (c .sound .keys j below .1) in
-      children-0 rule file start end key k (c .opens) (finds .0) (finds .1) (c .holds) (list .0) (list .1) listed j refl below
+      children-0 manner file start end key k (c .opens) (finds .0) (finds .1) (c .holds) (list .0) (list .1) listed j refl below
       (good-kind file (itemAt file t j) (c .sound .values j below)) (climbs .inside) (climbs .text)
 
   -- what a position answers stands there in the list
-  answered : (k j : ℕ) → Answers rule file start end key t k j → (k < childCount (itemAt file t i)) × (childAt file (itemAt file t i .from) k ≡ j)
+  answered : (k j : ℕ) → Answers manner file start end key t k j → (k < childCount (itemAt file t i)) × (childAt file (itemAt file t i .from) k ≡ j)
   answered k j says = by-case (ltb k (childCount (itemAt file t i))) refl
     where
       by-case : (b : Bool) → ltb k (childCount (itemAt file t i)) ≡ b → (k < childCount (itemAt file t i)) × (childAt file (itemAt file t i .from) k ≡ j)
@@ -96,22 +96,22 @@ module _ (rule : ℕ → ℕ) (file : List ℕ) (start end : ℕ) (key : List �
       by-case false e = let none = sym (past k (ltb-false _ _ e)) ∙ says in let z : _≡_ {A = ℕ} 0 1 = cc in absurd (omega arith)
 
 pub children-answer : ChildrenAnswer
-children-answer rule file start end key t i c k = (listed-answers rule file start end key t i c k, past rule file start end key t i c k)
+children-answer manner file start end key t i c k = (listed-answers manner file start end key t i c k, past manner file start end key t i c k)
 
 pub children-found : ChildrenFound
 unfolding fragmentOf
-children-found rule file start end key t i c k j says =
-    let (listed, is) = answered rule file start end key t i c k j says in
-    let child = c .sound .lists i j (named rule file start end key t i c .0) (c .holds) .0 (k, listed, is) in
-    child-found file t (opened-in-file file start end (c .opens)) i j (named rule file start end key t i c .0) (child .0) (child .1) rule (c .sound) key (named rule file start end key t i c .1)
+children-found manner file start end key t i c k j says =
+    let (listed, is) = answered manner file start end key t i c k j says in
+    let child = c .sound .lists i j (named manner file start end key t i c .0) (c .holds) .0 (k, listed, is) in
+    child-found file t (opened-in-file file start end (c .opens)) i j (named manner file start end key t i c .0) (child .0) (child .1) manner (c .sound) key (named manner file start end key t i c .1)
 
 pub children-all : ChildrenAll
-children-all rule file start end key t i c j below names =
-    let here = named rule file start end key t i c .0 in
+children-all manner file start end key t i c j below names =
+    let here = named manner file start end key t i c .0 in
     let (k, listed, is) = c .sound .lists i j here (c .holds) .1 (below, names) in (
       k,
-      subst (Answers rule file start end key t k) is (listed-answers rule file start end key t i c k listed),
-      λ l says. let (low, same) = answered rule file start end key t i c l j says in c .sound .once i l k here (c .holds) low listed (same ∙ sym is),
+      subst (Answers manner file start end key t k) is (listed-answers manner file start end key t i c k listed),
+      λ l says. let (low, same) = answered manner file start end key t i c l j says in c .sound .once i l k here (c .holds) low listed (same ∙ sym is),
     )
 
 -- ---- any table: at the greatest position, 15 comes of a container that is good, and of nothing else
@@ -137,35 +137,35 @@ unfoldable SoughtLow : Sought → Type 0
 SoughtLow (Sought.Item item) = Unit
 SoughtLow (Sought.Refused why) = number why < 15
 
-lookup-low : (rule : ℕ → ℕ) (file key : List ℕ) (t : Table) → SoughtLow (lookupIn rule file key t)
+lookup-low : (manner : Manner) (file key : List ℕ) (t : Table) → SoughtLow (lookupIn manner file key t)
 unfolding lookupIn atFound SoughtLow
-lookup-low rule file key t = pick-with SoughtLow _ _ _ (λ _. by-found (findItem rule file t key)) (λ _. omega arith)
+lookup-low manner file key t = pick-with SoughtLow _ _ _ (λ _. by-found (findItem manner file t key)) (λ _. omega arith)
   where
     by-found : (f : Found) → SoughtLow (atFound file t f)
     by-found (Found.At i) = tt
     by-found Found.Nothing = omega arith
 
-module _ (rule : ℕ → ℕ) (file : List ℕ) (start end : ℕ) (key : List ℕ) (at : ℕ) where
+module _ (manner : Manner) (file : List ℕ) (start end : ℕ) (key : List ℕ) (at : ℕ) where
   abbrev Good : Type 0
-  Good = (t : Table) × (item : Item) × (openTable file start end ≡ Opened.Table t) × (lookupIn rule file key t ≡ Sought.Item item) × (openList file item ≡ Pointed.Inside)
+  Good = (t : Table) × (item : Item) × (openTable file start end ≡ Opened.Table t) × (lookupIn manner file key t ≡ Sought.Item item) × (openList file item ≡ Pointed.Inside)
 
-  by-list : (t : Table) (item : Item) → openTable file start end ≡ Opened.Table t → lookupIn rule file key t ≡ Sought.Item item
+  by-list : (t : Table) (item : Item) → openTable file start end ≡ Opened.Table t → lookupIn manner file key t ≡ Sought.Item item
       → (p : Pointed) → openList file item ≡ p → childFrom p file t item at ≡ Childed.Refused PastTheLast → Good
   unfolding childFrom pointedNumber
   by-list t item opens looked Pointed.Inside is e = (t, item, opens, looked, is)
   by-list t item opens looked (Pointed.Refused why) is e = not-15 (subst (λ (p : Pointed). pointedNumber p < 15) is (list-low file item)) (refused-same e)
 
-  by-item : (t : Table) → openTable file start end ≡ Opened.Table t → (s : Sought) → lookupIn rule file key t ≡ s → childOfSought s file t at ≡ Childed.Refused PastTheLast → Good
+  by-item : (t : Table) → openTable file start end ≡ Opened.Table t → (s : Sought) → lookupIn manner file key t ≡ s → childOfSought s file t at ≡ Childed.Refused PastTheLast → Good
   unfolding childOfSought SoughtLow
   by-item t opens (Sought.Item item) is e = by-list t item opens is (openList file item) refl e
-  by-item t opens (Sought.Refused why) is e = not-15 (subst SoughtLow is (lookup-low rule file key t)) (refused-same e)
+  by-item t opens (Sought.Refused why) is e = not-15 (subst SoughtLow is (lookup-low manner file key t)) (refused-same e)
 
-  by-table : (o : Opened) → openTable file start end ≡ o → childInOpened rule file key at o ≡ Childed.Refused PastTheLast → Good
+  by-table : (o : Opened) → openTable file start end ≡ o → childInOpened manner file key at o ≡ Childed.Refused PastTheLast → Good
   unfolding childInOpened
-  by-table (Opened.Table t) is e = by-item t is (lookupIn rule file key t) refl e
+  by-table (Opened.Table t) is e = by-item t is (lookupIn manner file key t) refl e
   by-table (Opened.Refused why) is e = let low = opened-low file start end is in not-15 (omega arith) (refused-same e)
 
-  good-past : length file ≤ at → Good → nextChild rule file start end key at ≡ Childed.Refused PastTheLast
+  good-past : length file ≤ at → Good → nextChild manner file start end key at ≡ Childed.Refused PastTheLast
   unfolding nextChild childInOpened childOfSought childFrom childCount pick
   good-past far (t, item, opens, looked, inside) =
       let fits = list-inside file item inside in
@@ -174,7 +174,7 @@ module _ (rule : ℕ → ℕ) (file : List ℕ) (start end : ℕ) (key : List �
 
 pub probe : Probe
 unfolding nextChild
-probe rule file start end key = (
-  by-table rule file start end key (2 ^ 64 - 1) (openTable file start end) refl,
-  λ good. let inside = opened-in-file file start end (good .2) in good-past rule file start end key (2 ^ 64 - 1) (omega arith) good,
+probe manner file start end key = (
+  by-table manner file start end key (2 ^ 64 - 1) (openTable file start end) refl,
+  λ good. let inside = opened-in-file file start end (good .2) in good-past manner file start end key (2 ^ 64 - 1) (omega arith) good,
 )

@@ -9,6 +9,7 @@ use Rattle.layout.specs.declared.table.Table.{Table}
 use Rattle.layout.specs.Kind.{kindKnown}
 use Rattle.layout.specs.Item.{itemAt}
 use Rattle.check_table.specs.Rules.{keyLists, keyFinds, valueOpens, childrenGood, parentGood, brokenRule}
+use Rattle.read.specs.Find.{Manner}
 use Rattle.check_table.specs.Broken.{Keeps, Breaks}
 
 -- of a choice whose other answer is a rule
@@ -17,8 +18,8 @@ unfolding pick
 pick-zero true rest n e = (refl, e)
 pick-zero false rest n e = absurd (omega arith)
 
-module _ (rule : ℕ → ℕ) (file : List ℕ) (t : Table) (i : ℕ) where
-  pub breaks-none-keeps : brokenRule rule file t i ≡ 0 → Keeps rule file t i
+module _ (manner : Manner) (file : List ℕ) (t : Table) (i : ℕ) where
+  pub breaks-none-keeps : brokenRule manner file t i ≡ 0 → Keeps manner file t i
   unfolding brokenRule
   breaks-none-keeps e =
       let r1 = pick-zero _ _ _ e in
@@ -29,12 +30,12 @@ module _ (rule : ℕ → ℕ) (file : List ℕ) (t : Table) (i : ℕ) where
       let r6 = pick-zero _ _ _ (r5 .1) in
       record { one = r1 .0; two = r2 .0; three = r3 .0; four = r4 .0; five = r5 .0; six = r6 .0 }
 
-  pub keeps-breaks-none : Keeps rule file t i → brokenRule rule file t i ≡ 0
+  pub keeps-breaks-none : Keeps manner file t i → brokenRule manner file t i ≡ 0
   unfolding brokenRule pick
   keeps-breaks-none k = rw (k .one, k .two, k .three, k .four, k .five, k .six)
 
   -- the first rule broken is the one that is answered
-  pub breaks-number : {n : ℕ} → Breaks rule file t i n → brokenRule rule file t i ≡ n
+  pub breaks-number : {n : ℕ} → Breaks manner file t i n → brokenRule manner file t i ≡ n
   unfolding brokenRule pick
   breaks-number (Breaks.first a) = rw a
   breaks-number (Breaks.second a b) = rw (a, b)
@@ -44,17 +45,17 @@ module _ (rule : ℕ → ℕ) (file : List ℕ) (t : Table) (i : ℕ) where
   breaks-number (Breaks.sixth a b c d e f) = rw (a, b, c, d, e, f)
 
   -- and an answer that is not 0 is a rule that is broken first
-  number-breaks : (brokenRule rule file t i ≡ 0 → ⊥) → Breaks rule file t i (brokenRule rule file t i)
+  number-breaks : (brokenRule manner file t i ≡ 0 → ⊥) → Breaks manner file t i (brokenRule manner file t i)
   unfolding brokenRule pick
   number-breaks =
-      by-tests (keyLists file t i) refl (keyFinds rule file t i) refl (kindKnown (itemAt file t i .kind)) refl
+      by-tests (keyLists file t i) refl (keyFinds manner file t i) refl (kindKnown (itemAt file t i .kind)) refl
       (valueOpens file (itemAt file t i)) refl (childrenGood file t i (itemAt file t i)) refl (parentGood file t i (itemAt file t i)) refl
     where
-      by-tests : (a : Bool) → keyLists file t i ≡ a → (b : Bool) → keyFinds rule file t i ≡ b → (c : Bool) → kindKnown (itemAt file t i .kind) ≡ c
+      by-tests : (a : Bool) → keyLists file t i ≡ a → (b : Bool) → keyFinds manner file t i ≡ b → (c : Bool) → kindKnown (itemAt file t i .kind) ≡ c
           → (d : Bool) → valueOpens file (itemAt file t i) ≡ d → (e : Bool) → childrenGood file t i (itemAt file t i) ≡ e
           → (f : Bool) → parentGood file t i (itemAt file t i) ≡ f
           → (_≡_ {A = ℕ} (pick a (pick b (pick c (pick d (pick e (pick f 0 6) 5) 4) 3) 2) 1) 0 → ⊥)
-          → Breaks rule file t i (pick a (pick b (pick c (pick d (pick e (pick f 0 6) 5) 4) 3) 2) 1)
+          → Breaks manner file t i (pick a (pick b (pick c (pick d (pick e (pick f 0 6) 5) 4) 3) 2) 1)
       by-tests false p b q c r d s e u f v n = Breaks.first p
       by-tests true p false q c r d s e u f v n = Breaks.second p q
       by-tests true p true q false r d s e u f v n = Breaks.third p q r
@@ -63,5 +64,5 @@ module _ (rule : ℕ → ℕ) (file : List ℕ) (t : Table) (i : ℕ) where
       by-tests true p true q true r true s true u false v n = Breaks.sixth p q r s u v
       by-tests true p true q true r true s true u true v n = absurd (n refl)
 
-  pub broken-breaks : {n : ℕ} → brokenRule rule file t i ≡ n → (n ≡ 0 → ⊥) → Breaks rule file t i n
-  broken-breaks {n} e some = subst (Breaks rule file t i) e (number-breaks (λ z. some (sym e ∙ z)))
+  pub broken-breaks : {n : ℕ} → brokenRule manner file t i ≡ n → (n ≡ 0 → ⊥) → Breaks manner file t i n
+  broken-breaks {n} e some = subst (Breaks manner file t i) e (number-breaks (λ z. some (sym e ∙ z)))

@@ -12,7 +12,7 @@ use Rattle.layout.specs.declared.table.Table.{Table}
 use Rattle.layout.specs.Item.{itemAt}
 use Rattle.read.specs.declared.chain.Step.{Step}
 use Rattle.read.specs.Chain.{fragmentOf, climbFrom, Joined, append, joinStep, keyOf}
-use Rattle.read.specs.Find.{findItem}
+use Rattle.read.specs.Find.{Manner, findItem}
 use Rattle.read.proofs.ChainLaws.{climb-or}
 use Rattle.check_keys.specs.Key.{bytesOf}
 use Rattle.check_table.specs.Rules.{isJoined, soughtAt, indexOf}
@@ -41,11 +41,11 @@ key-text file t (suc steps) index =
     join-text (climbFrom file (t .count) (itemAt file t index)) (fragmentOf file (itemAt file t index)) (λ parent. keyOf file t steps parent)
     (λ sure. climb-or file (t .count) (itemAt file t index) sure .text) (λ parent. key-text file t steps parent)
 
-sought-text : (rule : ℕ → ℕ) (file : List ℕ) (t : Table) (j : Joined) → KeyText j → isJoined j ≡ true → soughtAt rule file t j ≡ findItem rule file t (bytesOf j)
+sought-text : (manner : Manner) (file : List ℕ) (t : Table) (j : Joined) → KeyText j → isJoined j ≡ true → soughtAt manner file t j ≡ findItem manner file t (bytesOf j)
 unfolding KeyText soughtAt indexOf bytesOf isJoined pick
-sought-text rule file t (Joined.joined k) text e = rw text
-sought-text rule file t (Joined.broken why) text e = cc
+sought-text manner file t (Joined.joined k) text e = rw text
+sought-text manner file t (Joined.broken why) text e = cc
 
-pub sought-joined : (rule : ℕ → ℕ) (file : List ℕ) (t : Table) (steps index : ℕ) → isJoined (keyOf file t steps index) ≡ true
-    → soughtAt rule file t (keyOf file t steps index) ≡ findItem rule file t (bytesOf (keyOf file t steps index))
-sought-joined rule file t steps index e = sought-text rule file t (keyOf file t steps index) (key-text file t steps index) e
+pub sought-joined : (manner : Manner) (file : List ℕ) (t : Table) (steps index : ℕ) → isJoined (keyOf file t steps index) ≡ true
+    → soughtAt manner file t (keyOf file t steps index) ≡ findItem manner file t (bytesOf (keyOf file t steps index))
+sought-joined manner file t steps index e = sought-text manner file t (keyOf file t steps index) (key-text file t steps index) e

@@ -12,3 +12,4 @@ pub mod BrokenLaws
 pub mod AnswerLaws
 pub mod Children
 pub mod ChildrenLaws
+pub mod FormLaws

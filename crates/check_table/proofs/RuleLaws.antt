@@ -23,7 +23,7 @@ use Rattle.read.specs.declared.chain.Step.{Step}
 use Rattle.read.specs.declared.lookup.Found.{Found}
 use Rattle.read_listing.specs.declared.listing.Measured.{Measured}
 use Rattle.read.specs.Chain.{Joined, keyOf, parentOf}
-use Rattle.read.specs.Find.{findItem}
+use Rattle.read.specs.Find.{Manner, findItem}
 use Rattle.read_listing.specs.Listing.{measure}
 use Rattle.check_keys.specs.declared.tally.JoinedKey.{JoinedKey}
 use Rattle.check_table.specs.declared.check.Checked.{Checked}
@@ -45,32 +45,32 @@ unfolding joinedKey isJoined
 broken-joined rule (Joined.joined k) e = cc
 broken-joined rule (Joined.broken why) e = refl
 
-module _ (rule : ℕ → ℕ) (file : List ℕ) (t : Table) (index : ℕ) where
-  pub key-broken : joinedKey rule (keyOf file t (t .count) index) ≡ JoinedKey.Broken → 1 ≡ keyRule rule file t index
+module _ (manner : Manner) (file : List ℕ) (t : Table) (index : ℕ) where
+  pub key-broken : joinedKey (manner .byte) (keyOf file t (t .count) index) ≡ JoinedKey.Broken → 1 ≡ keyRule manner file t index
   unfolding keyRule keyLists pick
-  key-broken e = rw (broken-joined rule _ e)
+  key-broken e = rw (broken-joined (manner .byte) _ e)
 
-  module _ {hash size : ℕ} (own : joinedKey rule (keyOf file t (t .count) index) ≡ JoinedKey.Key hash size)
-      {f : Found} (found : findItem rule file t (bytesOf (keyOf file t (t .count) index)) ≡ f) where
-    finds : isAt index f ≡ keyFinds rule file t index
+  module _ {hash size : ℕ} (own : joinedKey (manner .byte) (keyOf file t (t .count) index) ≡ JoinedKey.Key hash size)
+      {f : Found} (found : findItem manner file t (bytesOf (keyOf file t (t .count) index)) ≡ f) where
+    finds : isAt index f ≡ keyFinds manner file t index
     unfolding keyFinds
-    finds = ap (isAt index) (sym found ∙ sym (sought-joined rule file t (t .count) index (joined-there rule _ own)))
+    finds = ap (isAt index) (sym found ∙ sym (sought-joined manner file t (t .count) index (joined-there (manner .byte) _ own)))
 
-    key-sought : pick (isAt index f) 0 2 ≡ keyRule rule file t index
+    key-sought : pick (isAt index f) 0 2 ≡ keyRule manner file t index
     unfolding keyRule keyLists pick
-    key-sought = rw (joined-there rule _ own, finds)
+    key-sought = rw (joined-there (manner .byte) _ own, finds)
 
-  module _ {hash size : ℕ} (own : joinedKey rule (keyOf file t (t .count) index) ≡ JoinedKey.Key hash size) where
-    pub key-nothing : findItem rule file t (bytesOf (keyOf file t (t .count) index)) ≡ Found.Nothing → 2 ≡ keyRule rule file t index
+  module _ {hash size : ℕ} (own : joinedKey (manner .byte) (keyOf file t (t .count) index) ≡ JoinedKey.Key hash size) where
+    pub key-nothing : findItem manner file t (bytesOf (keyOf file t (t .count) index)) ≡ Found.Nothing → 2 ≡ keyRule manner file t index
     unfolding isAt pick
     key-nothing e = key-sought own e
 
-    module _ {found : ℕ} (e : findItem rule file t (bytesOf (keyOf file t (t .count) index)) ≡ Found.At found) where
-      pub key-here : found ≡ index → 0 ≡ keyRule rule file t index
+    module _ {found : ℕ} (e : findItem manner file t (bytesOf (keyOf file t (t .count) index)) ≡ Found.At found) where
+      pub key-here : found ≡ index → 0 ≡ keyRule manner file t index
       unfolding isAt pick
       key-here same = sym (rw (eq-eqb found index same)) ∙ key-sought own e
 
-      pub key-elsewhere : (found ≡ index → ⊥) → 2 ≡ keyRule rule file t index
+      pub key-elsewhere : (found ≡ index → ⊥) → 2 ≡ keyRule manner file t index
       unfolding isAt pick
       key-elsewhere other = sym (rw (ne-eqb found index other)) ∙ key-sought own e
 
@@ -112,53 +112,53 @@ module _ (file : List ℕ) (item : Item) where
 
 -- ---- the first rule that is broken, rule by rule
 
-module _ (rule : ℕ → ℕ) (file : List ℕ) (t : Table) (index : ℕ) where
-  key-other : (keyRule rule file t index ≡ 0 → ⊥) → keyRule rule file t index ≡ brokenRule rule file t index
+module _ (manner : Manner) (file : List ℕ) (t : Table) (index : ℕ) where
+  key-other : (keyRule manner file t index ≡ 0 → ⊥) → keyRule manner file t index ≡ brokenRule manner file t index
   unfolding keyRule brokenRule pick
-  key-other = by-tests (keyLists file t index) (keyFinds rule file t index) _
+  key-other = by-tests (keyLists file t index) (keyFinds manner file t index) _
     where
       by-tests : (one two : Bool) (rest : ℕ) → (_≡_ {A = ℕ} (pick one (pick two 0 2) 1) 0 → ⊥) → _≡_ {A = ℕ} (pick one (pick two 0 2) 1) (pick one (pick two rest 2) 1)
       by-tests true true rest n = absurd (n refl)
       by-tests true false rest n = refl
       by-tests false two rest n = refl
 
-  key-keeps : keyRule rule file t index ≡ 0 → (keyLists file t index ≡ true) × (keyFinds rule file t index ≡ true)
+  key-keeps : keyRule manner file t index ≡ 0 → (keyLists file t index ≡ true) × (keyFinds manner file t index ≡ true)
   unfolding keyRule pick
-  key-keeps = by-tests (keyLists file t index) (keyFinds rule file t index)
+  key-keeps = by-tests (keyLists file t index) (keyFinds manner file t index)
     where
       by-tests : (one two : Bool) → _≡_ {A = ℕ} (pick one (pick two 0 2) 1) 0 → (one ≡ true) × (two ≡ true)
       by-tests true true e = (refl, refl)
       by-tests true false e = absurd (omega arith)
       by-tests false two e = absurd (omega arith)
 
-  module _ {key : ℕ} (said : key ≡ keyRule rule file t index) where
-    pub breaks-key : (key ≡ 0 → ⊥) → key ≡ brokenRule rule file t index
+  module _ {key : ℕ} (said : key ≡ keyRule manner file t index) where
+    pub breaks-key : (key ≡ 0 → ⊥) → key ≡ brokenRule manner file t index
     breaks-key n = said ∙ key-other (λ e. n (said ∙ e))
 
     module _ (none : key ≡ 0) {item : Item} (is : item ≡ itemAt file t index) where
-      keyed : (keyLists file t index ≡ true) × (keyFinds rule file t index ≡ true)
+      keyed : (keyLists file t index ≡ true) × (keyFinds manner file t index ≡ true)
       keyed = key-keeps (sym said ∙ none)
 
-      pub breaks-3 : kindKnown (item .kind) ≡ false → 3 ≡ brokenRule rule file t index
+      pub breaks-3 : kindKnown (item .kind) ≡ false → 3 ≡ brokenRule manner file t index
       unfolding brokenRule pick
       breaks-3 e = rw (keyed .0, keyed .1, ← is, e)
 
       module _ (three : kindKnown (item .kind) ≡ true) where
-        pub breaks-4 : valueOpens file item ≡ false → 4 ≡ brokenRule rule file t index
+        pub breaks-4 : valueOpens file item ≡ false → 4 ≡ brokenRule manner file t index
         unfolding brokenRule pick
         breaks-4 e = rw (keyed .0, keyed .1, ← is, three, e)
 
         module _ (four : valueOpens file item ≡ true) where
-          pub breaks-5 : childrenGood file t index item ≡ false → 5 ≡ brokenRule rule file t index
+          pub breaks-5 : childrenGood file t index item ≡ false → 5 ≡ brokenRule manner file t index
           unfolding brokenRule pick
           breaks-5 e = rw (keyed .0, keyed .1, ← is, three, four, e)
 
           module _ (five : childrenGood file t index item ≡ true) where
-            pub breaks-6 : parentGood file t index item ≡ false → 6 ≡ brokenRule rule file t index
+            pub breaks-6 : parentGood file t index item ≡ false → 6 ≡ brokenRule manner file t index
             unfolding brokenRule pick
             breaks-6 e = rw (keyed .0, keyed .1, ← is, three, four, five, e)
 
-            pub breaks-none : parentGood file t index item ≡ true → 0 ≡ brokenRule rule file t index
+            pub breaks-none : parentGood file t index item ≡ true → 0 ≡ brokenRule manner file t index
             unfolding brokenRule pick
             breaks-none e = rw (keyed .0, keyed .1, ← is, three, four, five, e)
 
@@ -186,9 +186,9 @@ module _ (broken : ℕ → ℕ) where
       let e : count - at ≡ 0 = omega arith in
       rw e
 
-pub broken-start : (rule : ℕ → ℕ) (file : List ℕ) (t : Table) → explained file t (firstBroken (brokenRule rule file t) (t .count - 0) 0) ≡ checkIn rule file t
+pub broken-start : (manner : Manner) (file : List ℕ) (t : Table) → explained file t (firstBroken (brokenRule manner file t) (t .count - 0) 0) ≡ checkIn manner file t
 unfolding checkIn
-broken-start rule file t = ap (λ (n : ℕ). explained file t (firstBroken (brokenRule rule file t) n 0)) (sub-zero (t .count))
+broken-start manner file t = ap (λ (n : ℕ). explained file t (firstBroken (brokenRule manner file t) n 0)) (sub-zero (t .count))
 
 -- a broken rule that is not the first, and the first, by what the key measures
 module _ (file : List ℕ) (t : Table) (item : ℕ) where

@@ -26,6 +26,7 @@ use Rattle.read.specs.Chain.{Joined, keyOf, parentOf}
 use Rattle.read_listing.specs.Children.{childAt, childCount}
 use Rattle.check_table.specs.Rules.{isJoined, keyLists, indexOf, soughtAt, isAt, keyFinds, isInside, isTable, listOpens, valueOpens, among, childGood, childrenGood, listsIt, parentKeeps}
 use Rattle.check_table.specs.Sound.{ValueGood}
+use Rattle.read.specs.Find.{Manner}
 use Rattle.check_table.proofs.ChildLaws.{three}
 
 -- rules 1 and 2: the key reads, and is looked up as this very item
@@ -38,18 +39,18 @@ at-is : (i : ℕ) {f : Found} → f ≡ Found.At i → isAt i f ≡ true
 unfolding isAt
 at-is i e = rw e (eq-eqb i i refl)
 
-pub key-reads : (rule : ℕ → ℕ) (file : List ℕ) (t : Table) (i : ℕ) (j : Joined) → keyOf file t (t .count) i ≡ j → isJoined j ≡ true → isAt i (soughtAt rule file t j) ≡ true
-    → (key : List ℕ) × (keyOf file t (t .count) i ≡ Joined.joined key) × (indexOf rule file t key ≡ Found.At i)
+pub key-reads : (manner : Manner) (file : List ℕ) (t : Table) (i : ℕ) (j : Joined) → keyOf file t (t .count) i ≡ j → isJoined j ≡ true → isAt i (soughtAt manner file t j) ≡ true
+    → (key : List ℕ) × (keyOf file t (t .count) i ≡ Joined.joined key) × (indexOf manner file t key ≡ Found.At i)
 unfolding isJoined soughtAt
-key-reads rule file t i (Joined.joined key) is reads found = (key, is, is-at i (indexOf rule file t key) found)
-key-reads rule file t i (Joined.broken why) is reads found = let z : _≡_ {A = ℕ} 0 1 = cc in absurd (omega arith)
+key-reads manner file t i (Joined.joined key) is reads found = (key, is, is-at i (indexOf manner file t key) found)
+key-reads manner file t i (Joined.broken why) is reads found = let z : _≡_ {A = ℕ} 0 1 = cc in absurd (omega arith)
 
 pub reads-lists : (file : List ℕ) (t : Table) (i : ℕ) {key : List ℕ} → keyOf file t (t .count) i ≡ Joined.joined key → keyLists file t i ≡ true
 unfolding keyLists isJoined
 reads-lists file t i is = rw is
 
-module _ (rule : ℕ → ℕ) (file : List ℕ) (t : Table) (i : ℕ) {key : List ℕ} (is : keyOf file t (t .count) i ≡ Joined.joined key) where
-  pub reads-finds : indexOf rule file t key ≡ Found.At i → keyFinds rule file t i ≡ true
+module _ (manner : Manner) (file : List ℕ) (t : Table) (i : ℕ) {key : List ℕ} (is : keyOf file t (t .count) i ≡ Joined.joined key) where
+  pub reads-finds : indexOf manner file t key ≡ Found.At i → keyFinds manner file t i ≡ true
   unfolding keyFinds soughtAt
   reads-finds e = rw is (at-is i e)
 

@@ -25,11 +25,12 @@ use Rattle.check_table.specs.Broken.{Keeps}
 use Rattle.check_table.proofs.KeepLaws.{breaks-none-keeps, keeps-breaks-none}
 use Rattle.check_table.proofs.FirstLaws.{sound-none, none-sound}
 use Rattle.check_table.proofs.ExplainLaws.{sound-explained}
+use Rattle.read.specs.Find.{Manner}
 use Rattle.check_table.proofs.RuleWords.{key-reads, reads-lists, reads-finds, value-good, good-kind, good-value, child-good, good-child, among-at, at-among, children-of, not-before, same-place, up-true, RootOrContained, parent-is, parent-up, few-items}
 
 -- what the rules say together, of a table that lies in the file
-module _ (rule : ℕ → ℕ) (file : List ℕ) (t : Table) (inside : InFile file t) where
-  module _ (keeps : (i : ℕ) → i < t .count → Keeps rule file t i) where
+module _ (manner : Manner) (file : List ℕ) (t : Table) (inside : InFile file t) where
+  module _ (keeps : (i : ℕ) → i < t .count → Keeps manner file t i) where
     -- rule 5 of the container, and rule 6 of the child
     listed-child : (i j : ℕ) → i < t .count → itemAt file t i .kind ≡ 76 → InList file (itemAt file t i) j → (j < t .count) × (itemAt file t j .parent ≡ i)
     listed-child i j h is (k, l, e) =
@@ -43,10 +44,10 @@ module _ (rule : ℕ → ℕ) (file : List ℕ) (t : Table) (inside : InFile fil
         let kept : listsIt file j (itemAt file t i) ≡ true = rw up at (keeps j l .six) in
         among-at file (itemAt file t i .from) (childCount (itemAt file t i)) j (up-true file j (itemAt file t i) kept .1)
 
-    rules-sound : SoundIn rule file t
+    rules-sound : SoundIn manner file t
     unfolding keyLists keyFinds parentGood
     rules-sound = record {
-      keys = λ i h. key-reads rule file t i _ refl (keeps i h .one) (keeps i h .two);
+      keys = λ i h. key-reads manner file t i _ refl (keeps i h .one) (keeps i h .two);
       values = λ i h. value-good file (itemAt file t i) (keeps i h .four);
       parents = λ i h. parent-is file t i (itemAt file t i .parent) (keeps i h .six);
       lists = λ i j h is. (listed-child i j h is, λ child. child-among i j h (child .0) (child .1));
@@ -55,7 +56,7 @@ module _ (rule : ℕ → ℕ) (file : List ℕ) (t : Table) (inside : InFile fil
           same-place k l (not-before file t i (itemAt file t i .from) k l (good l ln) same) (not-before file t i (itemAt file t i .from) l k (good k kn) (sym same));
     }
 
-  module _ (s : SoundIn rule file t) where
+  module _ (s : SoundIn manner file t) where
     once-new : (i k : ℕ) → i < t .count → itemAt file t i .kind ≡ 76 → k < childCount (itemAt file t i)
         → among file (itemAt file t i .from) k (childAt file (itemAt file t i .from) k) ≡ false
     once-new i k h is l = by-case (among file (itemAt file t i .from) k (childAt file (itemAt file t i .from) k)) refl
@@ -91,12 +92,12 @@ module _ (rule : ℕ → ℕ) (file : List ℕ) (t : Table) (inside : InFile fil
     sound-parent i h (inl root) = rw (eq-eqb _ _ root)
     sound-parent i h (inr (below, is)) = rw (parent-up file t i (itemAt file t i .parent) below (few-items inside)) (sound-among i h below is)
 
-    sound-rules : (i : ℕ) → i < t .count → Keeps rule file t i
+    sound-rules : (i : ℕ) → i < t .count → Keeps manner file t i
     sound-rules i h =
         let (key, is, found) = s .keys i h in
         record {
           one = reads-lists file t i is;
-          two = reads-finds rule file t i is found;
+          two = reads-finds manner file t i is found;
           three = good-kind file (itemAt file t i) (s .values i h);
           four = good-value file (itemAt file t i) (s .values i h);
           five = sound-children i h;
@@ -105,29 +106,29 @@ module _ (rule : ℕ → ℕ) (file : List ℕ) (t : Table) (inside : InFile fil
 
 -- ---- the theorem
 
-module _ (rule : ℕ → ℕ) (file : List ℕ) (start end : ℕ) where
-  check-sound : (o : Opened) → openTable file start end ≡ o → checkOpened rule file o ≡ Checked.Sound → SoundTable rule file start end
+module _ (manner : Manner) (file : List ℕ) (start end : ℕ) where
+  check-sound : (o : Opened) → openTable file start end ≡ o → checkOpened manner file o ≡ Checked.Sound → SoundTable manner file start end
   unfolding checkOpened checkIn SoundTable
   check-sound (Opened.Table t) is e = (
     t,
     is,
-    rules-sound rule file t (opened-in-file file start end is)
-        (λ i h. breaks-none-keeps rule file t i (sound-none (brokenRule rule file t) (t .count) 0 (sound-explained file t e) i (omega arith) (omega arith))),
+    rules-sound manner file t (opened-in-file file start end is)
+        (λ i h. breaks-none-keeps manner file t i (sound-none (brokenRule manner file t) (t .count) 0 (sound-explained file t e) i (omega arith) (omega arith))),
   )
   check-sound (Opened.Refused why) is e = let z : _≡_ {A = ℕ} 0 1 = cc in absurd (omega arith)
 
-  sound-check : SoundTable rule file start end → checkTable rule file start end ≡ Checked.Sound
+  sound-check : SoundTable manner file start end → checkTable manner file start end ≡ Checked.Sound
   unfolding checkTable checkOpened checkIn explained SoundTable
   sound-check (t, is, s) =
-      rw is (ap (explained file t) (none-sound (brokenRule rule file t) (t .count) 0
-      (λ i _ h. keeps-breaks-none rule file t i (sound-rules rule file t (opened-in-file file start end is) s i (omega arith)))))
+      rw is (ap (explained file t) (none-sound (brokenRule manner file t) (t .count) 0
+      (λ i _ h. keeps-breaks-none manner file t i (sound-rules manner file t (opened-in-file file start end is) s i (omega arith)))))
 
 pub passes-exactly-the-sound : PassesExactlyTheSound
 unfolding checkTable
-passes-exactly-the-sound rule file start end = (check-sound rule file start end (openTable file start end) refl, sound-check rule file start end)
+passes-exactly-the-sound manner file start end = (check-sound manner file start end (openTable file start end) refl, sound-check manner file start end)
 
 -- a table without items passes if it opens
-pub empty-passes : (rule : ℕ → ℕ) (file : List ℕ) (start end : ℕ) {t : Table} → openTable file start end ≡ Opened.Table t → t .count ≡ 0
-    → checkTable rule file start end ≡ Checked.Sound
+pub empty-passes : (manner : Manner) (file : List ℕ) (start end : ℕ) {t : Table} → openTable file start end ≡ Opened.Table t → t .count ≡ 0
+    → checkTable manner file start end ≡ Checked.Sound
 unfolding checkTable checkOpened checkIn explained firstBroken
-empty-passes rule file start end e none = rw (e, none)
+empty-passes manner file start end e none = rw (e, none)

@@ -20,6 +20,7 @@ use Rattle.check_table.specs.Rules.{valueOpens, childrenGood, listsIt, p
 use Rattle.check_table.specs.Survey.{fiveOrShut, Fresh, Surveying, Survey, Blank}
 use Rattle.check_table.proofs.BitsLaws.{none-bit-set}
 use Rattle.check_table.proofs.ChildLaws.{five-open}
+use Rattle.read.specs.Find.{Manner}
 use Rattle.check_table.proofs.KeepLaws.{breaks-none-keeps}
 
 -- a step up goes to the parent named
@@ -96,12 +97,12 @@ module _ (file : List ℕ) (t : Table) where
         s .below index h (omega arith) ∙ rw (up, named)
 
     -- an item that breaks no rule is not where the survey stopped
-    pub passes-on : (rule : ℕ → ℕ) → index ≤ stop → brokenRule rule file t index ≡ 0 → index + 1 ≤ stop
-    passes-on rule l e = by-case (eqb index stop) refl
+    pub passes-on : (manner : Manner) → index ≤ stop → brokenRule manner file t index ≡ 0 → index + 1 ≤ stop
+    passes-on manner l e = by-case (eqb index stop) refl
       where
         by-case : (b : Bool) → eqb index stop ≡ b → index + 1 ≤ stop
         by-case true same =
-            let k = breaks-none-keeps rule file t index e in
+            let k = breaks-none-keeps manner file t index e in
             let no-five : childrenGood file t index item ≡ false = five-fails (eqb-true _ _ same) (ap (valueOpens file) is ∙ k .four) in
             let yes-five : childrenGood file t index item ≡ true = ap (childrenGood file t index) is ∙ k .five in
             let z : _≡_ {A = ℕ} 0 1 = cc in

@@ -5,3 +5,4 @@ pub mod Answer
 pub mod Sound
 pub mod Broken
 pub mod Children
+pub mod Forms

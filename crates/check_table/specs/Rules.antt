@@ -21,7 +21,7 @@ use Rattle.layout.specs.Item.{itemAt}
 use Rattle.read.specs.declared.chain.Step.{Step}
 use Rattle.read.specs.declared.lookup.Found.{Found}
 use Rattle.read.specs.Chain.{Joined, keyOf, parentOf}
-use Rattle.read.specs.Find.{findItem}
+use Rattle.read.specs.Find.{Manner, findItem}
 use Rattle.read_listing.specs.Children.{childAt, childCount}
 use Rattle.check_table.specs.declared.check.Checked.{Checked}
 
@@ -34,19 +34,19 @@ unfoldable pub keyLists : List ℕ → Table → ℕ → Bool
 keyLists file t index = isJoined (keyOf file t (t .count) index)
 
 -- (2) lookup of that key, taken before 13 and what follows it (so: 8, then 12), answers this index
-unfoldable pub indexOf : (ℕ → ℕ) → List ℕ → Table → List ℕ → Found
-indexOf rule file t key = pick (isUtf8 key) (findItem rule file t key) Found.Nothing
+unfoldable pub indexOf : Manner → List ℕ → Table → List ℕ → Found
+indexOf manner file t key = pick (isUtf8 key) (findItem manner file t key) Found.Nothing
 
-unfoldable pub soughtAt : (ℕ → ℕ) → List ℕ → Table → Joined → Found
-soughtAt rule file t (Joined.joined k) = indexOf rule file t k
-soughtAt rule file t (Joined.broken why) = Found.Nothing
+unfoldable pub soughtAt : Manner → List ℕ → Table → Joined → Found
+soughtAt manner file t (Joined.joined k) = indexOf manner file t k
+soughtAt manner file t (Joined.broken why) = Found.Nothing
 
 unfoldable pub isAt : ℕ → Found → Bool
 isAt index (Found.At found) = eqb found index
 isAt index Found.Nothing = false
 
-unfoldable pub keyFinds : (ℕ → ℕ) → List ℕ → Table → ℕ → Bool
-keyFinds rule file t index = isAt index (soughtAt rule file t (keyOf file t (t .count) index))
+unfoldable pub keyFinds : Manner → List ℕ → Table → ℕ → Bool
+keyFinds manner file t index = isAt index (soughtAt manner file t (keyOf file t (t .count) index))
 
 -- (3) the kind is known: `kindKnown` of the layout
 
@@ -98,10 +98,10 @@ unfoldable pub parentGood : List ℕ → Table → ℕ → Item → Bool
 parentGood file t index item = parentKeeps file t index (parentOf (t .count) (item .parent))
 
 -- the first rule that an item breaks; 0 where it breaks none
-unfoldable pub brokenRule : (ℕ → ℕ) → List ℕ → Table → ℕ → ℕ
-brokenRule rule file t index =
+unfoldable pub brokenRule : Manner → List ℕ → Table → ℕ → ℕ
+brokenRule manner file t index =
     pick (keyLists file t index)
-    (pick (keyFinds rule file t index)
+    (pick (keyFinds manner file t index)
     (pick (kindKnown (itemAt file t index .kind))
     (pick (valueOpens file (itemAt file t index))
     (pick (childrenGood file t index (itemAt file t index))
@@ -126,13 +126,13 @@ explained file t (Checked.Broken rule item) = pick (eqb rule 1) (unlisted (keyOf
 explained file t (Checked.Unlisted why item) = Checked.Unlisted why item
 explained file t (Checked.Refused why) = Checked.Refused why
 
-unfoldable pub checkIn : (ℕ → ℕ) → List ℕ → Table → Checked
-checkIn rule file t = explained file t (firstBroken (brokenRule rule file t) (t .count) 0)
+unfoldable pub checkIn : Manner → List ℕ → Table → Checked
+checkIn manner file t = explained file t (firstBroken (brokenRule manner file t) (t .count) 0)
 
-unfoldable pub checkOpened : (ℕ → ℕ) → List ℕ → Opened → Checked
-checkOpened rule file (Opened.Table t) = checkIn rule file t
-checkOpened rule file (Opened.Refused why) = Checked.Refused why
+unfoldable pub checkOpened : Manner → List ℕ → Opened → Checked
+checkOpened manner file (Opened.Table t) = checkIn manner file t
+checkOpened manner file (Opened.Refused why) = Checked.Refused why
 
 -- opening, then 40 for the first item and its first broken rule
-unfoldable pub checkTable : (ℕ → ℕ) → List ℕ → ℕ → ℕ → Checked
-checkTable rule file start end = checkOpened rule file (openTable file start end)
+unfoldable pub checkTable : Manner → List ℕ → ℕ → ℕ → Checked
+checkTable manner file start end = checkOpened manner file (openTable file start end)

@@ -18,6 +18,7 @@ use Rattle.read.specs.declared.lookup.Found.{Found}
 use Rattle.read.specs.Chain.{Joined, keyOf}
 use Rattle.check_table.specs.declared.check.Checked.{Checked}
 use Rattle.read_listing.specs.Children.{childAt, childCount}
+use Rattle.read.specs.Find.{Manner}
 use Rattle.check_table.specs.Rules.{indexOf, checkTable}
 
 -- the kind is known, and the value pointer opens as it asks: 'v' at 8, 'H' as a table, 'L' at 4 with a length divisible by 4
@@ -31,9 +32,9 @@ pub data ValueGood (file : List ℕ) (item : Item) : Type 0 where
 abbrev pub InList : List ℕ → Item → ℕ → Type 0
 InList file item index = (k : ℕ) × (k < childCount item) × (childAt file (item .from) k ≡ index)
 
-pub record SoundIn (rule : ℕ → ℕ) (file : List ℕ) (t : Table) : Type 0 where
+pub record SoundIn (manner : Manner) (file : List ℕ) (t : Table) : Type 0 where
   -- its key reads, and lookup of that key answers this very item
-  pub keys : (i : ℕ) → i < t .count → (key : List ℕ) × (keyOf file t (t .count) i ≡ Joined.joined key) × (indexOf rule file t key ≡ Found.At i)
+  pub keys : (i : ℕ) → i < t .count → (key : List ℕ) × (keyOf file t (t .count) i ≡ Joined.joined key) × (indexOf manner file t key ≡ Found.At i)
   -- its kind is known, and its value pointer is good
   pub values : (i : ℕ) → i < t .count → ValueGood file (itemAt file t i)
   -- it is a root, or its parent is a container
@@ -46,10 +47,10 @@ pub record SoundIn (rule : ℕ → ℕ) (file : List ℕ) (t : Table) : Type 0 w
   pub once : (i k l : ℕ) → i < t .count → itemAt file t i .kind ≡ kindByte Kind.Container → k < childCount (itemAt file t i) → l < childCount (itemAt file t i)
       → childAt file (itemAt file t i .from) k ≡ childAt file (itemAt file t i .from) l → k ≡ l
 
-unfoldable pub SoundTable : (ℕ → ℕ) → List ℕ → ℕ → ℕ → Type 0
-SoundTable rule file start end = (t : Table) × (openTable file start end ≡ Opened.Table t) × SoundIn rule file t
+unfoldable pub SoundTable : Manner → List ℕ → ℕ → ℕ → Type 0
+SoundTable manner file start end = (t : Table) × (openTable file start end ≡ Opened.Table t) × SoundIn manner file t
 
 -- the statement: the check passes exactly the sound tables
 abbrev pub PassesExactlyTheSound : Type 0
 PassesExactlyTheSound =
-    (rule : ℕ → ℕ) (file : List ℕ) (start end : ℕ) → (checkTable rule file start end ≡ Checked.Sound) ↔ SoundTable rule file start end
+    (manner : Manner) (file : List ℕ) (start end : ℕ) → (checkTable manner file start end ≡ Checked.Sound) ↔ SoundTable manner file start end

@@ -11,11 +11,12 @@ use Rattle.layout.specs.declared.table.Table.{Table}
 use Rattle.layout.specs.declared.item.Item.{Item}
 use Rattle.layout.specs.Item.{itemAt}
 use Rattle.check_table.specs.Bits.{hasBit, withBit}
+use Rattle.read.specs.Find.{Manner}
 use Rattle.check_table.specs.Rules.{keyLists, keyFinds, valueOpens, childrenGood, listsIt}
 
 -- which of rules 1 and 2 an item breaks first; 0 for neither
-unfoldable pub keyRule : (ℕ → ℕ) → List ℕ → Table → ℕ → ℕ
-keyRule rule file t index = pick (keyLists file t index) (pick (keyFinds rule file t index) 0 2) 1
+unfoldable pub keyRule : Manner → List ℕ → Table → ℕ → ℕ
+keyRule manner file t index = pick (keyLists file t index) (pick (keyFinds manner file t index) 0 2) 1
 
 -- an item that names the container and has no bit yet
 unfoldable pub freshChild : List ℕ → Table → ℕ → List ℕ → ℕ → Bool

@@ -13,13 +13,14 @@ use layout::table::Table;
 use layout::table::open_table;
 use read::chain::Step;
 use read::chain::parent_of;
+use read::manner::Manner;
 use read_listing::listing::Measured;
 use read_listing::listing::key_size;
 ghost use mathlib.Core.Path.{_≡_};
 ghost use Prim.Native.Nat.{_≤_, _<_};
-ghost use Rattle.words.specs.Hash.{plain};
 ghost use Rattle.layout.specs.Table.{InFile};
 ghost use Rattle.layout.specs.Item.{itemAt};
+ghost use Rattle.read.specs.Find.{mannerOf};
 ghost use Rattle.check_table.specs.Rules.{parentGood, brokenRule, explained, checkIn, checkTable};
 ghost use Rattle.check_table.specs.Survey.{Survey};
 
@@ -59,12 +60,19 @@ fn parent_good(
 }
 
 // The first rule that an item breaks, or 0.
-fn broken_rule(file: &[u8], table: Table, index: usize, stop: usize, bits: &[usize]) -> u32
+fn broken_rule(
+    file: &[u8],
+    table: Table,
+    index: usize,
+    stop: usize,
+    bits: &[usize],
+    manner: Manner,
+) -> u32
     requires { ⌜ InFile (now file) table × (index < table .count) × (index ≤ stop) ⌝ }
     requires { ⌜ Survey (now file) table stop (now bits) ⌝ }
-    ensures { λ r. ⌜ r ≡ brokenRule plain (now (file .entry)) table index ⌝ }
+    ensures { λ r. ⌜ r ≡ brokenRule (mannerOf manner) (now (file .entry)) table index ⌝ }
 {
-    let key = key_rule(file, table, index);
+    let key = key_rule(file, table, index, manner);
     if key != 0 {
         return key;
     }
@@ -99,15 +107,15 @@ fn explain(file: &[u8], table: Table, rule: u32, item: usize) -> Checked
 }
 
 // The first item of an open table that breaks a rule.
-fn check_surveyed(file: &[u8], table: Table, stop: usize, bits: &[usize]) -> Checked
+fn check_surveyed(file: &[u8], table: Table, stop: usize, bits: &[usize], manner: Manner) -> Checked
     requires { ⌜ InFile (now file) table ⌝ }
     requires { ⌜ Survey (now file) table stop (now bits) ⌝ }
-    ensures { λ r. ⌜ r ≡ checkIn plain (now (file .entry)) table ⌝ }
+    ensures { λ r. ⌜ r ≡ checkIn (mannerOf manner) (now (file .entry)) table ⌝ }
 {
     let count = table.count;
     let mut at = 0;
     while at < count {
-        let rule = broken_rule(file, table, at, stop, bits);
+        let rule = broken_rule(file, table, at, stop, bits, manner);
         if rule != 0 {
             return explain(file, table, rule, at);
         }
@@ -117,21 +125,21 @@ fn check_surveyed(file: &[u8], table: Table, stop: usize, bits: &[usize]) -> Che
 }
 
 // The check of an open table, with a bit for each of the 699,050 items that a file can hold.
-fn check_open(file: &[u8], table: Table) -> Checked
+fn check_open(file: &[u8], table: Table, manner: Manner) -> Checked
     requires { ⌜ InFile (now file) table ⌝ }
-    ensures { λ r. ⌜ r ≡ checkIn plain (now (file .entry)) table ⌝ }
+    ensures { λ r. ⌜ r ≡ checkIn (mannerOf manner) (now (file .entry)) table ⌝ }
 {
     let mut bits = [0usize; 10923];
     let stop = survey_all(file, table, &mut bits);
-    check_surveyed(file, table, stop, &bits)
+    check_surveyed(file, table, stop, &bits, manner)
 }
 
 // The check of the table at a pointer: opening, then 40 for the first item and its first broken rule.
-pub fn check_table(file: &[u8], start: u32, end: u32) -> Checked
-    ensures { λ r. ⌜ r ≡ checkTable plain (now (file .entry)) start end ⌝ }
+pub fn check_table(file: &[u8], start: u32, end: u32, manner: Manner) -> Checked
+    ensures { λ r. ⌜ r ≡ checkTable (mannerOf manner) (now (file .entry)) start end ⌝ }
 {
     match open_table(file, start, end) {
         Opened::Refused(why) => Checked::Refused(why),
-        Opened::Table(table) => check_open(file, table),
+        Opened::Table(table) => check_open(file, table, manner),
     }
 }

@@ -13,6 +13,7 @@ use layout::table::Opened;
 use layout::table::Table;
 use layout::table::open_table;
 use read::lookup::Found;
+use read::manner::Manner;
 use read_listing::children::child_count;
 use words::align::Alignment;
 use words::field::word_at;
@@ -20,21 +21,22 @@ use words::wide::word_size;
 ghost use mathlib.Core.Path.{_≡_};
 ghost use Prim.Native.Nat.{_+_, _*_, _≤_, _<_};
 ghost use lib.ListN.{length};
-ghost use Rattle.words.specs.Hash.{plain};
 ghost use Rattle.layout.specs.Table.{InFile, openTable};
 ghost use Rattle.layout.specs.Pointer.{openPointer};
 ghost use Rattle.read_listing.specs.Children.{childCount};
+ghost use Rattle.read.specs.Find.{mannerOf};
 ghost use Rattle.check_table.specs.Rules.{isInside, isTable, listOpens, valueOpens, among, listsIt};
 ghost use Rattle.check_table.specs.Survey.{keyRule};
 
 // Which of rules 1 and 2 the item's key breaks first; 0 for neither.
-pub fn key_rule(file: &[u8], table: Table, index: usize) -> u32
+pub fn key_rule(file: &[u8], table: Table, index: usize, manner: Manner) -> u32
     requires { ⌜ InFile (now file) table × (index < table .count) ⌝ }
-    ensures { λ r. ⌜ r ≡ keyRule plain (now (file .entry)) table index ⌝ }
+    ensures { λ r. ⌜ r ≡ keyRule (mannerOf manner) (now (file .entry)) table index ⌝ }
 {
-    match joined_key(file, table, index) {
+    let form = manner.form;
+    match joined_key(file, table, index, form) {
         JoinedKey::Broken => 1,
-        JoinedKey::Key { hash, size } => match find_joined(file, table, index, size, hash) {
+        JoinedKey::Key { hash, size } => match find_joined(file, table, index, size, hash, manner) {
             Found::Nothing => 2,
             Found::At(found) => { if found == index { 0 } else { 2 } }
         },

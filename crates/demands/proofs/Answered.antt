@@ -4,7 +4,7 @@ use mathlib.Core.Path.{_≡_, refl, sym, ap, subst}
 use mathlib.Core.List.{List, []}
 use denote.Ref.{RefT}
 use lib.ListN.{length}
-use Rattle.words.specs.Hash.{plain}
+use Rattle.words.specs.Hash.{ruleOf}
 use Rattle.words.proofs.ChoiceLaws.{pick-with}
 use Rattle.layout.specs.Table.{openTable}
 use Rattle.read.specs.Lookup.{lookupValue, lookupTable}
@@ -16,12 +16,13 @@ use Rattle.build_tables.specs.Table.{addTable, newTable, itemCount}
 use Rattle.build_values.specs.Insert.{insertValue}
 use Rattle.build_nested.specs.Nest.{insertTable}
 use Rattle.write.specs.Write.{writeAnswer, imageAfter}
+use Rattle.gvdb.specs.Manner.{formOf, mannerNamed}
 use Rattle.gvdb.specs.Building.{told, addedAnswer, insertedAnswer, countedAnswer}
 use Rattle.gvdb.specs.Reading.{openedAnswer, lookedAnswer, listedAnswer}
 use Rattle.gvdb.specs.Checking.{checkedAnswer}
 use Rattle.gvdb.specs.Writing.{writtenAnswer}
 use Rattle.demands.specs.Calls.{Call, Does, Starts}
-use Rattle.demands.specs.Readers.{Opening, Getting, GettingTable, Listing, Checking}
+use Rattle.demands.specs.Readers.{readBy, Opening, Getting, GettingTable, Listing, Checking}
 use Rattle.demands.specs.Model as model
 use Rattle.demands.specs.Inhabited.{EveryCallAnswers}
 use Rattle.demands.proofs.Contracts.{answers, leaves, leavesLent}
@@ -104,12 +105,12 @@ does m (Call.item-count t) =
       left = (lend (m .words), (lend (m .arena), (t, tt)));
       meets = refl;
     })
-does m (Call.write t buffer) =
+does m (Call.write t buffer manner) =
     Does.write (record {
       lifetimes = ([], ([], ([], tt)));
-      given = (lend (m .words), (lend (m .arena), (t, (lend buffer, tt))));
-      answer = writtenAnswer (writeAnswer (m .words) (m .arena) t (length buffer));
-      left = (lend (m .words), (lend (m .arena), (t, (lend (imageAfter (m .words) (m .arena) t buffer), tt))));
+      given = (lend (m .words), (lend (m .arena), (t, (lend buffer, (manner, tt)))));
+      answer = writtenAnswer (writeAnswer (ruleOf (formOf manner)) (m .words) (m .arena) t (length buffer));
+      left = (lend (m .words), (lend (m .arena), (t, (lend (imageAfter (ruleOf (formOf manner)) (m .words) (m .arena) t buffer), (manner, tt)))));
       meets = (refl, (refl, refl));
     })
 
@@ -125,31 +126,34 @@ module _ (file : List ℕ) (start end : ℕ) where
     meets = refl;
   })
 
-  checks : Checking file start end (checkedAnswer (checkTable plain file start end))
-  checks = Checking.checking (record {
+  checks : (manner : ℕ) → Checking file start end manner (checkedAnswer (checkTable (readBy manner) file start end))
+  unfolding mannerNamed
+  checks manner = Checking.checking (record {
     lifetimes = ([], tt);
-    given = (lend file, (start, (end, tt)));
-    answer = checkedAnswer (checkTable plain file start end);
-    left = (lend file, (start, (end, tt)));
+    given = (lend file, (start, (end, (manner, tt))));
+    answer = checkedAnswer (checkTable (readBy manner) file start end);
+    left = (lend file, (start, (end, (manner, tt))));
     meets = refl;
   })
 
-  module _ (key : List ℕ) where
-    gets : Getting file start end key (lookedAnswer (lookupValue plain file start end key))
+  module _ (key : List ℕ) (manner : ℕ) where
+    gets : Getting file start end key manner (lookedAnswer (lookupValue (readBy manner) file start end key))
+    unfolding mannerNamed
     gets = Getting.getting (record {
       lifetimes = ([], ([], tt));
-      given = (lend file, (start, (end, (lend key, tt))));
-      answer = lookedAnswer (lookupValue plain file start end key);
-      left = (lend file, (start, (end, (lend key, tt))));
+      given = (lend file, (start, (end, (lend key, (manner, tt)))));
+      answer = lookedAnswer (lookupValue (readBy manner) file start end key);
+      left = (lend file, (start, (end, (lend key, (manner, tt)))));
       meets = refl;
     })
 
-    gets-table : GettingTable file start end key (lookedAnswer (lookupTable plain file start end key))
+    gets-table : GettingTable file start end key manner (lookedAnswer (lookupTable (readBy manner) file start end key))
+    unfolding mannerNamed
     gets-table = GettingTable.getting-table (record {
       lifetimes = ([], ([], tt));
-      given = (lend file, (start, (end, (lend key, tt))));
-      answer = lookedAnswer (lookupTable plain file start end key);
-      left = (lend file, (start, (end, (lend key, tt))));
+      given = (lend file, (start, (end, (lend key, (manner, tt)))));
+      answer = lookedAnswer (lookupTable (readBy manner) file start end key);
+      left = (lend file, (start, (end, (lend key, (manner, tt)))));
       meets = refl;
     })
 
@@ -168,8 +172,8 @@ every-call-answers = record {
   starts = λ m. (_, _, starts m);
   calls = λ m call. (_, _, _, does m call);
   opens = λ file start end. (_, opens file start end);
-  gets = λ file start end key. (_, gets file start end key);
-  tables = λ file start end key. (_, gets-table file start end key);
+  gets = λ file start end key manner. (_, gets file start end key manner);
+  tables = λ file start end key manner. (_, gets-table file start end key manner);
   lists = λ file start end position out. (_, _, lists file start end position out);
-  checks = λ file start end. (_, checks file start end);
+  checks = λ file start end manner. (_, checks file start end manner);
 }

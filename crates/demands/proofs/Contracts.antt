@@ -5,7 +5,7 @@ use mathlib.Core.Path.{_≡_, refl, ap}
 use mathlib.Core.List.{List, [], _∷_}
 use denote.Ref.{now}
 use lib.ListN.{length}
-use Rattle.words.specs.Hash.{plain}
+use Rattle.words.specs.Hash.{ruleOf}
 use Rattle.layout.specs.Answer.{headerLaidNumber}
 use Rattle.layout.specs.Header.{readHeader, headerLaid, withHeader}
 use Rattle.layout.specs.Table.{openTable}
@@ -28,12 +28,13 @@ use Rattle.gvdb.specs.declared.reading.GvdbPlace.{GvdbPlace}
 use Rattle.gvdb.specs.declared.reading.GvdbKey.{GvdbKey}
 use Rattle.gvdb.specs.declared.checking.GvdbCheck.{GvdbCheck}
 use Rattle.gvdb.specs.Header.{orderOf, headedAnswer}
+use Rattle.gvdb.specs.Manner.{formOf, mannerNamed}
 use Rattle.gvdb.specs.Building.{told, addedAnswer, insertedAnswer, countedAnswer}
 use Rattle.gvdb.specs.Reading.{openedAnswer, lookedAnswer, listedAnswer}
 use Rattle.gvdb.specs.Checking.{checkedAnswer}
 use Rattle.gvdb.specs.Writing.{writtenAnswer}
 use Rattle.demands.specs.Calls.{Call, Does, Starts}
-use Rattle.demands.specs.Readers.{ReadingHeader, LayingHeader, Opening, Getting, GettingTable, Listing, Checking}
+use Rattle.demands.specs.Readers.{readBy, ReadingHeader, LayingHeader, Opening, Getting, GettingTable, Listing, Checking}
 use Rattle.demands.specs.Model as model
 
 -- ---- the builder's calls
@@ -43,21 +44,21 @@ answers m (Call.new-table separator) = model.added (newTable (m .words) (m .aren
 answers m (Call.insert-value t key value) = model.inserted (insertValue (m .words) (m .arena) t key value .answer)
 answers m (Call.insert-table t key guest) = model.inserted (insertTable (m .words) (m .arena) t key guest .answer)
 answers m (Call.item-count t) = model.counted (itemCount (m .words) (m .arena) t)
-answers m (Call.write t buffer) = model.written (writeAnswer (m .words) (m .arena) t (length buffer))
+answers m (Call.write t buffer manner) = model.written (writeAnswer (ruleOf (formOf manner)) (m .words) (m .arena) t (length buffer))
 
 unfoldable pub leaves : Memory → Call → Memory
 leaves m (Call.new-table separator) = newTable (m .words) (m .arena) separator .after
 leaves m (Call.insert-value t key value) = insertValue (m .words) (m .arena) t key value .after
 leaves m (Call.insert-table t key guest) = insertTable (m .words) (m .arena) t key guest .after
 leaves m (Call.item-count t) = m
-leaves m (Call.write t buffer) = m
+leaves m (Call.write t buffer manner) = m
 
 unfoldable pub leavesLent : Memory → Call → List ℕ
 leavesLent m (Call.new-table separator) = []
 leavesLent m (Call.insert-value t key value) = []
 leavesLent m (Call.insert-table t key guest) = []
 leavesLent m (Call.item-count t) = []
-leavesLent m (Call.write t buffer) = imageAfter (m .words) (m .arena) t buffer
+leavesLent m (Call.write t buffer manner) = imageAfter (ruleOf (formOf manner)) (m .words) (m .arena) t buffer
 
 pub record DoesAs (m : Memory) (call : Call) (said : List ℕ) (after : Memory) (left : List ℕ) : Type 0 where
   pub answer : said ≡ answers m call
@@ -108,15 +109,18 @@ laying-header-is target big start end number left (LayingHeader.laying-header c)
 pub opening-is : (file : List ℕ) (start end : ℕ) (r : GvdbOpened) → Opening file start end r → r ≡ openedAnswer (openTable file start end)
 opening-is file start end r (Opening.opening c) = c .meets
 
-pub getting-is : (file : List ℕ) (start end : ℕ) (key : List ℕ) (r : GvdbPlace) → Getting file start end key r → r ≡ lookedAnswer (lookupValue plain file start end key)
-getting-is file start end key r (Getting.getting c) = c .meets
+pub getting-is : (file : List ℕ) (start end : ℕ) (key : List ℕ) (manner : ℕ) (r : GvdbPlace) → Getting file start end key manner r → r ≡ lookedAnswer (lookupValue (readBy manner) file start end key)
+unfolding mannerNamed
+getting-is file start end key manner r (Getting.getting c) = c .meets
 
-pub getting-table-is : (file : List ℕ) (start end : ℕ) (key : List ℕ) (r : GvdbPlace) → GettingTable file start end key r → r ≡ lookedAnswer (lookupTable plain file start end key)
-getting-table-is file start end key r (GettingTable.getting-table c) = c .meets
+pub getting-table-is : (file : List ℕ) (start end : ℕ) (key : List ℕ) (manner : ℕ) (r : GvdbPlace) → GettingTable file start end key manner r → r ≡ lookedAnswer (lookupTable (readBy manner) file start end key)
+unfolding mannerNamed
+getting-table-is file start end key manner r (GettingTable.getting-table c) = c .meets
 
 pub listing-is : (file : List ℕ) (start end : ℕ) (position : ℕ) (out : List ℕ) (r : GvdbKey) (left : List ℕ) → Listing file start end position out r left
     → (r ≡ listedAnswer (listed (keyAt file start end position) (length out) position)) × (left ≡ written (keyAt file start end position) out)
 listing-is file start end position out r left (Listing.listing c) = c .meets
 
-pub checking-is : (file : List ℕ) (start end : ℕ) (r : GvdbCheck) → Checking file start end r → r ≡ checkedAnswer (checkTable plain file start end)
-checking-is file start end r (Checking.checking c) = c .meets
+pub checking-is : (file : List ℕ) (start end manner : ℕ) (r : GvdbCheck) → Checking file start end manner r → r ≡ checkedAnswer (checkTable (readBy manner) file start end)
+unfolding mannerNamed
+checking-is file start end manner r (Checking.checking c) = c .meets

@@ -7,7 +7,7 @@ use native.Mathlib.Omega.{arith}
 use borrow.Author.Tests.{lt-ltb, ltb-true}
 use lib.Dec.{ltb}
 use lib.ListN.{length, take, getD}
-use Rattle.words.specs.Hash.{plain}
+use Rattle.words.specs.Hash.{ruleOf}
 use Rattle.words.proofs.ChoiceLaws.{both, pick-true}
 use Rattle.text.specs.Utf8.{isUtf8}
 use Rattle.layout.specs.Answer.{openedNumber}
@@ -43,9 +43,10 @@ use Rattle.history.proofs.ModelCalls.{count-alike}
 use Rattle.build_memory.proofs.MeaningLaws.{length-listed}
 use Rattle.gvdb.specs.declared.reading.GvdbOpened.{GvdbOpened}
 use Rattle.gvdb.specs.Reading.{openedCount, openedAnswer}
+use Rattle.gvdb.specs.Manner.{formOf}
 use Rattle.gvdb.specs.Writing.{writtenImage}
 use Rattle.demands.specs.Calls.{Call, Does, Event, History}
-use Rattle.demands.specs.Readers.{Opening}
+use Rattle.demands.specs.Readers.{readBy, Opening}
 use Rattle.demands.specs.Last.{Held, held}
 use Rattle.demands.specs.Model.{counted, written}
 use Rattle.demands.specs.Demand2.{Tells, Opens, Answers, Demand2}
@@ -66,43 +67,43 @@ unfolding written writtenNumber writtenImage
 image-by (Written.Image a b c) start end size e = cc
 image-by (Written.Refused why) start end size e = absurd (refused-some why (let z : 0 ≡ _ = ap (λ (l : List ℕ). getD l 0 0) e in sym z))
 
-pub image-is : (m : Memory) (t : ℕ) (buffer : List ℕ) (start end size : ℕ) (after : Memory) (left : List ℕ)
-    → Does m (Call.write t buffer) (0 ∷ start ∷ end ∷ size ∷ []) after left
-    → (writeAnswer (m .words) (m .arena) t (length buffer) ≡ Written.Image start end size) × (left ≡ imageAfter (m .words) (m .arena) t buffer)
+pub image-is : (m : Memory) (t : ℕ) (buffer : List ℕ) (manner start end size : ℕ) (after : Memory) (left : List ℕ)
+    → Does m (Call.write t buffer manner) (0 ∷ start ∷ end ∷ size ∷ []) after left
+    → (writeAnswer (ruleOf (formOf manner)) (m .words) (m .arena) t (length buffer) ≡ Written.Image start end size) × (left ≡ imageAfter (ruleOf (formOf manner)) (m .words) (m .arena) t buffer)
 unfolding answers leavesLent
-image-is m t buffer start end size after left d =
-    let did = does-is m (Call.write t buffer) _ after left d in
+image-is m t buffer manner start end size after left d =
+    let did = does-is m (Call.write t buffer manner) _ after left d in
     (image-by _ start end size (did .answer), did .lent)
 
 -- ---- a table of the memory, as a reader finds it
 
-module _ (file ws ar : List ℕ) (t at : ℕ) (back : TableBack plain file (stateOf ws ar) t at) where
+module _ (manner : ℕ) (file ws ar : List ℕ) (t at : ℕ) (back : TableBack (readBy manner) file (stateOf ws ar) t at) where
   abbrev end : ℕ
   end = endOf (stateOf ws ar) t at
 
   -- a key is told what stands under it; `inside` is what holds of a nested table
   told : (inside : ℕ → ℕ → ℕ → Type 0)
       → ((i u : ℕ) → Has (stateOf ws ar t .members) i → stateOf ws ar t .content i ≡ Content.nested u
-      → (from : ℕ) × (to : ℕ) × (lookupTable plain file at end (stateOf ws ar t .key i) ≡ Looked.Pointer from to) × inside u from to)
-      → (key : List ℕ) → isUtf8 key ≡ true → (h : Held) → heldIn (meaning ws ar .items) t key ≡ h → Tells inside file at end key h
+      → (from : ℕ) × (to : ℕ) × (lookupTable (readBy manner) file at end (stateOf ws ar t .key i) ≡ Looked.Pointer from to) × inside u from to)
+      → (key : List ℕ) → isUtf8 key ≡ true → (h : Held) → heldIn (meaning ws ar .items) t key ≡ h → Tells manner inside file at end key h
   unfolding Tells
-  told inside nest key text Held.nothing is = both-told file at end key 12 (back .absent key text (no-item ws ar t key is))
+  told inside nest key text Held.nothing is = both-told file at end key manner 12 (back .absent key text (no-item ws ar t key is))
   told inside nest key text (Held.holds (Content.bytes value)) is =
       let x = item-of ws ar t key (Content.bytes value) is in
-      subst (λ (k : List ℕ). Tells inside file at end k (Held.holds (Content.bytes value))) (x .key)
-      (bytes-told file at end _ value (back .values (x .item) value (x .has) (x .content)), table-told file at end _ 13 (back .no-table (x .item) value (x .has) (x .content)))
+      subst (λ (k : List ℕ). Tells manner inside file at end k (Held.holds (Content.bytes value))) (x .key)
+      (bytes-told file at end _ manner value (back .values (x .item) value (x .has) (x .content)), table-told file at end _ manner 13 (back .no-table (x .item) value (x .has) (x .content)))
   told inside nest key text (Held.holds (Content.nested u)) is =
       let x = item-of ws ar t key (Content.nested u) is in
       let n = nest (x .item) u (x .has) (x .content) in
-      subst (λ (k : List ℕ). Tells inside file at end k (Held.holds (Content.nested u))) (x .key) (
-        value-told file at end _ 13 (back .no-value (x .item) u (x .has) (x .content)),
+      subst (λ (k : List ℕ). Tells manner inside file at end k (Held.holds (Content.nested u))) (x .key) (
+        value-told file at end _ manner 13 (back .no-value (x .item) u (x .has) (x .content)),
         λ r g.
-            let p = pointer-told file at end _ (n .0) (n .1) (n .2) r g in
+            let p = pointer-told file at end _ manner (n .0) (n .1) (n .2) r g in
             (p .0, rw (p .1, p .2) (n .3)),
       )
   told inside nest key text (Held.holds Content.container) is =
       let x = item-of ws ar t key Content.container is in
-      subst (λ (k : List ℕ). Tells inside file at end k (Held.holds Content.container)) (x .key) (both-told file at end _ 13 (back .containers (x .item) (x .has) (x .content)))
+      subst (λ (k : List ℕ). Tells manner inside file at end k (Held.holds Content.container)) (x .key) (both-told file at end _ manner 13 (back .containers (x .item) (x .has) (x .content)))
 
 -- the builder counts as many items as the table opens with
 counts : (ws ar : List ℕ) → Honest ws ar → (t : ℕ) → t < tableTotal ws → itemCount ws ar t ≡ Counted.Items (length (stateOf ws ar t .members))
@@ -131,7 +132,7 @@ guest-known ws ar whole t i u has is =
 
 -- ---- demand 2
 
-module _ (room : ℕ) (events : List Event) (m : Memory) (h : History room events m) (file : List ℕ) where
+module _ (room : ℕ) (events : List Event) (m : Memory) (h : History room events m) (manner : ℕ) (file : List ℕ) where
   abbrev state : State
   state = stateOf (m .words) (m .arena)
 
@@ -139,30 +140,30 @@ module _ (room : ℕ) (events : List Event) (m : Memory) (h : History room event
   holds : (t : ℕ) (key : List ℕ) → heldIn (meant m .items) t key ≡ held t key events
   holds t key = ap (λ (b : Builder). heldIn (b .items) t key) (memory-means-the-builder room events m h) ∙ held-is t key room events m h
 
-  pub reads : fullyValid (m .words) (m .arena) ≡ true → (d t at : ℕ) → t < tableTotal (m .words) → AllBack plain file state d t at → Answers events m file d t at (endOf state t at)
+  pub reads : fullyValid (m .words) (m .arena) ≡ true → (d t at : ℕ) → t < tableTotal (m .words) → AllBack (readBy manner) file state d t at → Answers manner events m file d t at (endOf state t at)
   unfolding AllBack Answers
   reads whole zero t at known back = back
   reads whole (suc d) t at known back = (
     opens m (reached-honest _ _ (stands room events m h .reached)) file t at (endOf state t at) known (back .0 .opens),
     λ key text.
-        subst (Tells (λ u from to. Answers events m file d u from to) file at (endOf state t at) key) (holds t key)
-        (told file (m .words) (m .arena) t at (back .0) (λ u from to. Answers events m file d u from to)
+        subst (Tells manner (λ u from to. Answers manner events m file d u from to) file at (endOf state t at) key) (holds t key)
+        (told manner file (m .words) (m .arena) t at (back .0) (λ u from to. Answers manner events m file d u from to)
         (λ i u has is.
         let r = back .1 i u has is in
         (r .0, endOf state u (r .0), r .1, reads whole d u (r .0) (guest-known (m .words) (m .arena) whole t i u has is) (r .2)))
         key text (heldIn (meant m .items) t key) refl),
-    λ key bad. both-told file at (endOf state t at) key 8 (back .0 .not-text key bad),
+    λ key bad. both-told file at (endOf state t at) key manner 8 (back .0 .not-text key bad),
   )
 
 pub demand-2 : Demand2
 unfolding freeStanding
-demand-2 room events m h t buffer start end size after left d =
-    let (is, laid) = image-is m t buffer start end size after left d in
-    let s = success (m .words) (m .arena) t (length buffer) start end size is in
-    let back = success-back (m .words) (m .arena) buffer t start end size is in
+demand-2 room events m h t buffer manner start end size after left d =
+    let (is, laid) = image-is m t buffer manner start end size after left d in
+    let s = success (ruleOf (formOf manner)) (m .words) (m .arena) t (length buffer) start end size is in
+    let back = success-back (readBy manner) (m .words) (m .arena) buffer t start end size is in
     let known : t < tableTotal (m .words) = ltb-true _ _ (both (ltb t (tableTotal (m .words))) _ (s .root) .0) in
-    let file = take size (imageAfter (m .words) (m .arena) t buffer) in
-    subst (λ (bytes : List ℕ). Answers events m (take size bytes) deepest t start end) (sym laid)
-    (subst (λ (at : ℕ). Answers events m file deepest t at end) (sym (s .starts))
-    (subst (λ (to : ℕ). Answers events m file deepest t headerSize to) (sym (s .ends))
-    (reads room events m h file (s .whole) deepest t headerSize known back)))
+    let file = take size (imageAfter (ruleOf (formOf manner)) (m .words) (m .arena) t buffer) in
+    subst (λ (bytes : List ℕ). Answers manner events m (take size bytes) deepest t start end) (sym laid)
+    (subst (λ (at : ℕ). Answers manner events m file deepest t at end) (sym (s .starts))
+    (subst (λ (to : ℕ). Answers manner events m file deepest t headerSize to) (sym (s .ends))
+    (reads room events m h manner file (s .whole) deepest t headerSize known back)))

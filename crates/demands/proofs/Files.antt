@@ -9,7 +9,7 @@ use lib.Dec.{ltb, eqb}
 use lib.ListN.{length, take, length-append}
 use Rattle.words.specs.Choice.{pick}
 use Rattle.words.specs.Store.{putAt, zeros}
-use Rattle.words.specs.Hash.{plain}
+use Rattle.words.specs.Hash.{ruleOf}
 use Rattle.words.proofs.ChoiceLaws.{both}
 use Rattle.words.proofs.StoreLaws.{length-put, length-zeros}
 use Rattle.layout.specs.declared.header.ByteOrder.{ByteOrder}
@@ -35,16 +35,18 @@ use Rattle.build_tables.specs.Table.{freeStanding}
 use Rattle.write_numbers.specs.Roster.{stateOf}
 use Rattle.write.specs.declared.Written.{Written}
 use Rattle.write.specs.Write.{writeAnswer, imageAfter}
+use Rattle.gvdb.specs.Manner.{formOf}
 use Rattle.gvdb.specs.Header.{orderOf, headedAnswer}
 use Rattle.demands.specs.Success.{Success}
 use Rattle.demands.specs.File.{FileLaid, HeaderIsTaken, HeaderReadsBack, Demand2File, Demand3File}
+use Rattle.demands.specs.Readers.{readBy}
 use Rattle.demands.specs.Demand3.{AllPass}
 use Rattle.demands.proofs.Contracts.{reading-header-is, laying-header-is}
 use Rattle.demands.proofs.Write.{success, writable, short-image, file-is}
 use Rattle.demands.proofs.Demands.{image-is, reads}
 use Rattle.demands.proofs.Checks.{all-pass}
 
-module _ (m : Memory) (t big start end number : ℕ) (file : List ℕ) (f : FileLaid m t big start end number file) where
+module _ (m : Memory) (t big manner start end number : ℕ) (file : List ℕ) (f : FileLaid m t big manner start end number file) where
   abbrev ws : List ℕ
   ws = m .words
 
@@ -55,27 +57,27 @@ module _ (m : Memory) (t big start end number : ℕ) (file : List ℕ) (f : File
   state = stateOf ws ar
 
   abbrev image : List ℕ
-  image = imageOf plain state t
+  image = imageOf (ruleOf (formOf manner)) state t
 
-  wrote : (writeAnswer ws ar t (length (f .buffer)) ≡ Written.Image start end (f .size)) × (f .left ≡ imageAfter ws ar t (f .buffer))
-  wrote = image-is m t (f .buffer) start end (f .size) (f .after) (f .left) (f .writes)
+  wrote : (writeAnswer (ruleOf (formOf manner)) ws ar t (length (f .buffer)) ≡ Written.Image start end (f .size)) × (f .left ≡ imageAfter (ruleOf (formOf manner)) ws ar t (f .buffer))
+  wrote = image-is m t (f .buffer) manner start end (f .size) (f .after) (f .left) (f .writes)
 
-  made : Success ws ar t (length (f .buffer)) start end (f .size)
-  made = success ws ar t (length (f .buffer)) start end (f .size) (wrote .0)
+  made : Success (ruleOf (formOf manner)) ws ar t (length (f .buffer)) start end (f .size)
+  made = success (ruleOf (formOf manner)) ws ar t (length (f .buffer)) start end (f .size) (wrote .0)
 
   -- the target of the header is the image
   target : take (f .size) (f .left) ≡ image
-  target = ap (take (f .size)) (wrote .1) ∙ file-is ws ar (f .buffer) t start end (f .size) (wrote .0)
+  target = ap (take (f .size)) (wrote .1) ∙ file-is (ruleOf (formOf manner)) ws ar (f .buffer) t start end (f .size) (wrote .0)
 
   good : Writable state deepest t
-  good = writable ws ar (f .buffer) t start end (f .size) (wrote .0)
+  good = writable (ruleOf (formOf manner)) ws ar (f .buffer) t start end (f .size) (wrote .0)
 
   short : length image ≤ longestFile
-  short = short-image ws ar (f .buffer) t start end (f .size) (wrote .0)
+  short = short-image (ruleOf (formOf manner)) ws ar (f .buffer) t start end (f .size) (wrote .0)
 
   long : headerSize ≤ length image
   unfolding imageOf
-  long = omega (arith, length-append (zeros headerSize) (tableBytes plain state deepest t headerSize), length-zeros headerSize)
+  long = omega (arith, length-append (zeros headerSize) (tableBytes (ruleOf (formOf manner)) state deepest t headerSize), length-zeros headerSize)
 
   abbrev header : List ℕ
   header = headerBytes (orderOf big) start end
@@ -94,11 +96,11 @@ module _ (m : Memory) (t big start end number : ℕ) (file : List ℕ) (f : File
   short-file : length file ≤ longestFile
   short-file = omega (arith, ap length is-headed, length-put image 0 header, short)
 
-  held : Holds file headerSize (tableBytes plain state deepest t headerSize)
-  held = rw is-headed (headed-held plain state t header (length-header (orderOf big) start end))
+  held : Holds file headerSize (tableBytes (ruleOf (formOf manner)) state deepest t headerSize)
+  held = rw is-headed (headed-held (ruleOf (formOf manner)) state t header (length-header (orderOf big) start end))
 
-  pub back : AllBack plain file state deepest t headerSize
-  back = root-back plain state t good file short-file held
+  pub back : AllBack (readBy manner) file state deepest t headerSize
+  back = root-back (readBy manner) state t good file short-file held
 
   -- the root pointer lies in the file, so each of its numbers is one of four bytes
   end-small : end < 2 ^ 32
@@ -117,11 +119,11 @@ module _ (m : Memory) (t big start end number : ℕ) (file : List ℕ) (f : File
       ap readHeader (did .1 ∙ ap (λ (l : List ℕ). withHeader l (orderOf big) start end) target)
       ∙ laid-is-read image (orderOf big) start end taken start-small end-small
 
-  pub file-passes : AllPass file deepest start end
-  file-passes = rw (made .starts, made .ends) (all-pass file ws ar deepest t headerSize back (root-passes plain state t good file short-file held))
+  pub file-passes : AllPass manner file deepest start end
+  file-passes = rw (made .starts, made .ends) (all-pass manner file ws ar deepest t headerSize back (root-passes (readBy manner) state t good file short-file held))
 
 pub header-is-taken : HeaderIsTaken
-header-is-taken m t big start end number file f = number-0 m t big start end number file f
+header-is-taken m t big manner start end number file f = number-0 m t big manner start end number file f
 
 order-number : (big : ℕ) → orderNumber (orderOf big) ≡ pick (eqb big 0) 0 1
 unfolding orderOf pick
@@ -133,16 +135,16 @@ order-number big = by (eqb big 0)
 
 pub header-reads-back : HeaderReadsBack
 unfolding headedAnswer headedNumber headedOrder headedPointer
-header-reads-back m t big start end number file f r reading =
-    reading-header-is file r reading ∙ ap headedAnswer (read-again m t big start end number file f)
+header-reads-back m t big manner start end number file f r reading =
+    reading-header-is file r reading ∙ ap headedAnswer (read-again m t big manner start end number file f)
     ∙ ap (λ (b : ℕ). record { number = 0; big = b; start = start; end = end }) (order-number big)
 
 pub demand-2-file : Demand2File
 unfolding freeStanding
-demand-2-file room events m h t big start end number file f =
-    let s = made m t big start end number file f in
+demand-2-file room events m h t big manner start end number file f =
+    let s = made m t big manner start end number file f in
     let known : t < tableTotal (m .words) = ltb-true _ _ (both (ltb t (tableTotal (m .words))) _ (s .root) .0) in
-    rw (s .starts, s .ends) (reads room events m h file (s .whole) deepest t headerSize known (back m t big start end number file f))
+    rw (s .starts, s .ends) (reads room events m h manner file (s .whole) deepest t headerSize known (back m t big manner start end number file f))
 
 pub demand-3-file : Demand3File
-demand-3-file m t big start end number file f = file-passes m t big start end number file f
+demand-3-file m t big manner start end number file f = file-passes m t big manner start end number file f

@@ -10,7 +10,8 @@ use Rattle.layout.specs.Limits.{deepest}
 use Rattle.layout.specs.Sizes.{chunkSize}
 use Rattle.words.specs.Choice.{pick}
 use Rattle.words.specs.Below.{someBelow}
-use Rattle.words.specs.Hash.{plain, hashFrom, hashBy}
+use Rattle.words.specs.declared.hash.Form.{Form}
+use Rattle.words.specs.Hash.{plain, hashFrom, hashBy, ruleOf}
 use Rattle.words.specs.Store.{part}
 use Rattle.words.proofs.ChoiceLaws.{pick-true, pick-false}
 use Rattle.text.specs.Compare.{sameBytes}
@@ -32,6 +33,7 @@ use Rattle.build_values.specs.Answer.{insertedNumber, insertedKind, insertedAt}
 use Rattle.write.specs.declared.Written.{Written}
 use Rattle.write.specs.Write.{emptyHeld, hasEmpty, tooLong, writtenNumber}
 use Rattle.gvdb.specs.declared.reading.GvdbPlace.{GvdbPlace}
+use Rattle.gvdb.specs.Manner.{formOf}
 use Rattle.gvdb.specs.Writing.{writtenImage}
 use Rattle.demands.specs.Calls.{Call, Does, Starts, Event, event, History}
 use Rattle.demands.specs.Readers.{Getting}
@@ -79,7 +81,7 @@ named-is : hasEmpty (tablesOf b) deepest 0 ≡ false
 unfolding hasEmpty emptyHeld someBelow rowsOf membersBelow entryAt pick itemOf byIndex byBucket runsBelow run bucketOf hashesOf hashBy hashFrom keyOrder sortKeys insertKey precedes
 named-is = refl
 
-size-is : length (imageIn b 0) ≡ 104
+size-is : length (imageIn plain b 0) ≡ 104
 unfolding imageIn two
 size-is = lengths .2
 
@@ -91,10 +93,15 @@ free-is : freeStanding b 0 ≡ true
 unfolding freeStanding standingAt
 free-is = refl
 
-write-says : (buffer : List ℕ) → 104 ≤ length buffer → says b (Call.write 0 buffer) ≡ 0 ∷ 24 ∷ 88 ∷ 104 ∷ []
+base-form : formOf 0 ≡ Form.Plain
+unfolding formOf pick
+base-form = refl
+
+write-says : (buffer : List ℕ) → 104 ≤ length buffer → says b (Call.write 0 buffer 0) ≡ 0 ∷ 24 ∷ 88 ∷ 104 ∷ []
 unfolding says written write writtenNumber writtenImage tooLong chunkSize
 write-says buffer room =
-    ap written
+    ap (λ (f : Form). written (write (ruleOf f) b 0 (length buffer))) base-form
+    ∙ ap written
     (pick-true _ _ free-is
     ∙ pick-false _ _ named-is
     ∙ pick-false _ _ (ap (λ (n : ℕ). ltb 16777216 n || ltb (length buffer) n) size-is ∙ le-ltb (length buffer) 104 room)
@@ -130,14 +137,14 @@ module _ (start : Memory) (long : leastWords ≤ length (start .words)) (eight :
 
   module _ (buffer : List ℕ) (room : 104 ≤ length buffer) where
     abbrev left : List ℕ
-    left = leavesLent m2 (Call.write 0 buffer)
+    left = leavesLent m2 (Call.write 0 buffer 0)
 
-    wrote : Does m2 (Call.write 0 buffer) (0 ∷ 24 ∷ 88 ∷ 104 ∷ []) m2 left
+    wrote : Does m2 (Call.write 0 buffer 0) (0 ∷ 24 ∷ 88 ∷ 104 ∷ []) m2 left
     unfolding leaves
     wrote =
-        let d = does m2 (Call.write 0 buffer) in
-        let e = calls-are-the-models 8 workedEvents m2 history (Call.write 0 buffer) _ _ _ d .0 ∙ ap (λ (x : Builder). says x (Call.write 0 buffer)) built-is ∙ write-says buffer room in
-        subst (λ (x : List ℕ). Does m2 (Call.write 0 buffer) x m2 left) e d
+        let d = does m2 (Call.write 0 buffer 0) in
+        let e = calls-are-the-models 8 workedEvents m2 history (Call.write 0 buffer 0) _ _ _ d .0 ∙ ap (λ (x : Builder). says x (Call.write 0 buffer 0)) built-is ∙ write-says buffer room in
+        subst (λ (x : List ℕ). Does m2 (Call.write 0 buffer 0) x m2 left) e d
 
     holds-it : held 0 workedKey workedEvents ≡ Held.holds (Content.bytes (7 ∷ []))
     unfolding held last puts orElse pick sameBytes
@@ -147,11 +154,11 @@ module _ (start : Memory) (long : leastWords ≤ length (start .words)) (eight :
     unfolding isUtf8 firstBad goodFrom oneMore stepLen sequenceLen firstOf isTwo startsThree startsFour tail between
     text-it = refl
 
-    finds : (r : GvdbPlace) → Getting (take 104 left) 24 88 workedKey r → (r .number ≡ 0) × (part (take 104 left) (r .start) (r .end - r .start) ≡ 7 ∷ [])
+    finds : (r : GvdbPlace) → Getting (take 104 left) 24 88 workedKey 0 r → (r .number ≡ 0) × (part (take 104 left) (r .start) (r .end - r .start) ≡ 7 ∷ [])
     unfolding Answers Tells
     finds =
-        subst (Tells (λ u from to. Answers workedEvents m2 (take 104 left) 7 u from to) (take 104 left) 24 88 workedKey) holds-it
-        (demand-2 8 workedEvents m2 history 0 buffer 24 88 104 m2 left wrote .1 workedKey text-it) .0
+        subst (Tells 0 (λ u from to. Answers 0 workedEvents m2 (take 104 left) 7 u from to) (take 104 left) 24 88 workedKey) holds-it
+        (demand-2 8 workedEvents m2 history 0 buffer 0 24 88 104 m2 left wrote .1 workedKey text-it) .0
 
 pub worked-history : WorkedHistory
 worked-history start buffer long eight room =

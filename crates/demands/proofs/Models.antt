@@ -7,6 +7,7 @@ use native.Mathlib.Omega.{arith}
 use borrow.Author.Tests.{leb-true}
 use lib.Dec.{leb}
 use lib.ListN.{length}
+use Rattle.words.specs.Hash.{ruleOf}
 use Rattle.layout.specs.Limits.{deepest}
 use Rattle.layout.specs.Sizes.{chunkSize, headerSize}
 use Rattle.words.specs.Choice.{pick}
@@ -25,6 +26,7 @@ use Rattle.history.specs.Reached.{Reached}
 use Rattle.history.proofs.History.{reached-honest, honest-whole}
 use Rattle.history.proofs.ModelCalls.{free-standing-same, value-alike, table-alike, count-alike, fresh-alike}
 use Rattle.history.proofs.ModelNesting.{nest-alike}
+use Rattle.gvdb.specs.Manner.{formOf}
 use Rattle.demands.specs.Calls.{Call, Does, Starts, Event, History}
 use Rattle.demands.specs.Model.{tablesOf, imageIn, write, added, inserted, counted, written, says, makes, lays, built, CallsAreTheModels}
 use Rattle.demands.specs.Means.{meant, MemoryMeansTheBuilder}
@@ -33,10 +35,10 @@ use Rattle.demands.proofs.Contracts.{answers, leaves, leavesLent, does-
 -- ---- one call on honest memory
 
 module _ (m : Memory) (honest : Honest (m .words) (m .arena)) where
-  write-same : (t room : ℕ) → writeAnswer (m .words) (m .arena) t room ≡ write (meant m) t room
+  write-same : (rule : ℕ → ℕ) (t room : ℕ) → writeAnswer rule (m .words) (m .arena) t room ≡ write rule (meant m) t room
   unfolding writeAnswer write imageFor imageIn stateOf freeStanding
-  write-same t room =
-      let size = length (imageIn (meant m) t) in
+  write-same rule t room =
+      let size = length (imageIn rule (meant m) t) in
       let named : Written =
       pick (hasEmpty (tablesOf (meant m)) deepest t) (Written.Refused EmptyKey)
       (pick (tooLong room size) (Written.Refused ImageTooLong) (Written.Image headerSize (headerSize + chunkSize (length (tablesOf (meant m) t .members))) size)) in
@@ -49,7 +51,7 @@ module _ (m : Memory) (honest : Honest (m .words) (m .arena)) where
   says-same (Call.insert-value t key value) = ap inserted (value-alike (m .words) (m .arena) honest t key value .answer)
   says-same (Call.insert-table t key guest) = ap inserted (nest-alike (m .words) (m .arena) honest t key guest .answer)
   says-same (Call.item-count t) = ap counted (count-alike (m .words) (m .arena) honest t)
-  says-same (Call.write t buffer) = ap written (write-same t (length buffer))
+  says-same (Call.write t buffer manner) = ap written (write-same (ruleOf (formOf manner)) t (length buffer))
 
   makes-same : (call : Call) → meant (leaves m call) ≡ makes (meant m) call
   unfolding leaves makes
@@ -57,7 +59,7 @@ module _ (m : Memory) (honest : Honest (m .words) (m .arena)) where
   makes-same (Call.insert-value t key value) = value-alike (m .words) (m .arena) honest t key value .after
   makes-same (Call.insert-table t key guest) = nest-alike (m .words) (m .arena) honest t key guest .after
   makes-same (Call.item-count t) = refl
-  makes-same (Call.write t buffer) = refl
+  makes-same (Call.write t buffer manner) = refl
 
   lays-same : (call : Call) → leavesLent m call ≡ lays (meant m) call
   unfolding leavesLent lays imageAfter imageFor imageIn stateOf
@@ -65,7 +67,7 @@ module _ (m : Memory) (honest : Honest (m .words) (m .arena)) where
   lays-same (Call.insert-value t key value) = refl
   lays-same (Call.insert-table t key guest) = refl
   lays-same (Call.item-count t) = refl
-  lays-same (Call.write t buffer) = ap (λ (answer : Written). laidBy answer (imageFor (m .words) (m .arena) t) buffer) (write-same t (length buffer))
+  lays-same (Call.write t buffer manner) = ap (λ (answer : Written). laidBy answer (imageFor (ruleOf (formOf manner)) (m .words) (m .arena) t) buffer) (write-same (ruleOf (formOf manner)) t (length buffer))
 
 -- ---- all calls
 
@@ -82,7 +84,7 @@ leaves-reached m (Call.new-table separator) r = Reached.new-table _ _ r separato
 leaves-reached m (Call.insert-value t key value) r = Reached.insert-value _ _ r t key value
 leaves-reached m (Call.insert-table t key guest) r = Reached.insert-table _ _ r t key guest
 leaves-reached m (Call.item-count t) r = r
-leaves-reached m (Call.write t buffer) r = r
+leaves-reached m (Call.write t buffer manner) r = r
 
 -- what a history leaves: memory that calls reach, and that means the builder
 pub record Stands (room : ℕ) (events : List Event) (m : Memory) : Type 0 where

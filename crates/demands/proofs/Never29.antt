@@ -5,6 +5,7 @@ use mathlib.Core.Bool.{Bool, true}
 use mathlib.Core.List.{List}
 use native.Mathlib.Omega.{arith}
 use lib.ListN.{length}
+use Rattle.words.specs.Hash.{ruleOf}
 use Rattle.words.specs.Choice.{pick}
 use Rattle.words.proofs.ChoiceLaws.{pick-with, pick-true}
 use Rattle.layout.specs.declared.refusal.Refusal.{Refusal}
@@ -24,6 +25,7 @@ use Rattle.build_rules.specs.Valid.{fullyValid}
 use Rattle.write.specs.declared.Written.{Written}
 use Rattle.write.specs.Write.{writeAnswer, writtenNumber}
 use Rattle.history.proofs.History.{reached-valid, reached-whole}
+use Rattle.gvdb.specs.Manner.{formOf}
 use Rattle.demands.specs.Calls.{Call, number}
 use Rattle.demands.specs.Model as model
 use Rattle.demands.specs.Demand1.{Never29}
@@ -96,9 +98,9 @@ unfolding itemCount countedNumber
 count-other ws ar t ok =
     rw (pick-true _ _ ok) (other-pick countedNumber (λ (a : Counted). a) _ _ _ (record { other = λ e. omega arith }) (record { other = λ e. omega arith }))
 
-write-other : (ws ar : List ℕ) (t room : ℕ) → fullyValid ws ar ≡ true → Other writtenNumber (writeAnswer ws ar t room)
+write-other : (rule : ℕ → ℕ) (ws ar : List ℕ) (t room : ℕ) → fullyValid ws ar ≡ true → Other writtenNumber (writeAnswer rule ws ar t room)
 unfolding writeAnswer writtenNumber
-write-other ws ar t room ok =
+write-other rule ws ar t room ok =
     let same : Written → Written = λ (a : Written). a in
     rw (pick-true _ _ ok)
     (other-pick writtenNumber same _ _ _
@@ -112,7 +114,7 @@ call-other m ok whole (Call.new-table given) e = new-table-other (m .words) (m .
 call-other m ok whole (Call.insert-value t key value) e = value-other (m .words) (m .arena) t key value ok .other e
 call-other m ok whole (Call.insert-table t key guest) e = table-other (m .words) (m .arena) t key guest ok .other e
 call-other m ok whole (Call.item-count t) e = count-other (m .words) (m .arena) t ok .other e
-call-other m ok whole (Call.write t buffer) e = write-other (m .words) (m .arena) t (length buffer) whole .other e
+call-other m ok whole (Call.write t buffer manner) e = write-other (ruleOf (formOf manner)) (m .words) (m .arena) t (length buffer) whole .other e
 
 pub never-29 : Never29
 never-29 room events m h call said after left d e =

@@ -5,6 +5,7 @@ use mathlib.Core.Bool.{Bool, true, false}
 use mathlib.Core.List.{List}
 use lib.Dec.{eqb, leb, ltb}
 use lib.ListN.{length}
+use Rattle.words.specs.Hash.{ruleOf}
 use Rattle.words.specs.Choice.{pick}
 use Rattle.words.specs.Store.{putAt}
 use Rattle.words.proofs.ChoiceLaws.{pick-with}
@@ -33,6 +34,7 @@ use Rattle.write.specs.Write.{writeAnswer, writtenNumber, imageFor, laidBy, ima
 use Rattle.gvdb.specs.declared.reading.GvdbKey.{GvdbKey}
 use Rattle.gvdb.specs.Header.{orderOf}
 use Rattle.gvdb.specs.Reading.{listedAnswer}
+use Rattle.gvdb.specs.Manner.{formOf}
 use Rattle.demands.specs.Calls.{Call, lent, accepted}
 use Rattle.demands.specs.Model as model
 use Rattle.demands.specs.Demand1.{RefusalChangesNothing, RefusedStartChangesNothing, RefusedListingWritesNothing, RefusedHeaderWritesNothing}
@@ -79,7 +81,7 @@ call-still m (Call.insert-value t key value) n =
 call-still m (Call.insert-table t key guest) n =
     (inserted-still m (insertTable (m .words) (m .arena) t key guest) (table-still (m .words) (m .arena) t key guest) _ refl n, refl)
 call-still m (Call.item-count t) n = (refl, refl)
-call-still m (Call.write t buffer) n = (refl, laid-still (writeAnswer (m .words) (m .arena) t (length buffer)) (imageFor (m .words) (m .arena) t) buffer n)
+call-still m (Call.write t buffer manner) n = (refl, laid-still (writeAnswer (ruleOf (formOf manner)) (m .words) (m .arena) t (length buffer)) (imageFor (ruleOf (formOf manner)) (m .words) (m .arena) t) buffer n)
 
 pub refusal-changes-nothing : RefusalChangesNothing
 refusal-changes-nothing m call said after left d n =

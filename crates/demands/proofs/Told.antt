@@ -2,7 +2,6 @@
 use Prim.Native.Nat.{ℕ, _-_}
 use mathlib.Core.Path.{_≡_, refl, sym, ap, _∙_}
 use mathlib.Core.List.{List}
-use Rattle.words.specs.Hash.{plain}
 use Rattle.words.specs.Store.{part}
 use Rattle.layout.proofs.RefusalLaws.{refused-some}
 use Rattle.read.specs.declared.lookup.Looked.{Looked}
@@ -11,7 +10,7 @@ use Rattle.read.specs.Answer.{lookedNumber, lookedPointer}
 use Rattle.laid.specs.Told as laid
 use Rattle.gvdb.specs.declared.reading.GvdbPlace.{GvdbPlace}
 use Rattle.gvdb.specs.Reading.{lookedAnswer}
-use Rattle.demands.specs.Readers.{Getting, GettingTable}
+use Rattle.demands.specs.Readers.{readBy, Getting, GettingTable}
 use Rattle.demands.specs.Demand2.{Both}
 use Rattle.demands.proofs.Contracts.{getting-is, getting-table-is}
 
@@ -21,36 +20,36 @@ unfolding lookedAnswer lookedNumber lookedPointer
 pointer-of (Looked.Pointer start end) e = refl
 pointer-of (Looked.Refused why) e = absurd (refused-some why e)
 
-module _ (file : List ℕ) (start end : ℕ) (key : List ℕ) where
+module _ (file : List ℕ) (start end : ℕ) (key : List ℕ) (manner : ℕ) where
   -- a number
-  pub value-told : (n : ℕ) → lookedNumber (lookupValue plain file start end key) ≡ n → (r : GvdbPlace) → Getting file start end key r → r .number ≡ n
+  pub value-told : (n : ℕ) → lookedNumber (lookupValue (readBy manner) file start end key) ≡ n → (r : GvdbPlace) → Getting file start end key manner r → r .number ≡ n
   unfolding lookedAnswer
-  value-told n is r g = ap (λ (x : GvdbPlace). x .number) (getting-is file start end key r g) ∙ is
+  value-told n is r g = ap (λ (x : GvdbPlace). x .number) (getting-is file start end key manner r g) ∙ is
 
-  pub table-told : (n : ℕ) → lookedNumber (lookupTable plain file start end key) ≡ n → (r : GvdbPlace) → GettingTable file start end key r → r .number ≡ n
+  pub table-told : (n : ℕ) → lookedNumber (lookupTable (readBy manner) file start end key) ≡ n → (r : GvdbPlace) → GettingTable file start end key manner r → r .number ≡ n
   unfolding lookedAnswer
-  table-told n is r g = ap (λ (x : GvdbPlace). x .number) (getting-table-is file start end key r g) ∙ is
+  table-told n is r g = ap (λ (x : GvdbPlace). x .number) (getting-table-is file start end key manner r g) ∙ is
 
-  pub both-told : (n : ℕ) → laid.Both plain file start end key n → Both file start end key n
+  pub both-told : (n : ℕ) → laid.Both (readBy manner) file start end key n → Both manner file start end key n
   both-told n both = record { value = value-told n (both .value); table = table-told n (both .table) }
 
   -- a value's bytes
-  pub bytes-told : (value : List ℕ) → laid.Views file (lookupValue plain file start end key) value
-      → (r : GvdbPlace) → Getting file start end key r → (r .number ≡ 0) × (part file (r .start) (r .end - r .start) ≡ value)
+  pub bytes-told : (value : List ℕ) → laid.Views file (lookupValue (readBy manner) file start end key) value
+      → (r : GvdbPlace) → Getting file start end key manner r → (r .number ≡ 0) × (part file (r .start) (r .end - r .start) ≡ value)
   unfolding lookedAnswer lookedNumber lookedPointer
   bytes-told value views r g =
-      let is = getting-is file start end key r g ∙ ap lookedAnswer (views .place) in
+      let is = getting-is file start end key manner r g ∙ ap lookedAnswer (views .place) in
       (ap (λ (x : GvdbPlace). x .number) is, ap (λ (x : GvdbPlace). part file (x .start) (x .end - x .start)) is ∙ views .view)
 
   -- a nested table's pointer, and back
-  pub pointer-told : (from to : ℕ) → lookupTable plain file start end key ≡ Looked.Pointer from to → (r : GvdbPlace) → GettingTable file start end key r
+  pub pointer-told : (from to : ℕ) → lookupTable (readBy manner) file start end key ≡ Looked.Pointer from to → (r : GvdbPlace) → GettingTable file start end key manner r
       → (r .number ≡ 0) × (r .start ≡ from) × (r .end ≡ to)
   unfolding lookedAnswer lookedNumber lookedPointer
   pointer-told from to at r g =
-      let is = getting-table-is file start end key r g ∙ ap lookedAnswer at in
+      let is = getting-table-is file start end key manner r g ∙ ap lookedAnswer at in
       (ap (λ (x : GvdbPlace). x .number) is, ap (λ (x : GvdbPlace). x .start) is, ap (λ (x : GvdbPlace). x .end) is)
 
-  pub told-pointer : (r : GvdbPlace) → GettingTable file start end key r → r .number ≡ 0 → lookupTable plain file start end key ≡ Looked.Pointer (r .start) (r .end)
+  pub told-pointer : (r : GvdbPlace) → GettingTable file start end key manner r → r .number ≡ 0 → lookupTable (readBy manner) file start end key ≡ Looked.Pointer (r .start) (r .end)
   told-pointer r g e =
-      let is = getting-table-is file start end key r g in
-      rw is (pointer-of (lookupTable plain file start end key) (ap (λ (x : GvdbPlace). x .number) (sym is) ∙ e))
+      let is = getting-table-is file start end key manner r g in
+      rw is (pointer-of (lookupTable (readBy manner) file start end key) (ap (λ (x : GvdbPlace). x .number) (sym is) ∙ e))

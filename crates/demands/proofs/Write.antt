@@ -9,7 +9,6 @@ use lib.Dec.{ltb}
 use lib.ListN.{length, take}
 use Rattle.words.specs.Choice.{pick}
 use Rattle.words.specs.Store.{putAt}
-use Rattle.words.specs.Hash.{plain}
 use Rattle.words.proofs.StoreLaws.{part-put}
 use Rattle.layout.specs.declared.refusal.Refusal.the-variants.{MemoryBroken, TableUnknown, EmptyKey, ImageTooLong}
 use Rattle.layout.specs.Limits.{longestFile, deepest}
@@ -57,8 +56,8 @@ not-too-long room size e = let (file, buffer) = neither (ltb longestFile size) (
 
 pub success : SuccessSays
 unfolding writeAnswer
-success ws ar t room start end size e =
-    let image = length (imageFor ws ar t) in
+success rule ws ar t room start end size e =
+    let image = length (imageFor rule ws ar t) in
     let good = Written.Image headerSize (headerSize + chunkSize (length (stateOf ws ar t .members))) image in
     let p = passed good start end size (fullyValid ws ar) (freeStanding ws t) (hasEmpty (stateOf ws ar) deepest t) (tooLong room image) e in
     let (short, fits) = not-too-long room image (p .long-is) in
@@ -77,37 +76,37 @@ success ws ar t room start end size e =
 -- ---- the file
 
 -- what stands in the buffer
-after-success : (ws ar buffer : List ℕ) (t start end size : ℕ) → writeAnswer ws ar t (length buffer) ≡ Written.Image start end size
-    → imageAfter ws ar t buffer ≡ putAt buffer 0 (imageFor ws ar t)
+after-success : (rule : ℕ → ℕ) (ws ar buffer : List ℕ) (t start end size : ℕ) → writeAnswer rule ws ar t (length buffer) ≡ Written.Image start end size
+    → imageAfter rule ws ar t buffer ≡ putAt buffer 0 (imageFor rule ws ar t)
 unfolding imageAfter laidBy
-after-success ws ar buffer t start end size e = ap (λ (answer : Written). laidBy answer (imageFor ws ar t) buffer) e
+after-success rule ws ar buffer t start end size e = ap (λ (answer : Written). laidBy answer (imageFor rule ws ar t) buffer) e
 
 pub success-lays : SuccessLays
-success-lays ws ar buffer t start end size e =
-    let s = success ws ar t (length buffer) start end size e in
-    rw (after-success ws ar buffer t start end size e, s .long) (part-put buffer 0 (imageFor ws ar t) (omega arith))
+success-lays rule ws ar buffer t start end size e =
+    let s = success rule ws ar t (length buffer) start end size e in
+    rw (after-success rule ws ar buffer t start end size e, s .long) (part-put buffer 0 (imageFor rule ws ar t) (omega arith))
 
-module _ (ws ar buffer : List ℕ) (t start end size : ℕ) (e : writeAnswer ws ar t (length buffer) ≡ Written.Image start end size) where
-  made : Success ws ar t (length buffer) start end size
-  made = success ws ar t (length buffer) start end size e
+module _ (rule : ℕ → ℕ) (ws ar buffer : List ℕ) (t start end size : ℕ) (e : writeAnswer rule ws ar t (length buffer) ≡ Written.Image start end size) where
+  made : Success rule ws ar t (length buffer) start end size
+  made = success rule ws ar t (length buffer) start end size e
 
   pub writable : Writable (stateOf ws ar) deepest t
   writable = free-standing-writable ws ar (made .whole) t (made .root)
 
-  pub short-image : length (imageOf plain (stateOf ws ar) t) ≤ longestFile
+  pub short-image : length (imageOf rule (stateOf ws ar) t) ≤ longestFile
   unfolding imageFor
   short-image = omega (arith, made .long, made .short)
 
-  pub file-is : take size (imageAfter ws ar t buffer) ≡ imageOf plain (stateOf ws ar) t
+  pub file-is : take size (imageAfter rule ws ar t buffer) ≡ imageOf rule (stateOf ws ar) t
   unfolding imageFor
-  file-is = success-lays ws ar buffer t start end size e
+  file-is = success-lays rule ws ar buffer t start end size e
 
 -- a file of the bytes laid reads back, with all that is nested in it
 pub success-back : SuccessReadsBack
-success-back ws ar buffer t start end size e =
-    rw (file-is ws ar buffer t start end size e) (alone-back plain (stateOf ws ar) t (writable ws ar buffer t start end size e) (short-image ws ar buffer t start end size e))
+success-back manner ws ar buffer t start end size e =
+    rw (file-is (manner .byte) ws ar buffer t start end size e) (alone-back manner (stateOf ws ar) t (writable (manner .byte) ws ar buffer t start end size e) (short-image (manner .byte) ws ar buffer t start end size e))
 
 -- and passes the check
 pub success-passes : SuccessPasses
-success-passes ws ar buffer t start end size e =
-    rw (file-is ws ar buffer t start end size e) (alone-passes plain (stateOf ws ar) t (writable ws ar buffer t start end size e) (short-image ws ar buffer t start end size e))
+success-passes manner ws ar buffer t start end size e =
+    rw (file-is (manner .byte) ws ar buffer t start end size e) (alone-passes manner (stateOf ws ar) t (writable (manner .byte) ws ar buffer t start end size e) (short-image (manner .byte) ws ar buffer t start end size e))

@@ -17,10 +17,10 @@ pub record EveryCallAnswers : Type 0 where
   pub starts : (m : Memory) → (said : ℕ) × (after : Memory) × Starts m said after
   pub calls : (m : Memory) (call : Call) → (said : List ℕ) × (after : Memory) × (left : List ℕ) × Does m call said after left
   pub opens : (file : List ℕ) (start end : ℕ) → (r : GvdbOpened) × Opening file start end r
-  pub gets : (file : List ℕ) (start end : ℕ) (key : List ℕ) → (r : GvdbPlace) × Getting file start end key r
-  pub tables : (file : List ℕ) (start end : ℕ) (key : List ℕ) → (r : GvdbPlace) × GettingTable file start end key r
+  pub gets : (file : List ℕ) (start end : ℕ) (key : List ℕ) (manner : ℕ) → (r : GvdbPlace) × Getting file start end key manner r
+  pub tables : (file : List ℕ) (start end : ℕ) (key : List ℕ) (manner : ℕ) → (r : GvdbPlace) × GettingTable file start end key manner r
   pub lists : (file : List ℕ) (start end position : ℕ) (out : List ℕ) → (r : GvdbKey) × (left : List ℕ) × Listing file start end position out r left
-  pub checks : (file : List ℕ) (start end : ℕ) → (r : GvdbCheck) × Checking file start end r
+  pub checks : (file : List ℕ) (start end manner : ℕ) → (r : GvdbCheck) × Checking file start end manner r
 
 -- "a/b"
 abbrev pub workedKey : List ℕ
@@ -34,5 +34,5 @@ workedEvents = event (Call.insert-value 0 workedKey (7 ∷ [])) (0 ∷ 0 ∷ 0 �
 abbrev pub WorkedHistory : Type 0
 WorkedHistory =
     (start : Memory) (buffer : List ℕ) → leastWords ≤ length (start .words) → length (start .arena) ≡ 8 → 104 ≤ length buffer
-    → (m : Memory) × (left : List ℕ) × History 8 workedEvents m × Does m (Call.write 0 buffer) (0 ∷ 24 ∷ 88 ∷ 104 ∷ []) m left
-    × ((r : GvdbPlace) → Getting (take 104 left) 24 88 workedKey r → (r .number ≡ 0) × (part (take 104 left) (r .start) (r .end - r .start) ≡ 7 ∷ []))
+    → (m : Memory) × (left : List ℕ) × History 8 workedEvents m × Does m (Call.write 0 buffer 0) (0 ∷ 24 ∷ 88 ∷ 104 ∷ []) m left
+    × ((r : GvdbPlace) → Getting (take 104 left) 24 88 workedKey 0 r → (r .number ≡ 0) × (part (take 104 left) (r .start) (r .end - r .start) ≡ 7 ∷ []))

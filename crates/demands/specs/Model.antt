@@ -8,7 +8,7 @@ use lib.ListN.{length}
 use Rattle.layout.specs.Limits.{deepest}
 use Rattle.layout.specs.Sizes.{chunkSize, headerSize}
 use Rattle.words.specs.Choice.{pick}
-use Rattle.words.specs.Hash.{plain}
+use Rattle.words.specs.Hash.{ruleOf}
 use Rattle.layout.specs.declared.refusal.Refusal.the-variants.{TableUnknown, EmptyKey, ImageTooLong}
 use Rattle.model.specs.Table.{State, rowsOf}
 use Rattle.model.specs.declared.Inserted.{Inserted}
@@ -21,23 +21,24 @@ use Rattle.build_tables.specs.Answer.{addedNumber, addedTable, countedNumber, c
 use Rattle.build_values.specs.Answer.{insertedNumber, insertedKind, insertedAt}
 use Rattle.write.specs.declared.Written.{Written}
 use Rattle.write.specs.Write.{hasEmpty, tooLong, laidBy, writtenNumber}
+use Rattle.gvdb.specs.Manner.{formOf}
 use Rattle.gvdb.specs.Writing.{writtenImage}
 use Rattle.demands.specs.Calls.{Call, Does, Event, History}
 
--- the tables of a builder, and the image of one of them
+-- the tables of a builder, and the image of one of them by a rule for a byte of the hash
 abbrev pub tablesOf : Builder → State
 tablesOf b = rowsOf (b .items)
 
-unfoldable pub imageIn : Builder → ℕ → List ℕ
-imageIn b t = imageOf plain (tablesOf b) t
+unfoldable pub imageIn : (ℕ → ℕ) → Builder → ℕ → List ℕ
+imageIn rule b t = imageOf rule (tablesOf b) t
 
 -- a write: 24, 30 anywhere in the table or those nested in it, 31; else the root pointer and the image's length
-unfoldable pub write : Builder → ℕ → ℕ → Written
-write b t room =
+unfoldable pub write : (ℕ → ℕ) → Builder → ℕ → ℕ → Written
+write rule b t room =
     pick (freeStanding b t)
     (pick (hasEmpty (tablesOf b) deepest t) (Written.Refused EmptyKey)
-    (pick (tooLong room (length (imageIn b t))) (Written.Refused ImageTooLong)
-    (Written.Image headerSize (headerSize + chunkSize (length (tablesOf b t .members))) (length (imageIn b t)))))
+    (pick (tooLong room (length (imageIn rule b t))) (Written.Refused ImageTooLong)
+    (Written.Image headerSize (headerSize + chunkSize (length (tablesOf b t .members))) (length (imageIn rule b t)))))
     (Written.Refused TableUnknown)
 
 -- each answer as numbers, in the order of its struct
@@ -59,7 +60,7 @@ says b (Call.new-table separator) = added (newTable b separator .answer)
 says b (Call.insert-value t key value) = inserted (insertValue b t key value .answer)
 says b (Call.insert-table t key guest) = inserted (insertTable b t key guest .answer)
 says b (Call.item-count t) = counted (itemCount b t)
-says b (Call.write t buffer) = written (write b t (length buffer))
+says b (Call.write t buffer manner) = written (write (ruleOf (formOf manner)) b t (length buffer))
 
 -- the builder that it leaves
 unfoldable pub makes : Builder → Call → Builder
@@ -67,7 +68,7 @@ makes b (Call.new-table separator) = newTable b separator .after
 makes b (Call.insert-value t key value) = insertValue b t key value .after
 makes b (Call.insert-table t key guest) = insertTable b t key guest .after
 makes b (Call.item-count t) = b
-makes b (Call.write t buffer) = b
+makes b (Call.write t buffer manner) = b
 
 -- what it leaves in the buffer that it was lent besides
 unfoldable pub lays : Builder → Call → List ℕ
@@ -75,7 +76,7 @@ lays b (Call.new-table separator) = []
 lays b (Call.insert-value t key value) = []
 lays b (Call.insert-table t key guest) = []
 lays b (Call.item-count t) = []
-lays b (Call.write t buffer) = laidBy (write b t (length buffer)) (imageIn b t) buffer
+lays b (Call.write t buffer manner) = laidBy (write (ruleOf (formOf manner)) b t (length buffer)) (imageIn (ruleOf (formOf manner)) b t) buffer
 
 -- the builder after a history
 unfoldable pub built : ℕ → List Event → Builder

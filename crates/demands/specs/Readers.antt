@@ -1,7 +1,9 @@
--- Calls of the readers and of the check, as their contracts say what they do: the file, the pointer, and what else is given; then the answer.
+-- Calls of the readers and of the check, as their contracts say what they do: the file, the pointer, and what else is given, the number of a manner last; then the answer.
 use Prim.Native.Nat.{ℕ}
 use mathlib.Core.List.{List}
 use denote.Ref.{now}
+use Rattle.read.specs.Find.{Manner, mannerOf}
+use Rattle.gvdb.specs.Manner.{formOf}
 use Rattle.gvdb.specs.declared.header.GvdbHeader.{GvdbHeader}
 use Rattle.gvdb.specs.declared.reading.GvdbOpened.{GvdbOpened}
 use Rattle.gvdb.specs.declared.reading.GvdbPlace.{GvdbPlace}
@@ -23,6 +25,10 @@ use Rattle.gvdb.proofs.checking.gvdb_check.Kinds as check-kinds
 use Rattle.gvdb.proofs.checking.gvdb_check.Reads as check-reads
 use Rattle.demands.specs.Calls.{Met}
 
+-- the manner that a number names
+abbrev pub readBy : ℕ → Manner
+readBy manner = mannerOf (record { form = formOf manner })
+
 -- reading the header of a file
 pub data ReadingHeader : List ℕ → GvdbHeader → Type 0 where
   reading-header : (c : Met read-header-kinds.ps read-header-kinds.r read-header-reads.Post) → ReadingHeader (now (c .given .0)) (c .answer)
@@ -37,12 +43,12 @@ pub data Opening : List ℕ → ℕ → ℕ → GvdbOpened → Type 0 where
   opening : (c : Met open-kinds.ps open-kinds.r open-reads.Post) → Opening (now (c .given .0)) (c .given .1 .0) (c .given .1 .1 .0) (c .answer)
 
 -- looking a key up there, as a value and as a nested table
-pub data Getting : List ℕ → ℕ → ℕ → List ℕ → GvdbPlace → Type 0 where
-  getting : (c : Met get-kinds.ps get-kinds.r get-reads.Post) → Getting (now (c .given .0)) (c .given .1 .0) (c .given .1 .1 .0) (now (c .given .1 .1 .1 .0)) (c .answer)
+pub data Getting : List ℕ → ℕ → ℕ → List ℕ → ℕ → GvdbPlace → Type 0 where
+  getting : (c : Met get-kinds.ps get-kinds.r get-reads.Post) → Getting (now (c .given .0)) (c .given .1 .0) (c .given .1 .1 .0) (now (c .given .1 .1 .1 .0)) (c .given .1 .1 .1 .1 .0) (c .answer)
 
-pub data GettingTable : List ℕ → ℕ → ℕ → List ℕ → GvdbPlace → Type 0 where
+pub data GettingTable : List ℕ → ℕ → ℕ → List ℕ → ℕ → GvdbPlace → Type 0 where
   getting-table : (c : Met get-table-kinds.ps get-table-kinds.r get-table-reads.Post)
-      → GettingTable (now (c .given .0)) (c .given .1 .0) (c .given .1 .1 .0) (now (c .given .1 .1 .1 .0)) (c .answer)
+      → GettingTable (now (c .given .0)) (c .given .1 .0) (c .given .1 .1 .0) (now (c .given .1 .1 .1 .0)) (c .given .1 .1 .1 .1 .0) (c .answer)
 
 -- listing the key at a position into a lent buffer: what it held, the answer, and what it holds then
 pub data Listing : List ℕ → ℕ → ℕ → ℕ → List ℕ → GvdbKey → List ℕ → Type 0 where
@@ -50,5 +56,5 @@ pub data Listing : List ℕ → ℕ → ℕ → ℕ → List ℕ → GvdbKey →
       → Listing (now (c .given .0)) (c .given .1 .0) (c .given .1 .1 .0) (c .given .1 .1 .1 .0) (now (c .given .1 .1 .1 .1 .0)) (c .answer) (now (c .left .1 .1 .1 .1 .0))
 
 -- checking the table
-pub data Checking : List ℕ → ℕ → ℕ → GvdbCheck → Type 0 where
-  checking : (c : Met check-kinds.ps check-kinds.r check-reads.Post) → Checking (now (c .given .0)) (c .given .1 .0) (c .given .1 .1 .0) (c .answer)
+pub data Checking : List ℕ → ℕ → ℕ → ℕ → GvdbCheck → Type 0 where
+  checking : (c : Met check-kinds.ps check-kinds.r check-reads.Post) → Checking (now (c .given .0)) (c .given .1 .0) (c .given .1 .1 .0) (c .given .1 .1 .1 .0) (c .answer)

@@ -5,7 +5,7 @@ use mathlib.Core.Path.{_≡_}
 use mathlib.Core.Bool.{true, false}
 use mathlib.Core.List.{List}
 use lib.ListN.{length, take}
-use Rattle.words.specs.Hash.{plain}
+use Rattle.read.specs.Find.{Manner}
 use Rattle.layout.specs.Limits.{longestFile, deepest}
 use Rattle.layout.specs.Sizes.{headerSize}
 use Rattle.image.specs.WellFormed.{Writable}
@@ -23,11 +23,11 @@ abbrev pub FreeStandingWritable : Type 0
 FreeStandingWritable = (ws ar : List ℕ) → fullyValid ws ar ≡ true → (t : ℕ) → freeStanding ws t ≡ true → Writable (stateOf ws ar) deepest t
 
 -- what a success says of the memory, the table, the room and the answer
-pub record Success (ws ar : List ℕ) (t room start end size : ℕ) : Type 0 where
+pub record Success (rule : ℕ → ℕ) (ws ar : List ℕ) (t room start end size : ℕ) : Type 0 where
   -- the answer: the pointer of the root table, behind the header, and the length of the image
   pub starts : start ≡ headerSize
   pub ends : end ≡ endOf (stateOf ws ar) t headerSize
-  pub long : size ≡ length (imageFor ws ar t)
+  pub long : size ≡ length (imageFor rule ws ar t)
   -- the memory is fully valid, the table is free-standing, and no item in it or in those nested in it has the empty key
   pub whole : fullyValid ws ar ≡ true
   pub root : freeStanding ws t ≡ true
@@ -37,20 +37,20 @@ pub record Success (ws ar : List ℕ) (t room start end size : ℕ) : Type 0 whe
   pub short : size ≤ longestFile
 
 abbrev pub SuccessSays : Type 0
-SuccessSays = (ws ar : List ℕ) (t room start end size : ℕ) → writeAnswer ws ar t room ≡ Written.Image start end size → Success ws ar t room start end size
+SuccessSays = (rule : ℕ → ℕ) (ws ar : List ℕ) (t room start end size : ℕ) → writeAnswer rule ws ar t room ≡ Written.Image start end size → Success rule ws ar t room start end size
 
 -- the bytes at the buffer's front, as many as the answer says, are the image: a file of them reads back as the table, and every table in it passes the check
 abbrev pub SuccessLays : Type 0
 SuccessLays =
-    (ws ar buffer : List ℕ) (t start end size : ℕ) → writeAnswer ws ar t (length buffer) ≡ Written.Image start end size
-    → take size (imageAfter ws ar t buffer) ≡ imageFor ws ar t
+    (rule : ℕ → ℕ) (ws ar buffer : List ℕ) (t start end size : ℕ) → writeAnswer rule ws ar t (length buffer) ≡ Written.Image start end size
+    → take size (imageAfter rule ws ar t buffer) ≡ imageFor rule ws ar t
 
 abbrev pub SuccessReadsBack : Type 0
 SuccessReadsBack =
-    (ws ar buffer : List ℕ) (t start end size : ℕ) → writeAnswer ws ar t (length buffer) ≡ Written.Image start end size
-    → AllBack plain (take size (imageAfter ws ar t buffer)) (stateOf ws ar) deepest t headerSize
+    (manner : Manner) (ws ar buffer : List ℕ) (t start end size : ℕ) → writeAnswer (manner .byte) ws ar t (length buffer) ≡ Written.Image start end size
+    → AllBack manner (take size (imageAfter (manner .byte) ws ar t buffer)) (stateOf ws ar) deepest t headerSize
 
 abbrev pub SuccessPasses : Type 0
 SuccessPasses =
-    (ws ar buffer : List ℕ) (t start end size : ℕ) → writeAnswer ws ar t (length buffer) ≡ Written.Image start end size
-    → AllPass plain (take size (imageAfter ws ar t buffer)) (stateOf ws ar) deepest t headerSize
+    (manner : Manner) (ws ar buffer : List ℕ) (t start end size : ℕ) → writeAnswer (manner .byte) ws ar t (length buffer) ≡ Written.Image start end size
+    → AllPass manner (take size (imageAfter (manner .byte) ws ar t buffer)) (stateOf ws ar) deepest t headerSize

@@ -4,3 +4,4 @@ pub mod Building
 pub mod Writing
 pub mod Worked
 pub mod Header
+pub mod Manner

@@ -1,11 +1,13 @@
 // Checking a table.
+use crate::manner::manner_of;
 use check_table::check::Checked;
 use layout::refusal::Refusal;
 use layout::refusal::bad_at;
 use layout::refusal::number_of;
 ghost use mathlib.Core.Path.{_≡_};
-ghost use Rattle.words.specs.Hash.{plain};
+ghost use Rattle.read.specs.Find.{mannerOf};
 ghost use Rattle.check_table.specs.Rules.{checkTable};
+ghost use Rattle.gvdb.specs.Manner.{mannerNamed};
 ghost use Rattle.gvdb.specs.Checking.{checkedAnswer};
 
 // 0 for a sound table; with 40 the rule broken, 1 to 6, and the item; with rule 1 the number that listing that item ends with, and with 9 where the
@@ -21,11 +23,12 @@ pub struct GvdbCheck {
 
 // Checks the table at a pointer.
 #[no_mangle]
-pub extern "C" fn gvdb_check(file: &[u8], start: u32, end: u32) -> GvdbCheck
-    ensures { λ r. ⌜ r ≡ checkedAnswer (checkTable plain (now (file .entry)) start end) ⌝ }
+pub extern "C" fn gvdb_check(file: &[u8], start: u32, end: u32, manner: u32) -> GvdbCheck
+    ensures { λ r. ⌜ r ≡ checkedAnswer (checkTable (mannerOf (mannerNamed manner)) (now (file .entry)) start end) ⌝ }
 {
+    let named = manner_of(manner);
     let broken = number_of(Refusal::CheckBroken);
-    match check_table::check::check_table(file, start, end) {
+    match check_table::check::check_table(file, start, end, named) {
         Checked::Sound => GvdbCheck {
             number: 0,
             rule: 0,

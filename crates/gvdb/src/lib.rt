@@ -3,5 +3,6 @@
 pub mod building;
 pub mod checking;
 pub mod header;
+pub mod manner;
 pub mod reading;
 pub mod writing;

@@ -1,4 +1,5 @@
 // Reading a table: opening, lookups, listings.
+use crate::manner::manner_of;
 use layout::refusal::bad_at;
 use layout::refusal::number_of;
 use layout::table::Opened;
@@ -10,12 +11,13 @@ use read_listing::listing::Valued;
 use words::wide::byte_word;
 ghost use mathlib.Core.Path.{_≡_};
 ghost use lib.ListN.{length};
-ghost use Rattle.words.specs.Hash.{plain};
 ghost use Rattle.text.specs.Utf8.{firstBad};
 ghost use Rattle.layout.specs.Table.{openTable};
+ghost use Rattle.read.specs.Find.{mannerOf};
 ghost use Rattle.read.specs.Lookup.{lookupValue, lookupTable};
 ghost use Rattle.read_listing.specs.Listing.{keyAt, listed, written, valueAt};
 ghost use Rattle.read_listing.specs.Children.{nextChild};
+ghost use Rattle.gvdb.specs.Manner.{mannerNamed};
 ghost use Rattle.gvdb.specs.Reading.{openedAnswer, lookedAnswer, listedAnswer, valuedAnswer, childedAnswer};
 
 // What a table opens as.
@@ -121,19 +123,27 @@ fn place_of(looked: Looked) -> GvdbPlace
 // gvdb-rs: get_bytes.
 // Looks up the value of a key.
 #[no_mangle]
-pub extern "C" fn gvdb_get(file: &[u8], start: u32, end: u32, key: &[u8]) -> GvdbPlace
-    ensures { λ r. ⌜ r ≡ lookedAnswer (lookupValue plain (now (file .entry)) start end (now (key .entry))) ⌝ }
+pub extern "C" fn gvdb_get(file: &[u8], start: u32, end: u32, key: &[u8], manner: u32) -> GvdbPlace
+    ensures { λ r. ⌜ r ≡ lookedAnswer (lookupValue (mannerOf (mannerNamed manner)) (now (file .entry)) start end (now (key .entry))) ⌝ }
 {
-    place_of(read::lookup::lookup_value(file, start, end, key))
+    let named = manner_of(manner);
+    place_of(read::lookup::lookup_value(file, start, end, key, named))
 }
 
 // gvdb-rs: get_hash_table.
 // Looks up the nested table of a key.
 #[no_mangle]
-pub extern "C" fn gvdb_get_table(file: &[u8], start: u32, end: u32, key: &[u8]) -> GvdbPlace
-    ensures { λ r. ⌜ r ≡ lookedAnswer (lookupTable plain (now (file .entry)) start end (now (key .entry))) ⌝ }
+pub extern "C" fn gvdb_get_table(
+    file: &[u8],
+    start: u32,
+    end: u32,
+    key: &[u8],
+    manner: u32,
+) -> GvdbPlace
+    ensures { λ r. ⌜ r ≡ lookedAnswer (lookupTable (mannerOf (mannerNamed manner)) (now (file .entry)) start end (now (key .entry))) ⌝ }
 {
-    place_of(read::lookup::lookup_table(file, start, end, key))
+    let named = manner_of(manner);
+    place_of(read::lookup::lookup_table(file, start, end, key, named))
 }
 
 // gvdb-rs: Keys::next.
@@ -211,11 +221,13 @@ pub extern "C" fn gvdb_next_child(
     end: u32,
     key: &[u8],
     position: usize,
+    manner: u32,
 ) -> GvdbChild
-    ensures { λ r. ⌜ r ≡ childedAnswer (nextChild plain (now (file .entry)) start end (now (key .entry)) position) ⌝ }
+    ensures { λ r. ⌜ r ≡ childedAnswer (nextChild (mannerOf (mannerNamed manner)) (now (file .entry)) start end (now (key .entry)) position) ⌝ }
 {
     let cursor = Cursor { at: position };
-    match cursor.next_child(file, start, end, key) {
+    let named = manner_of(manner);
+    match cursor.next_child(file, start, end, key, named) {
         Childed::Child {
             index,
             kind,

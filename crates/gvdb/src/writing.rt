@@ -1,9 +1,12 @@
 // Writing an image.
+use crate::manner::form_of;
 use layout::refusal::number_of;
 use write::Written;
 ghost use mathlib.Core.Path.{_≡_};
 ghost use lib.ListN.{length};
+ghost use Rattle.words.specs.Hash.{ruleOf};
 ghost use Rattle.write.specs.Write.{writeAnswer, imageAfter};
+ghost use Rattle.gvdb.specs.Manner.{formOf};
 ghost use Rattle.gvdb.specs.Writing.{writtenAnswer};
 
 // The root pointer, and the image's length.
@@ -24,12 +27,14 @@ pub extern "C" fn gvdb_write(
     arena: &[u8],
     table: u32,
     image: &mut [u8],
+    manner: u32,
 ) -> GvdbImage
-    ensures said { λ r. ⌜ r ≡ writtenAnswer (writeAnswer (now (words .entry)) (now (arena .entry)) table (length (now (image .entry)))) ⌝ }
+    ensures said { λ r. ⌜ r ≡ writtenAnswer (writeAnswer (ruleOf (formOf manner)) (now (words .entry)) (now (arena .entry)) table (length (now (image .entry)))) ⌝ }
     ensures kept { λ _. ⌜ now (words .exit) ≡ now (words .entry) ⌝ }
-    ensures wrote { λ _. ⌜ now (image .exit) ≡ imageAfter (now (words .entry)) (now (arena .entry)) table (now (image .entry)) ⌝ }
+    ensures wrote { λ _. ⌜ now (image .exit) ≡ imageAfter (ruleOf (formOf manner)) (now (words .entry)) (now (arena .entry)) table (now (image .entry)) ⌝ }
 {
-    match write::write::write(words, arena, table, image) {
+    let form = form_of(manner);
+    match write::write::write(words, arena, table, image, form) {
         Written::Image { start, end, length } => GvdbImage {
             number: 0,
             start,

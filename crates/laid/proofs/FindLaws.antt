@@ -16,7 +16,7 @@ use Rattle.layout.specs.Limits.{longestFile}
 use Rattle.layout.specs.Item.{itemAt}
 use Rattle.read.specs.declared.lookup.Found.{Found}
 use Rattle.read.specs.Chain.{Joined, keyOf}
-use Rattle.read.specs.Find.{bloomPasses, bucketWord, runOf, findItem}
+use Rattle.read.specs.Find.{Manner, bloomPasses, bucketWord, runOf, findItem}
 use Rattle.read_listing.proofs.Plain.{runFor, found-names, not-found}
 use Rattle.image.specs.Plan.{Plan, planBytes}
 use Rattle.image.specs.Laid.{Holds}
@@ -29,7 +29,7 @@ use Rattle.laid.proofs.KeyLaws.{key-whole}
 same-key : {j : Joined} {a b : List ℕ} → j ≡ Joined.joined a → j ≡ Joined.joined b → a ≡ b
 same-key e f = cc
 
-module _ (rule : ℕ → ℕ) (img : List ℕ) (p : Plan) (at : ℕ) (held : Holds img at (planBytes p at)) (short : length img ≤ longestFile) (fits : PlanFits p)
+module _ (manner : Manner) (img : List ℕ) (p : Plan) (at : ℕ) (held : Holds img at (planBytes p at)) (short : length img ≤ longestFile) (fits : PlanFits p)
     (key : ℕ → List ℕ) (rank : ℕ → ℕ) (keys : PlanKeys p key rank) where
   abbrev table : Table
   table = openedAs at (p .count)
@@ -49,7 +49,7 @@ module _ (rule : ℕ → ℕ) (img : List ℕ) (p : Plan) (at : ℕ) (held : Hol
       by false e = refl
 
   -- there are no bloom words
-  laid-passes : (hash : ℕ) → bloomPasses img table hash ≡ true
+  laid-passes : (hash : ℕ) → bloomPasses (manner .shift) img table hash ≡ true
   unfolding bloomPasses openedAs pick
   laid-passes hash = refl
 
@@ -58,43 +58,43 @@ module _ (rule : ℕ → ℕ) (img : List ℕ) (p : Plan) (at : ℕ) (held : Hol
   key-found i l = key-whole img p at held short fits key rank keys i l
 
   -- what is found is an item with the key
-  pub found-index : (x : List ℕ) (i : ℕ) → findItem rule img table x ≡ Found.At i → (i < p .count) × (key i ≡ x)
+  pub found-index : (x : List ℕ) (i : ℕ) → findItem manner img table x ≡ Found.At i → (i < p .count) × (key i ≡ x)
   unfolding openedAs
   found-index x i e =
-      let n = found-names rule img table x i e in
+      let n = found-names manner img table x i e in
       (n .0, same-key (key-found i (n .0)) (n .2))
 
   -- a key that no item has is not found
-  pub find-nothing : (x : List ℕ) → ((k : ℕ) → k < p .count → key k ≡ x → ⊥) → findItem rule img table x ≡ Found.Nothing
-  find-nothing x none = by (findItem rule img table x) refl
+  pub find-nothing : (x : List ℕ) → ((k : ℕ) → k < p .count → key k ≡ x → ⊥) → findItem manner img table x ≡ Found.Nothing
+  find-nothing x none = by (findItem manner img table x) refl
     where
-      by : (f : Found) → findItem rule img table x ≡ f → findItem rule img table x ≡ Found.Nothing
+      by : (f : Found) → findItem manner img table x ≡ f → findItem manner img table x ≡ Found.Nothing
       by (Found.At i) e = let n = found-index x i e in absurd (none i (n .0) (n .1))
       by Found.Nothing e = e
 
-  module _ (runs : PlanRuns rule p key) where
-    laid-hash : (k : ℕ) → k < p .count → itemAt img table k .hash ≡ hashBy rule (key k)
+  module _ (runs : PlanRuns (manner .byte) p key) where
+    laid-hash : (k : ℕ) → k < p .count → itemAt img table k .hash ≡ hashBy (manner .byte) (key k)
     unfolding laidItem
     laid-hash k l = rw (laid-item img p at held short fits k l) (runs .hashed k l)
 
     -- item k lies in the run of its key's bucket
-    in-run : (k : ℕ) → k < p .count → (runFor rule img table (key k) .first ≤ k) × (k < runFor rule img table (key k) .last)
+    in-run : (k : ℕ) → k < p .count → (runFor manner img table (key k) .first ≤ k) × (k < runFor manner img table (key k) .last)
     unfolding runOf openedAs
     in-run k l =
-        let b : ℕ = hashBy rule (key k) % p .count in
+        let b : ℕ = hashBy (manner .byte) (key k) % p .count in
         let some : 0 < p .count = omega arith in
         let same : p .hash k % p .count ≡ b = ap (λ (h : ℕ). h % p .count) (runs .hashed k l) in
         let low : p .first b ≤ k = rw same at (runs .from k l) in
         let high : k < lastOf p b = rw same at (runs .to k l) in
-        (rw (bucket-reads b (mod-lt (hashBy rule (key k)) some)) low, rw (last-reads b) high)
+        (rw (bucket-reads b (mod-lt (hashBy (manner .byte) (key k)) some)) low, rw (last-reads b) high)
 
     -- a key is found at its index
-    pub find-there : (k : ℕ) → k < p .count → findItem rule img table (key k) ≡ Found.At k
+    pub find-there : (k : ℕ) → k < p .count → findItem manner img table (key k) ≡ Found.At k
     unfolding openedAs
-    find-there k l = by (findItem rule img table (key k)) refl
+    find-there k l = by (findItem manner img table (key k)) refl
       where
-        by : (f : Found) → findItem rule img table (key k) ≡ f → findItem rule img table (key k) ≡ Found.At k
+        by : (f : Found) → findItem manner img table (key k) ≡ f → findItem manner img table (key k) ≡ Found.At k
         by (Found.At i) e = let n = found-index (key k) i e in e ∙ ap Found.At (runs .distinct i k (n .0) l (n .1))
         by Found.Nothing e =
             let r = in-run k l in
-            absurd (not-found rule img table (key k) e (λ z. omega arith) (laid-passes (hashBy rule (key k))) k (r .0) (r .1) l (laid-hash k l) (key-found k l))
+            absurd (not-found manner img table (key k) e (λ z. omega arith) (laid-passes (hashBy (manner .byte) (key k))) k (r .0) (r .1) l (laid-hash k l) (key-found k l))

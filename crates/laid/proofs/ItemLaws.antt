@@ -13,7 +13,7 @@ use Rattle.layout.specs.Item.{itemAt}
 use Rattle.layout.specs.Kind.{kindByte}
 use Rattle.read.specs.declared.lookup.Found.{Found}
 use Rattle.read.specs.Chain.{Joined, keyOf}
-use Rattle.read.specs.Find.{findItem}
+use Rattle.read.specs.Find.{Manner, findItem}
 use Rattle.model.specs.Table.{Content, State, Has, kindOf}
 use Rattle.image.specs.Index.{indexIn, laidIndex, itemOf}
 use Rattle.layout.specs.Sizes.{chunkSize}
@@ -75,96 +75,96 @@ start-four p k s e = rw e (omega arith)
 
 -- ---- in an image that holds it
 
-module _ (rule : ℕ → ℕ) (img : List ℕ) (state : State) (d t at : ℕ) (held : Holds img at (tableBytes rule state (suc d) t at)) (short : length img ≤ longestFile)
+module _ (manner : Manner) (img : List ℕ) (state : State) (d t at : ℕ) (held : Holds img at (tableBytes (manner .byte) state (suc d) t at)) (short : length img ≤ longestFile)
     (even : at % 4 ≡ 0) (good : Writable state (suc d) t) where
-  plan-held : Holds img at (planBytes (planAt rule state d t) at)
+  plan-held : Holds img at (planBytes (planAt (manner .byte) state d t) at)
   unfolding tableBytes
   plan-held = held
 
   -- the table opens with all its items
   pub opens : openTable img at (endOf state t at) ≡ Opened.Table (tableOpened state t at)
   unfolding planOf
-  opens = laid-opens img (planAt rule state d t) at plan-held short even
+  opens = laid-opens img (planAt (manner .byte) state d t) at plan-held short even
 
   -- the key at an index is the whole key of the item there
   pub key-of-index : (k : ℕ) → k < length (state t .members)
-      → keyOf img (tableOpened state t at) (length (state t .members)) k ≡ Joined.joined (state t .key (itemOf rule (state t) k))
+      → keyOf img (tableOpened state t at) (length (state t .members)) k ≡ Joined.joined (state t .key (itemOf (manner .byte) (state t) k))
   unfolding planOf
-  key-of-index k l = key-whole img (planAt rule state d t) at plan-held short (fits-plan state d t good rule) _ _ (keys-plan state d t good rule) k l
+  key-of-index k l = key-whole img (planAt (manner .byte) state d t) at plan-held short (fits-plan state d t good (manner .byte)) _ _ (keys-plan state d t good (manner .byte)) k l
 
   pub key-back : (i : ℕ) → Has (state t .members) i
-      → keyOf img (tableOpened state t at) (length (state t .members)) (laidIndex rule (state t) i) ≡ Joined.joined (state t .key i)
+      → keyOf img (tableOpened state t at) (length (state t .members)) (laidIndex (manner .byte) (state t) i) ≡ Joined.joined (state t .key i)
   key-back i l =
-      key-of-index (laidIndex rule (state t) i) (index-small state d t good rule i l)
-      ∙ ap (λ (j : ℕ). Joined.joined (state t .key j)) (indexed-item state d t good rule i l)
+      key-of-index (laidIndex (manner .byte) (state t) i) (index-small state d t good (manner .byte) i l)
+      ∙ ap (λ (j : ℕ). Joined.joined (state t .key j)) (indexed-item state d t good (manner .byte) i l)
 
   -- the key of an item is found at its index, and a key that no item has is not found
-  pub found-back : (i : ℕ) → Has (state t .members) i → findItem rule img (tableOpened state t at) (state t .key i) ≡ Found.At (laidIndex rule (state t) i)
+  pub found-back : (i : ℕ) → Has (state t .members) i → findItem manner img (tableOpened state t at) (state t .key i) ≡ Found.At (laidIndex (manner .byte) (state t) i)
   unfolding planOf
   found-back i l =
-      ap (λ (j : ℕ). findItem rule img (tableOpened state t at) (state t .key j)) (sym (indexed-item state d t good rule i l))
-      ∙ find-there rule img (planAt rule state d t) at plan-held short (fits-plan state d t good rule) _ _ (keys-plan state d t good rule) (runs-plan state d t good rule)
-      (laidIndex rule (state t) i) (index-small state d t good rule i l)
+      ap (λ (j : ℕ). findItem manner img (tableOpened state t at) (state t .key j)) (sym (indexed-item state d t good (manner .byte) i l))
+      ∙ find-there manner img (planAt (manner .byte) state d t) at plan-held short (fits-plan state d t good (manner .byte)) _ _ (keys-plan state d t good (manner .byte)) (runs-plan state d t good (manner .byte))
+      (laidIndex (manner .byte) (state t) i) (index-small state d t good (manner .byte) i l)
 
-  pub not-found-back : (x : List ℕ) → ((i : ℕ) → Has (state t .members) i → state t .key i ≡ x → ⊥) → findItem rule img (tableOpened state t at) x ≡ Found.Nothing
+  pub not-found-back : (x : List ℕ) → ((i : ℕ) → Has (state t .members) i → state t .key i ≡ x → ⊥) → findItem manner img (tableOpened state t at) x ≡ Found.Nothing
   unfolding planOf
   not-found-back x none =
-      find-nothing rule img (planAt rule state d t) at plan-held short (fits-plan state d t good rule) _ _ (keys-plan state d t good rule) x
-      (λ k l e. none (itemOf rule (state t) k) (item-within rule (state t) (well-formed state d t good .once) k l) e)
+      find-nothing manner img (planAt (manner .byte) state d t) at plan-held short (fits-plan state d t good (manner .byte)) _ _ (keys-plan state d t good (manner .byte)) x
+      (λ k l e. none (itemOf (manner .byte) (state t) k) (item-within (manner .byte) (state t) (well-formed state d t good .once) k l) e)
 
   -- the value as laid, and where it ends
   pub value-held : (i : ℕ) → Has (state t .members) i
-      → Holds img (valueOffset rule state d t at i)
-      (valueOf rule (λ u start. tableBytes rule state d u start) state (state t) i (state t .content i) (valueOffset rule state d t at i))
+      → Holds img (valueOffset (manner .byte) state d t at i)
+      (valueOf (manner .byte) (λ u start. tableBytes (manner .byte) state d u start) state (state t) i (state t .content i) (valueOffset (manner .byte) state d t at i))
   unfolding planOf valueOffset
   value-held i l =
-      rw (indexed-item state d t good rule i l) at
-      (read-value img (planAt rule state d t) at plan-held (laidIndex rule (state t) i) (index-small state d t good rule i l))
+      rw (indexed-item state d t good (manner .byte) i l) at
+      (read-value img (planAt (manner .byte) state d t) at plan-held (laidIndex (manner .byte) (state t) i) (index-small state d t good (manner .byte) i l))
 
-  pub value-inside : (i : ℕ) → Has (state t .members) i → valueOffset rule state d t at i + coversAt rule state d t i ≤ length img
+  pub value-inside : (i : ℕ) → Has (state t .members) i → valueOffset (manner .byte) state d t at i + coversAt (manner .byte) state d t i ≤ length img
   unfolding planOf valueOffset
   value-inside i l =
-      let k = laidIndex rule (state t) i in
-      let b = index-small state d t good rule i l in
-      let p = planAt rule state d t in
+      let k = laidIndex (manner .byte) (state t) i in
+      let b = index-small state d t good (manner .byte) i l in
+      let p = planAt (manner .byte) state d t in
       let v = valueStart p k (place p (endOf state t at) k) in
-      let total : v + p .covers k ≤ length img = omega (arith, fits-plan state d t good rule .covered k v b, value-ends img p at plan-held k b) in
-      rw (indexed-item state d t good rule i l) at total
+      let total : v + p .covers k ≤ length img = omega (arith, fits-plan state d t good (manner .byte) .covered k v b, value-ends img p at plan-held k b) in
+      rw (indexed-item state d t good (manner .byte) i l) at total
 
   -- the record at an item's index
-  pub item-back : (i : ℕ) → Has (state t .members) i → ItemBack rule img state d t at i (itemAt img (tableOpened state t at) (laidIndex rule (state t) i))
+  pub item-back : (i : ℕ) → Has (state t .members) i → ItemBack (manner .byte) img state d t at i (itemAt img (tableOpened state t at) (laidIndex (manner .byte) (state t) i))
   unfolding planOf laidItem valueOffset
   item-back i l =
-      let e = indexed-item state d t good rule i l in
-      rw (laid-item img (planAt rule state d t) at plan-held short (fits-plan state d t good rule) (laidIndex rule (state t) i) (index-small state d t good rule i l))
+      let e = indexed-item state d t good (manner .byte) i l in
+      rw (laid-item img (planAt (manner .byte) state d t) at plan-held short (fits-plan state d t good (manner .byte)) (laidIndex (manner .byte) (state t) i) (index-small state d t good (manner .byte) i l))
       (record {
-        hash = ap (λ (j : ℕ). hashBy rule (state t .key j)) e;
-        parent = ap (λ (j : ℕ). parentIndex rule (state t) j) e;
+        hash = ap (λ (j : ℕ). hashBy (manner .byte) (state t .key j)) e;
+        parent = ap (λ (j : ℕ). parentIndex (manner .byte) (state t) j) e;
         kind = ap (λ (j : ℕ). kindByte (kindOf (state t .content j))) e;
         from = refl;
-        to = ap (λ (j : ℕ). valueOffset rule state d t at i + coversAt rule state d t j) e;
+        to = ap (λ (j : ℕ). valueOffset (manner .byte) state d t at i + coversAt (manner .byte) state d t j) e;
         fits = value-inside i l;
       })
 
   -- a value starts at a multiple of 8, a table and a container's children at one of 4
-  align-index : (i : ℕ) → Has (state t .members) i → planAt rule state d t .align (laidIndex rule (state t) i) ≡ alignOf (state t .content i)
+  align-index : (i : ℕ) → Has (state t .members) i → planAt (manner .byte) state d t .align (laidIndex (manner .byte) (state t) i) ≡ alignOf (state t .content i)
   unfolding planOf
-  align-index i l = ap (λ (j : ℕ). alignOf (state t .content j)) (indexed-item state d t good rule i l)
+  align-index i l = ap (λ (j : ℕ). alignOf (state t .content j)) (indexed-item state d t good (manner .byte) i l)
 
-  pub offset-eight : (i : ℕ) → Has (state t .members) i → alignOf (state t .content i) ≡ 8 → valueOffset rule state d t at i % 8 ≡ 0
+  pub offset-eight : (i : ℕ) → Has (state t .members) i → alignOf (state t .content i) ≡ 8 → valueOffset (manner .byte) state d t at i % 8 ≡ 0
   unfolding valueOffset
-  offset-eight i l e = start-eight (planAt rule state d t) (laidIndex rule (state t) i) _ (align-index i l ∙ e)
+  offset-eight i l e = start-eight (planAt (manner .byte) state d t) (laidIndex (manner .byte) (state t) i) _ (align-index i l ∙ e)
 
-  pub offset-four : (i : ℕ) → Has (state t .members) i → alignOf (state t .content i) ≡ 4 → valueOffset rule state d t at i % 4 ≡ 0
+  pub offset-four : (i : ℕ) → Has (state t .members) i → alignOf (state t .content i) ≡ 4 → valueOffset (manner .byte) state d t at i % 4 ≡ 0
   unfolding valueOffset
-  offset-four i l e = start-four (planAt rule state d t) (laidIndex rule (state t) i) _ (align-index i l ∙ e)
+  offset-four i l e = start-four (planAt (manner .byte) state d t) (laidIndex (manner .byte) (state t) i) _ (align-index i l ∙ e)
 
   -- what stands at the value pointer of an item that holds bytes, a table, or children
-  pub bytes-held : (i : ℕ) (value : List ℕ) → Has (state t .members) i → state t .content i ≡ Content.bytes value → Holds img (valueOffset rule state d t at i) value
+  pub bytes-held : (i : ℕ) (value : List ℕ) → Has (state t .members) i → state t .content i ≡ Content.bytes value → Holds img (valueOffset (manner .byte) state d t at i) value
   unfolding valueOf
   bytes-held i value l is = rw is at (value-held i l)
 
-  pub nested-held : (i u : ℕ) → Has (state t .members) i → state t .content i ≡ Content.nested u → NestedBack rule img state d u (valueOffset rule state d t at i)
+  pub nested-held : (i u : ℕ) → Has (state t .members) i → state t .content i ≡ Content.nested u → NestedBack (manner .byte) img state d u (valueOffset (manner .byte) state d t at i)
   unfolding valueOf
   nested-held i u l is = record {
     held = rw is at (value-held i l);
@@ -173,13 +173,13 @@ module _ (rule : ℕ → ℕ) (img : List ℕ) (state : State) (d t at : ℕ) (h
   }
 
   pub children-held : (i : ℕ) → Has (state t .members) i → state t .content i ≡ Content.container
-      → Holds img (valueOffset rule state d t at i) (childWords rule (state t) (childrenOf (state t) i))
+      → Holds img (valueOffset (manner .byte) state d t at i) (childWords (manner .byte) (state t) (childrenOf (state t) i))
   unfolding valueOf
   children-held i l is = rw is at (value-held i l)
 
 -- a nested table opens, with all its items
-pub nested-opens : (rule : ℕ → ℕ) (img : List ℕ) (state : State) (d u from : ℕ) → length img ≤ longestFile → NestedBack rule img state d u from
+pub nested-opens : (manner : Manner) (img : List ℕ) (state : State) (d u from : ℕ) → length img ≤ longestFile → NestedBack (manner .byte) img state d u from
     → openTable img from (endOf state u from) ≡ Opened.Table (tableOpened state u from)
 unfolding Writable
-nested-opens rule img state zero u from short n = absurd (n .writable)
-nested-opens rule img state (suc d) u from short n = opens rule img state d u from (n .held) short (n .even) (n .writable)
+nested-opens manner img state zero u from short n = absurd (n .writable)
+nested-opens manner img state (suc d) u from short n = opens manner img state d u from (n .held) short (n .even) (n .writable)

@@ -10,3 +10,5 @@ pub mod ChildLaws
 pub mod LaidLaws
 pub mod Passes
 pub mod WorkedPass
+pub mod FormLaws
+pub mod Accent

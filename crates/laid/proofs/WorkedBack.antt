@@ -16,6 +16,7 @@ use Rattle.text.specs.Utf8.{between, tail, isTwo, startsThree, startsFour, firs
 use Rattle.read.specs.declared.lookup.Looked.{Looked}
 use Rattle.read.specs.Lookup.{lookupValue, lookupTable}
 use Rattle.read.specs.Answer.{lookedBytes}
+use Rattle.read.specs.Find.{rust}
 use Rattle.model.specs.Table.{Content, times, Has, entryAt, isChild, fragmentAt, membersBelow, rowsOf}
 use Rattle.image.specs.Index.{insertKey, sortKeys, keyOrder, hashesOf, bucketOf, run, runsBelow, byBucket, bucketStart, byIndex, itemOf, indexIn, laidIndex}
 use Rattle.layout.specs.Sizes.{chunkSize}
@@ -102,26 +103,26 @@ size = refl
 abbrev image : List ℕ
 image = imageOf plain sample 0
 
-all : AllBack plain image sample 8 0 24
-all = alone-back plain sample 0 root-writable (omega (arith, size))
+all : AllBack rust image sample 8 0 24
+all = alone-back rust sample 0 root-writable (omega (arith, size))
 
 -- "a/b" answers 07, "a/" 13 either way, "a" 12
-pub value-answers : lookedBytes image (lookupValue plain image 24 116 (97 ∷ 47 ∷ 98 ∷ [])) ≡ 7 ∷ []
+pub value-answers : lookedBytes image (lookupValue rust image 24 116 (97 ∷ 47 ∷ 98 ∷ [])) ≡ 7 ∷ []
 unfolding AllBack sample rowsOf membersBelow entryAt times pick chunkSize
 value-answers = views-bytes image _ (7 ∷ []) (all .0 .values 1 (7 ∷ []) (omega arith) refl)
 
-pub container-answers : Both plain image 24 116 (97 ∷ 47 ∷ []) 13
+pub container-answers : Both rust image 24 116 (97 ∷ 47 ∷ []) 13
 unfolding AllBack sample rowsOf membersBelow entryAt times pick chunkSize
 container-answers = all .0 .containers 0 (omega arith) refl
 
-pub absent-answers : Both plain image 24 116 (97 ∷ []) 12
+pub absent-answers : Both rust image 24 116 (97 ∷ []) 12
 unfolding AllBack sample rowsOf membersBelow entryAt pick chunkSize isUtf8 firstBad goodFrom oneMore stepLen sequenceLen firstOf isTwo startsThree startsFour tail between
 absent-answers = all .0 .absent (97 ∷ []) refl (three (λ i. sample 0 .key i ≡ 97 ∷ [] → ⊥)
     (λ e. let z : _≡_ {A = ℕ} 0 1 = cc in omega arith) (λ e. let z : _≡_ {A = ℕ} 0 1 = cc in omega arith) (λ e. let z : _≡_ {A = ℕ} 116 97 = cc in omega arith))
 
 -- "t" answers a table, and there "x" answers 09
-pub nested-answers : (from : ℕ) × (lookupTable plain image 24 116 (116 ∷ []) ≡ Looked.Pointer from (from + 36))
-    × (lookedBytes image (lookupValue plain image from (from + 36) (120 ∷ [])) ≡ 9 ∷ [])
+pub nested-answers : (from : ℕ) × (lookupTable rust image 24 116 (116 ∷ []) ≡ Looked.Pointer from (from + 36))
+    × (lookedBytes image (lookupValue rust image from (from + 36) (120 ∷ [])) ≡ 9 ∷ [])
 unfolding AllBack sample rowsOf membersBelow entryAt times pick chunkSize
 nested-answers =
     let (from, place, there) = all .1 2 1 (omega arith) refl in

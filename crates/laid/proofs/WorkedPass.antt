@@ -7,6 +7,7 @@ use Rattle.words.specs.Choice.{pick}
 use Rattle.words.specs.Hash.{plain}
 use Rattle.read.specs.declared.lookup.Looked.{Looked}
 use Rattle.read.specs.Lookup.{lookupTable}
+use Rattle.read.specs.Find.{rust}
 use Rattle.check_table.specs.declared.check.Checked.{Checked}
 use Rattle.check_table.specs.Rules.{checkTable}
 use Rattle.model.specs.Table.{times, entryAt, membersBelow, rowsOf}
@@ -21,16 +22,16 @@ use Rattle.laid.proofs.Passes.{alone-passes}
 abbrev image : List ℕ
 image = imageOf plain sample 0
 
-all : AllPass plain image sample 8 0 24
-all = alone-passes plain sample 0 root-writable (omega (arith, size))
+all : AllPass rust image sample 8 0 24
+all = alone-passes rust sample 0 root-writable (omega (arith, size))
 
 -- the root table of three items, from 24 to 116
-pub root-passes : checkTable plain image 24 116 ≡ Checked.Sound
+pub root-passes : checkTable rust image 24 116 ≡ Checked.Sound
 unfolding AllPass sample rowsOf membersBelow entryAt pick chunkSize
 root-passes = all .0
 
 -- and the table of one item at the pointer that lookup of "t" answers
-pub nested-passes : (from : ℕ) × (lookupTable plain image 24 116 (116 ∷ []) ≡ Looked.Pointer from (from + 36)) × (checkTable plain image from (from + 36) ≡ Checked.Sound)
+pub nested-passes : (from : ℕ) × (lookupTable rust image 24 116 (116 ∷ []) ≡ Looked.Pointer from (from + 36)) × (checkTable rust image from (from + 36) ≡ Checked.Sound)
 unfolding AllPass sample rowsOf membersBelow entryAt times pick chunkSize
 nested-passes =
     let (from, place, there) = all .1 2 1 (omega arith) refl in

@@ -3,3 +3,4 @@ pub mod Back
 pub mod Told
 pub mod Sample
 pub mod Passing
+pub mod Forms

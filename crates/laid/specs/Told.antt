@@ -13,6 +13,7 @@ use Rattle.read.specs.Chain.{Joined}
 use Rattle.read.specs.Lookup.{lookupValue, lookupTable}
 use Rattle.read_listing.specs.Listing.{keyAt}
 use Rattle.read.specs.Answer.{lookedNumber}
+use Rattle.read.specs.Find.{Manner}
 use Rattle.model.specs.Table.{Content, State, Has}
 use Rattle.image.specs.Index.{laidIndex}
 use Rattle.laid.specs.Back.{endOf, tableOpened}
@@ -25,37 +26,37 @@ pub record Views (file : List ℕ) (looked : Looked) (value : List ℕ) : Type 0
   pub view : part file start (end - start) ≡ value
 
 -- both lookups of a key, as a value and as a table, give a number
-pub record Both (rule : ℕ → ℕ) (file : List ℕ) (start end : ℕ) (key : List ℕ) (n : ℕ) : Type 0 where
-  pub value : lookedNumber (lookupValue rule file start end key) ≡ n
-  pub table : lookedNumber (lookupTable rule file start end key) ≡ n
+pub record Both (manner : Manner) (file : List ℕ) (start end : ℕ) (key : List ℕ) (n : ℕ) : Type 0 where
+  pub value : lookedNumber (lookupValue manner file start end key) ≡ n
+  pub table : lookedNumber (lookupTable manner file start end key) ≡ n
 
 -- table t at `at`
-pub record TableBack (rule : ℕ → ℕ) (file : List ℕ) (state : State) (t at : ℕ) : Type 0 where
+pub record TableBack (manner : Manner) (file : List ℕ) (state : State) (t at : ℕ) : Type 0 where
   -- it opens, with as many items as the table has
   pub opens : openTable file at (endOf state t at) ≡ Opened.Table (tableOpened state t at)
   -- each item's key is listed at its index
-  pub lists : (i : ℕ) → Has (state t .members) i → keyAt file at (endOf state t at) (laidIndex rule (state t) i) ≡ Joined.joined (state t .key i)
+  pub lists : (i : ℕ) → Has (state t .members) i → keyAt file at (endOf state t at) (laidIndex (manner .byte) (state t) i) ≡ Joined.joined (state t .key i)
   -- a value's key answers a view of its bytes; as a table 13, another kind than asked
   pub values : (i : ℕ) (value : List ℕ) → Has (state t .members) i → state t .content i ≡ Content.bytes value
-      → Views file (lookupValue rule file at (endOf state t at) (state t .key i)) value
+      → Views file (lookupValue manner file at (endOf state t at) (state t .key i)) value
   pub no-table : (i : ℕ) (value : List ℕ) → Has (state t .members) i → state t .content i ≡ Content.bytes value
-      → lookedNumber (lookupTable rule file at (endOf state t at) (state t .key i)) ≡ 13
+      → lookedNumber (lookupTable manner file at (endOf state t at) (state t .key i)) ≡ 13
   -- a nested table's key answers 13 as a value
   pub no-value : (i u : ℕ) → Has (state t .members) i → state t .content i ≡ Content.nested u
-      → lookedNumber (lookupValue rule file at (endOf state t at) (state t .key i)) ≡ 13
+      → lookedNumber (lookupValue manner file at (endOf state t at) (state t .key i)) ≡ 13
   -- a container's key answers 13 as a value and as a table
-  pub containers : (i : ℕ) → Has (state t .members) i → state t .content i ≡ Content.container → Both rule file at (endOf state t at) (state t .key i) 13
+  pub containers : (i : ℕ) → Has (state t .members) i → state t .content i ≡ Content.container → Both manner file at (endOf state t at) (state t .key i) 13
   -- a key that no item has answers 12, key not found
   pub absent : (key : List ℕ) → isUtf8 key ≡ true → ((i : ℕ) → Has (state t .members) i → state t .key i ≡ key → ⊥)
-      → Both rule file at (endOf state t at) key 12
+      → Both manner file at (endOf state t at) key 12
   -- a key that is not UTF-8 answers 8
-  pub not-text : (key : List ℕ) → isUtf8 key ≡ false → Both rule file at (endOf state t at) key 8
+  pub not-text : (key : List ℕ) → isUtf8 key ≡ false → Both manner file at (endOf state t at) key 8
 
 -- table t at `at`, and every table nested in it: its key answers, as a table, the pointer of its table chunk, and the same holds there
-unfoldable pub AllBack : (ℕ → ℕ) → List ℕ → State → ℕ → ℕ → ℕ → Type 0
-AllBack rule file state zero t at = ⊥
-AllBack rule file state (suc d) t at =
-    TableBack rule file state t at
+unfoldable pub AllBack : Manner → List ℕ → State → ℕ → ℕ → ℕ → Type 0
+AllBack manner file state zero t at = ⊥
+AllBack manner file state (suc d) t at =
+    TableBack manner file state t at
     × ((i u : ℕ) → Has (state t .members) i → state t .content i ≡ Content.nested u
-    → (from : ℕ) × (lookupTable rule file at (endOf state t at) (state t .key i) ≡ Looked.Pointer from (endOf state u from))
-    × AllBack rule file state d u from)
+    → (from : ℕ) × (lookupTable manner file at (endOf state t at) (state t .key i) ≡ Looked.Pointer from (endOf state u from))
+    × AllBack manner file state d u from)

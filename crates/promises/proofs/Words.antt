@@ -12,8 +12,12 @@ use Rattle.words.proofs.bits.bit_set.Kinds as bit-set-kinds
 use Rattle.words.proofs.bits.bit_set.Reads as bit-set-reads
 use Rattle.words.proofs.hash.wrapping_mul.Kinds as wrapping-mul-kinds
 use Rattle.words.proofs.hash.wrapping_mul.Reads as wrapping-mul-reads
+use Rattle.words.proofs.hash.byte_counts.Kinds as byte-counts-kinds
+use Rattle.words.proofs.hash.byte_counts.Reads as byte-counts-reads
 use Rattle.words.proofs.hash.hash_on.Kinds as hash-on-kinds
 use Rattle.words.proofs.hash.hash_on.Reads as hash-on-reads
+use Rattle.words.proofs.hash.hash_key.Kinds as hash-key-kinds
+use Rattle.words.proofs.hash.hash_key.Reads as hash-key-reads
 use Rattle.words.proofs.hash.djb_hash.Kinds as djb-hash-kinds
 use Rattle.words.proofs.hash.djb_hash.Reads as djb-hash-reads
 use Rattle.words.proofs.wide.byte_half.Kinds as byte-half-kinds
@@ -74,8 +78,14 @@ bit-set-unique κs a s t x y p q = p ∙ sym q
 pub wrapping-mul-unique : OneAnswer wrapping-mul-kinds.ps wrapping-mul-kinds.r wrapping-mul-reads.Post
 wrapping-mul-unique κs a s t x y p q = p ∙ sym q
 
+pub byte-counts-unique : OneAnswer byte-counts-kinds.ps byte-counts-kinds.r byte-counts-reads.Post
+byte-counts-unique κs a s t x y p q = p .0 ∙ sym (q .0)
+
 pub hash-on-unique : OneAnswer hash-on-kinds.ps hash-on-kinds.r hash-on-reads.Post
 hash-on-unique κs a s t x y p q = p ∙ sym q
+
+pub hash-key-unique : OneAnswer hash-key-kinds.ps hash-key-kinds.r hash-key-reads.Post
+hash-key-unique κs a s t x y p q = p ∙ sym q
 
 pub djb-hash-unique : OneAnswer djb-hash-kinds.ps djb-hash-kinds.r djb-hash-reads.Post
 djb-hash-unique κs a s t x y p q = p ∙ sym q

@@ -1,9 +1,9 @@
--- Laws about finding an item, for every rule for a byte: the cases of the definition, one turn of the search and its end, and what the
+-- Laws about finding an item, for every manner of reading: the cases of the definition, one turn of the search and its end, and what the
 -- search says of every position of the run.
-use Prim.Native.Nat.{ℕ, zero, suc, _+_, _*_, _-_, _/_, _%_, _≤_, _<_}
-use mathlib.Core.Path.{_≡_, refl, ap, _∙_}
+use Prim.Native.Nat.{ℕ, zero, suc, _+_, _*_, _-_, _/_, _%_, _^_, _≤_, _<_}
+use mathlib.Core.Path.{_≡_, refl, sym, ap, _∙_}
 use mathlib.Core.List.{List}
-use mathlib.Core.Bool.{Bool, true, false}
+use mathlib.Core.Bool.{Bool, true, false, _&&_}
 use native.Mathlib.Omega.{arith}
 use lib.Dec.{leb, eqb}
 use borrow.Author.Tests.{leb-true, leb-false, le-leb, lt-leb, eqb-true, eqb-false, eq-eqb, ne-eqb}
@@ -18,43 +18,49 @@ use Rattle.layout.specs.Item.{itemAt}
 use Rattle.read.specs.declared.lookup.Run.{Run}
 use Rattle.read.specs.declared.lookup.Found.{Found}
 use Rattle.read.specs.Chain.{Joined, keyOf, names}
-use Rattle.read.specs.Find.{bloomPasses, runOf, itemMatches, firstFrom, firstOf, findItem}
+use Rattle.read.specs.Find.{Manner, rust, bloomPasses, runOf, itemMatches, firstFrom, firstOf, findItem}
 use Rattle.read.proofs.ChainLaws.{names-joined, joined-names}
+
+both-same : (b : Bool) → (b && b) ≡ b
+both-same true = refl
+both-same false = refl
 
 -- ---- the cases of the definition, with the hash at hand
 
 pub bloom-word : (file : List ℕ) (t : Table) (hash : ℕ) {wide word : ℕ} → wide ≡ hash → (t .blooms ≡ 0 → ⊥)
-    → word ≡ wordAt file (t .start + 8 + 4 * (wide / 32 % t .blooms)) → bitSet word (hash % 32) ≡ bloomPasses file t hash
+    → word ≡ wordAt file (t .start + 8 + 4 * (wide / 32 % t .blooms)) → bitSet word (hash % 32) ≡ bloomPasses (rust .shift) file t hash
 unfolding bloomPasses pick
-bloom-word file t hash same some e = rw (ne-eqb _ _ some, e, same)
+bloom-word file t hash same some e =
+    let none : hash / 2 ^ 0 ≡ hash = omega arith in
+    rw (ne-eqb _ _ some, e, same, none) (sym (both-same (bitSet (wordAt file (t .start + 8 + 4 * (hash / 32 % t .blooms))) (hash % 32))))
 
-module _ (rule : ℕ → ℕ) (file : List ℕ) (t : Table) (key : List ℕ) where
+module _ (manner : Manner) (file : List ℕ) (t : Table) (key : List ℕ) where
   -- the test of an item, whose fields are at hand
-  module _ (at : ℕ) {item : Item} (is : item ≡ itemAt file t at) {hash : ℕ} (hashed : hash ≡ hashBy rule key) where
-    pub other-hash : (item .hash ≡ hash → ⊥) → false ≡ itemMatches rule file t key at
+  module _ (at : ℕ) {item : Item} (is : item ≡ itemAt file t at) {hash : ℕ} (hashed : hash ≡ hashBy (manner .byte) key) where
+    pub other-hash : (item .hash ≡ hash → ⊥) → false ≡ itemMatches manner file t key at
     unfolding itemMatches pick
     other-hash n = rw (← is, ← hashed, ne-eqb _ _ n)
 
-    pub same-hash : item .hash ≡ hash → names (keyOf file t (t .count) at) key ≡ itemMatches rule file t key at
+    pub same-hash : item .hash ≡ hash → names (keyOf file t (t .count) at) key ≡ itemMatches manner file t key at
     unfolding itemMatches pick
     same-hash e = rw (← is, ← hashed, eq-eqb _ _ e)
 
-  pub find-no-buckets : t .buckets ≡ 0 → Found.Nothing ≡ findItem rule file t key
+  pub find-no-buckets : t .buckets ≡ 0 → Found.Nothing ≡ findItem manner file t key
   unfolding findItem pick
   find-no-buckets e = rw (eq-eqb _ _ e)
 
   module _ (some : t .buckets ≡ 0 → ⊥) where
-    pub find-no-items : t .count ≡ 0 → Found.Nothing ≡ findItem rule file t key
+    pub find-no-items : t .count ≡ 0 → Found.Nothing ≡ findItem manner file t key
     unfolding findItem pick
     find-no-items e = rw (ne-eqb _ _ some, eq-eqb _ _ e)
 
-    module _ (items : t .count ≡ 0 → ⊥) {hash : ℕ} (hashed : hash ≡ hashBy rule key) where
-      pub find-filtered : bloomPasses file t hash ≡ false → Found.Nothing ≡ findItem rule file t key
+    module _ (items : t .count ≡ 0 → ⊥) {hash : ℕ} (hashed : hash ≡ hashBy (manner .byte) key) where
+      pub find-filtered : bloomPasses (manner .shift) file t hash ≡ false → Found.Nothing ≡ findItem manner file t key
       unfolding findItem pick
       find-filtered e = rw (ne-eqb _ _ some, ne-eqb _ _ items, ← hashed, e)
 
-      pub find-in-run : bloomPasses file t hash ≡ true → {wide : ℕ} → wide ≡ hash → {run : Run} → run ≡ runOf file t (wide % t .buckets)
-          → {found : Found} → found ≡ firstOf rule file t key run → found ≡ findItem rule file t key
+      pub find-in-run : bloomPasses (manner .shift) file t hash ≡ true → {wide : ℕ} → wide ≡ hash → {run : Run} → run ≡ runOf file t (wide % t .buckets)
+          → {found : Found} → found ≡ firstOf manner file t key run → found ≡ findItem manner file t key
       unfolding findItem pick
       find-in-run e wide is first = first ∙ rw (ne-eqb _ _ some, ne-eqb _ _ items, ← hashed, e, is, wide)
 
@@ -119,29 +125,29 @@ first-says test count (suc more) at =
 
 -- ---- what is found, and what is not
 
-unfoldable pub FindSays : (ℕ → ℕ) → List ℕ → Table → List ℕ → Run → Found → Type 0
-FindSays rule file t key run (Found.At i) =
-    (i < t .count) × (run .first ≤ i) × (i < run .last) × (itemMatches rule file t key i ≡ true)
-    × ((k : ℕ) → run .first ≤ k → k < i → itemMatches rule file t key k ≡ false)
-FindSays rule file t key run Found.Nothing =
-    (t .buckets ≡ 0 → ⊥) → bloomPasses file t (hashBy rule key) ≡ true
-    → (k : ℕ) → run .first ≤ k → k < run .last → k < t .count → itemMatches rule file t key k ≡ false
+unfoldable pub FindSays : Manner → List ℕ → Table → List ℕ → Run → Found → Type 0
+FindSays manner file t key run (Found.At i) =
+    (i < t .count) × (run .first ≤ i) × (i < run .last) × (itemMatches manner file t key i ≡ true)
+    × ((k : ℕ) → run .first ≤ k → k < i → itemMatches manner file t key k ≡ false)
+FindSays manner file t key run Found.Nothing =
+    (t .buckets ≡ 0 → ⊥) → bloomPasses (manner .shift) file t (hashBy (manner .byte) key) ≡ true
+    → (k : ℕ) → run .first ≤ k → k < run .last → k < t .count → itemMatches manner file t key k ≡ false
 
-run-says : (rule : ℕ → ℕ) (file : List ℕ) (t : Table) (key : List ℕ) (run : Run) (f : Found)
-    → FirstSays (itemMatches rule file t key) (t .count) (run .last - run .first) (run .first) f → FindSays rule file t key run f
+run-says : (manner : Manner) (file : List ℕ) (t : Table) (key : List ℕ) (run : Run) (f : Found)
+    → FirstSays (itemMatches manner file t key) (t .count) (run .last - run .first) (run .first) f → FindSays manner file t key run f
 unfolding FirstSays FindSays
-run-says rule file t key run (Found.At i) (below, from, to, hit, before) = (below, from, omega arith, hit, before)
-run-says rule file t key run Found.Nothing none = λ some passes k l h items. none k l (omega arith) items
+run-says manner file t key run (Found.At i) (below, from, to, hit, before) = (below, from, omega arith, hit, before)
+run-says manner file t key run Found.Nothing none = λ some passes k l h items. none k l (omega arith) items
 
-pub find-says : (rule : ℕ → ℕ) (file : List ℕ) (t : Table) (key : List ℕ)
-    → FindSays rule file t key (runOf file t (hashBy rule key % t .buckets)) (findItem rule file t key)
+pub find-says : (manner : Manner) (file : List ℕ) (t : Table) (key : List ℕ)
+    → FindSays manner file t key (runOf file t (hashBy (manner .byte) key % t .buckets)) (findItem manner file t key)
 unfolding findItem firstOf FindSays
-find-says rule file t key =
-    let run : Run = runOf file t (hashBy rule key % t .buckets) in
-    let P : Found → Type 0 = FindSays rule file t key run in
+find-says manner file t key =
+    let run : Run = runOf file t (hashBy (manner .byte) key % t .buckets) in
+    let P : Found → Type 0 = FindSays manner file t key run in
     pick-with P _ _ _ (λ none. λ some. absurd (some (eqb-true _ _ none)))
     (λ _. pick-with P _ _ _ (λ none some passes k l h items. let z : t .count ≡ 0 = eqb-true _ _ none in absurd (omega arith))
-    (λ _. pick-with P _ _ _ (λ _. run-says rule file t key run _ (first-says _ _ _ _))
+    (λ _. pick-with P _ _ _ (λ _. run-says manner file t key run _ (first-says _ _ _ _))
     (λ shut some passes. let z : _≡_ {A = ℕ} 0 1 = cc in absurd (omega arith))))
 
 -- an item that is found is an item of the table
@@ -149,28 +155,28 @@ unfoldable pub FoundBelow : ℕ → Found → Type 0
 FoundBelow count (Found.At index) = index < count
 FoundBelow count Found.Nothing = Unit
 
-says-below : (rule : ℕ → ℕ) (file : List ℕ) (t : Table) (key : List ℕ) (run : Run) (f : Found) → FindSays rule file t key run f → FoundBelow (t .count) f
+says-below : (manner : Manner) (file : List ℕ) (t : Table) (key : List ℕ) (run : Run) (f : Found) → FindSays manner file t key run f → FoundBelow (t .count) f
 unfolding FindSays FoundBelow
-says-below rule file t key run (Found.At i) says = says .0
-says-below rule file t key run Found.Nothing says = tt
+says-below manner file t key run (Found.At i) says = says .0
+says-below manner file t key run Found.Nothing says = tt
 
-pub found-below : (rule : ℕ → ℕ) (file : List ℕ) (t : Table) (key : List ℕ) → FoundBelow (t .count) (findItem rule file t key)
-found-below rule file t key = says-below rule file t key _ _ (find-says rule file t key)
+pub found-below : (manner : Manner) (file : List ℕ) (t : Table) (key : List ℕ) → FoundBelow (t .count) (findItem manner file t key)
+found-below manner file t key = says-below manner file t key _ _ (find-says manner file t key)
 
 -- ---- an item matches just where its hash is the key's and its chain joins the key
 
-pub match-true : (rule : ℕ → ℕ) (file : List ℕ) (t : Table) (key : List ℕ) (i : ℕ) → itemMatches rule file t key i ≡ true
-    → (itemAt file t i .hash ≡ hashBy rule key) × (keyOf file t (t .count) i ≡ Joined.joined key)
+pub match-true : (manner : Manner) (file : List ℕ) (t : Table) (key : List ℕ) (i : ℕ) → itemMatches manner file t key i ≡ true
+    → (itemAt file t i .hash ≡ hashBy (manner .byte) key) × (keyOf file t (t .count) i ≡ Joined.joined key)
 unfolding itemMatches
-match-true rule file t key i =
-    pick-with (λ (q : Bool). q ≡ true → (itemAt file t i .hash ≡ hashBy rule key) × (keyOf file t (t .count) i ≡ Joined.joined key)) _ _ _
+match-true manner file t key i =
+    pick-with (λ (q : Bool). q ≡ true → (itemAt file t i .hash ≡ hashBy (manner .byte) key) × (keyOf file t (t .count) i ≡ Joined.joined key)) _ _ _
     (λ same e. (eqb-true _ _ same, names-joined _ _ e))
     (λ _ e. let z : _≡_ {A = ℕ} 0 1 = cc in absurd (omega arith))
 
-pub match-false : (rule : ℕ → ℕ) (file : List ℕ) (t : Table) (key : List ℕ) (i : ℕ) → itemMatches rule file t key i ≡ false
-    → itemAt file t i .hash ≡ hashBy rule key → keyOf file t (t .count) i ≡ Joined.joined key → ⊥
+pub match-false : (manner : Manner) (file : List ℕ) (t : Table) (key : List ℕ) (i : ℕ) → itemMatches manner file t key i ≡ false
+    → itemAt file t i .hash ≡ hashBy (manner .byte) key → keyOf file t (t .count) i ≡ Joined.joined key → ⊥
 unfolding itemMatches pick
-match-false rule file t key i miss same key-is =
-    let hit : pick (eqb (itemAt file t i .hash) (hashBy rule key)) (names (keyOf file t (t .count) i) key) false ≡ true =
+match-false manner file t key i miss same key-is =
+    let hit : pick (eqb (itemAt file t i .hash) (hashBy (manner .byte) key)) (names (keyOf file t (t .count) i) key) false ≡ true =
     rw (eq-eqb _ _ same) (joined-names _ _ key-is) in
     let z : _≡_ {A = ℕ} 0 1 = cc in omega arith

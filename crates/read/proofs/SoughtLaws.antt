@@ -18,33 +18,33 @@ use Rattle.layout.specs.Item.{itemAt}
 use Rattle.read.specs.declared.lookup.Found.{Found}
 use Rattle.read.specs.declared.lookup.Sought.{Sought}
 use Rattle.read.specs.declared.lookup.Looked.{Looked}
-use Rattle.read.specs.Find.{findItem}
+use Rattle.read.specs.Find.{Manner, findItem}
 use Rattle.read.specs.Lookup.{atFound, lookupIn, atOpened, lookupItem, atPointer, atNested, valueOf, nestedOf, atItem, lookupValue, lookupTable}
 
 -- the table opens, the key is UTF-8, and the item is the one found
-pub record Seeks (rule : ℕ → ℕ) (file : List ℕ) (start end : ℕ) (key : List ℕ) (item : Item) : Type 0 where
+pub record Seeks (manner : Manner) (file : List ℕ) (start end : ℕ) (key : List ℕ) (item : Item) : Type 0 where
   pub table : Table
   pub index : ℕ
   pub opens : openTable file start end ≡ Opened.Table table
   pub text : isUtf8 key ≡ true
-  pub found : findItem rule file table key ≡ Found.At index
+  pub found : findItem manner file table key ≡ Found.At index
   pub is : itemAt file table index ≡ item
 
-module _ (rule : ℕ → ℕ) (file : List ℕ) (start end : ℕ) (key : List ℕ) where
+module _ (manner : Manner) (file : List ℕ) (start end : ℕ) (key : List ℕ) where
   found-item : (t : Table) → openTable file start end ≡ Opened.Table t → isUtf8 key ≡ true
-      → (f : Found) → findItem rule file t key ≡ f → {item : Item} → atFound file t f ≡ Sought.Item item → Seeks rule file start end key item
+      → (f : Found) → findItem manner file t key ≡ f → {item : Item} → atFound file t f ≡ Sought.Item item → Seeks manner file start end key item
   unfolding atFound
   found-item t opens text (Found.At i) found e = record { table = t; index = i; opens = opens; text = text; found = found; is = (cc) }
   found-item t opens text Found.Nothing found e = let z : _≡_ {A = ℕ} 0 1 = cc in absurd (omega arith)
 
-  opened-item : (o : Opened) → openTable file start end ≡ o → {item : Item} → atOpened o (λ t. lookupIn rule file key t) ≡ Sought.Item item → Seeks rule file start end key item
+  opened-item : (o : Opened) → openTable file start end ≡ o → {item : Item} → atOpened o (λ t. lookupIn manner file key t) ≡ Sought.Item item → Seeks manner file start end key item
   unfolding atOpened lookupIn
   opened-item (Opened.Table t) opens {item} =
-      let P : Sought → Type 0 = λ s. s ≡ Sought.Item item → Seeks rule file start end key item in
-      pick-with P _ _ _ (λ text e. found-item t opens text (findItem rule file t key) refl e) (λ _ e. let z : _≡_ {A = ℕ} 0 1 = cc in absurd (omega arith))
+      let P : Sought → Type 0 = λ s. s ≡ Sought.Item item → Seeks manner file start end key item in
+      pick-with P _ _ _ (λ text e. found-item t opens text (findItem manner file t key) refl e) (λ _ e. let z : _≡_ {A = ℕ} 0 1 = cc in absurd (omega arith))
   opened-item (Opened.Refused why) opens = λ e. let z : _≡_ {A = ℕ} 0 1 = cc in absurd (omega arith)
 
-  sought-item : {item : Item} → lookupItem rule file start end key ≡ Sought.Item item → Seeks rule file start end key item
+  sought-item : {item : Item} → lookupItem manner file start end key ≡ Sought.Item item → Seeks manner file start end key item
   unfolding lookupItem
   sought-item e = opened-item (openTable file start end) refl e
 
@@ -75,23 +75,23 @@ nested-pointer file item {from} {to} =
     by-table kind (Opened.Refused why) e = let z : _≡_ {A = ℕ} 0 1 = cc in absurd (omega arith)
 
 -- a pointer that a lookup answers is that of the item it sought
-pub record Answers (rule : ℕ → ℕ) (file : List ℕ) (start end : ℕ) (key : List ℕ) (kind from to : ℕ) : Type 0 where
+pub record Answers (manner : Manner) (file : List ℕ) (start end : ℕ) (key : List ℕ) (kind from to : ℕ) : Type 0 where
   pub item : Item
-  pub seeks : Seeks rule file start end key item
+  pub seeks : Seeks manner file start end key item
   pub placed : Placed kind item from to
 
-module _ (rule : ℕ → ℕ) (file : List ℕ) (start end : ℕ) (key : List ℕ) {from to : ℕ} where
+module _ (manner : Manner) (file : List ℕ) (start end : ℕ) (key : List ℕ) {from to : ℕ} where
   at-item : (of : Item → Looked) (kind : ℕ) → ((item : Item) → of item ≡ Looked.Pointer from to → Placed kind item from to)
-      → (s : Sought) → lookupItem rule file start end key ≡ s → atItem s of ≡ Looked.Pointer from to → Answers rule file start end key kind from to
+      → (s : Sought) → lookupItem manner file start end key ≡ s → atItem s of ≡ Looked.Pointer from to → Answers manner file start end key kind from to
   unfolding atItem
   at-item of kind placed (Sought.Item item) sought e =
-      record { item = item; seeks = sought-item rule file start end key sought; placed = placed item e }
+      record { item = item; seeks = sought-item manner file start end key sought; placed = placed item e }
   at-item of kind placed (Sought.Refused why) sought e = let z : _≡_ {A = ℕ} 0 1 = cc in absurd (omega arith)
 
-  pub value-answers : lookupValue rule file start end key ≡ Looked.Pointer from to → Answers rule file start end key 118 from to
+  pub value-answers : lookupValue manner file start end key ≡ Looked.Pointer from to → Answers manner file start end key 118 from to
   unfolding lookupValue
   value-answers e = at-item (λ item. valueOf file item) 118 (λ item h. value-pointer file item h) _ refl e
 
-  pub table-answers : lookupTable rule file start end key ≡ Looked.Pointer from to → Answers rule file start end key 72 from to
+  pub table-answers : lookupTable manner file start end key ≡ Looked.Pointer from to → Answers manner file start end key 72 from to
   unfolding lookupTable
   table-answers e = at-item (λ item. nestedOf file item) 72 (λ item h. nested-pointer file item h) _ refl e

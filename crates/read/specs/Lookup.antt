@@ -19,7 +19,7 @@ use Rattle.layout.specs.Item.{itemAt}
 use Rattle.read.specs.declared.lookup.Found.{Found}
 use Rattle.read.specs.declared.lookup.Sought.{Sought}
 use Rattle.read.specs.declared.lookup.Looked.{Looked}
-use Rattle.read.specs.Find.{findItem}
+use Rattle.read.specs.Find.{Manner, findItem}
 
 -- 12 where nothing is found
 unfoldable pub atFound : List ℕ → Table → Found → Sought
@@ -27,16 +27,16 @@ atFound file t (Found.At index) = Sought.Item (itemAt file t index)
 atFound file t Found.Nothing = Sought.Refused KeyNotFound
 
 -- 8 with the offset in the key, 12, or the item, in an open table
-unfoldable pub lookupIn : (ℕ → ℕ) → List ℕ → List ℕ → Table → Sought
-lookupIn rule file key t = pick (isUtf8 key) (atFound file t (findItem rule file t key)) (Sought.Refused (KeyNotUtf8 (firstBad key)))
+unfoldable pub lookupIn : Manner → List ℕ → List ℕ → Table → Sought
+lookupIn manner file key t = pick (isUtf8 key) (atFound file t (findItem manner file t key)) (Sought.Refused (KeyNotUtf8 (firstBad key)))
 
 unfoldable pub atOpened : Opened → (Table → Sought) → Sought
 atOpened (Opened.Table t) sought = sought t
 atOpened (Opened.Refused why) sought = Sought.Refused why
 
 -- opening, 8, 12, or the item
-unfoldable pub lookupItem : (ℕ → ℕ) → List ℕ → ℕ → ℕ → List ℕ → Sought
-lookupItem rule file start end key = atOpened (openTable file start end) (λ t. lookupIn rule file key t)
+unfoldable pub lookupItem : Manner → List ℕ → ℕ → ℕ → List ℕ → Sought
+lookupItem manner file start end key = atOpened (openTable file start end) (λ t. lookupIn manner file key t)
 
 unfoldable pub atPointer : Pointed → Item → Looked
 atPointer Pointed.Inside item = Looked.Pointer (item .from) (item .to)
@@ -64,8 +64,8 @@ unfoldable pub atItem : Sought → (Item → Looked) → Looked
 atItem (Sought.Item item) looked = looked item
 atItem (Sought.Refused why) looked = Looked.Refused why
 
-unfoldable pub lookupValue : (ℕ → ℕ) → List ℕ → ℕ → ℕ → List ℕ → Looked
-lookupValue rule file start end key = atItem (lookupItem rule file start end key) (λ item. valueOf file item)
+unfoldable pub lookupValue : Manner → List ℕ → ℕ → ℕ → List ℕ → Looked
+lookupValue manner file start end key = atItem (lookupItem manner file start end key) (λ item. valueOf file item)
 
-unfoldable pub lookupTable : (ℕ → ℕ) → List ℕ → ℕ → ℕ → List ℕ → Looked
-lookupTable rule file start end key = atItem (lookupItem rule file start end key) (λ item. nestedOf file item)
+unfoldable pub lookupTable : Manner → List ℕ → ℕ → ℕ → List ℕ → Looked
+lookupTable manner file start end key = atItem (lookupItem manner file start end key) (λ item. nestedOf file item)

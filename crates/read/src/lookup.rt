@@ -1,5 +1,6 @@
 // Looking a key up: the bloom test, the bucket, its run, and what the item found points to.
 use crate::chain::chain_names;
+use crate::manner::Manner;
 use layout::item::Item;
 use layout::item::item_at;
 use layout::item::open_value;
@@ -16,14 +17,14 @@ use text::utf8::is_utf8;
 use words::align::Alignment;
 use words::bits::bit_set;
 use words::field::word_at;
-use words::hash::djb_hash;
+use words::hash::hash_key;
 use words::wide::word_size;
 ghost use mathlib.Core.Path.{_≡_};
 ghost use Prim.Native.Nat.{_<_};
-ghost use Rattle.words.specs.Hash.{plain, hashOf};
+ghost use Rattle.words.specs.Hash.{hashBy, ruleOf};
 ghost use Rattle.text.specs.Utf8.{isUtf8};
 ghost use Rattle.layout.specs.Table.{InFile};
-ghost use Rattle.read.specs.Find.{bloomPasses, runOf, itemMatches, firstOf, findItem};
+ghost use Rattle.read.specs.Find.{rust, mannerOf, bloomPasses, runOf, itemMatches, firstOf, findItem};
 ghost use Rattle.read.specs.Lookup.{lookupIn, valueOf, nestedOf, lookupValue, lookupTable, atItem};
 
 // The items of one bucket: the indices from `first` up to `last`.
@@ -54,7 +55,7 @@ pub enum Looked {
 // Whether a hash may be in the table, by its bloom words.
 pub fn bloom_passes(file: &[u8], table: Table, hash: u32) -> bool
     requires { ⌜ InFile (now file) table ⌝ }
-    ensures { λ r. ⌜ r ≡ bloomPasses (now (file .entry)) table hash ⌝ }
+    ensures { λ r. ⌜ r ≡ bloomPasses (rust .shift) (now (file .entry)) table hash ⌝ }
 {
     let blooms = table.blooms;
     if blooms == 0 {
@@ -86,9 +87,16 @@ pub fn run_of(file: &[u8], table: Table, bucket: usize) -> Run
 }
 
 // Whether the item at an index has the key's hash and its chain names the key.
-fn item_matches(file: &[u8], table: Table, hash: u32, index: usize, key: &[u8]) -> bool
-    requires { ⌜ InFile (now file) table × (index < table .count) × (hash ≡ hashOf (now key)) ⌝ }
-    ensures { λ r. ⌜ r ≡ itemMatches plain (now (file .entry)) table (now (key .entry)) index ⌝ }
+fn item_matches(
+    file: &[u8],
+    table: Table,
+    hash: u32,
+    index: usize,
+    key: &[u8],
+    manner: Manner,
+) -> bool
+    requires { ⌜ InFile (now file) table × (index < table .count) × (hash ≡ hashBy (ruleOf (manner .form)) (now key)) ⌝ }
+    ensures { λ r. ⌜ r ≡ itemMatches (mannerOf manner) (now (file .entry)) table (now (key .entry)) index ⌝ }
 {
     let item = item_at(file, table, index);
     if item.hash == hash {
@@ -99,9 +107,9 @@ fn item_matches(file: &[u8], table: Table, hash: u32, index: usize, key: &[u8]) 
 }
 
 // The first item of a run that matches.
-fn first_of(file: &[u8], table: Table, hash: u32, run: Run, key: &[u8]) -> Found
-    requires { ⌜ InFile (now file) table × (hash ≡ hashOf (now key)) ⌝ }
-    ensures { λ r. ⌜ r ≡ firstOf plain (now (file .entry)) table (now (key .entry)) run ⌝ }
+fn first_of(file: &[u8], table: Table, hash: u32, run: Run, key: &[u8], manner: Manner) -> Found
+    requires { ⌜ InFile (now file) table × (hash ≡ hashBy (ruleOf (manner .form)) (now key)) ⌝ }
+    ensures { λ r. ⌜ r ≡ firstOf (mannerOf manner) (now (file .entry)) table (now (key .entry)) run ⌝ }
 {
     let last = run.last;
     let count = table.count;
@@ -110,7 +118,7 @@ fn first_of(file: &[u8], table: Table, hash: u32, run: Run, key: &[u8]) -> Found
         if count <= at {
             return Found::Nothing;
         }
-        if item_matches(file, table, hash, at, key) {
+        if item_matches(file, table, hash, at, key, manner) {
             return Found::At(at);
         }
         at += 1;
@@ -120,9 +128,9 @@ fn first_of(file: &[u8], table: Table, hash: u32, run: Run, key: &[u8]) -> Found
 
 // gvdb-rs: get_hash_item.
 // The item that a key names.
-pub fn find_item(file: &[u8], table: Table, key: &[u8]) -> Found
+pub fn find_item(file: &[u8], table: Table, key: &[u8], manner: Manner) -> Found
     requires { ⌜ InFile (now file) table ⌝ }
-    ensures { λ r. ⌜ r ≡ findItem plain (now (file .entry)) table (now (key .entry)) ⌝ }
+    ensures { λ r. ⌜ r ≡ findItem (mannerOf manner) (now (file .entry)) table (now (key .entry)) ⌝ }
 {
     let buckets = table.buckets;
     if buckets == 0 {
@@ -131,10 +139,11 @@ pub fn find_item(file: &[u8], table: Table, key: &[u8]) -> Found
     if table.count == 0 {
         return Found::Nothing;
     }
-    let hash = djb_hash(key);
+    let form = manner.form;
+    let hash = hash_key(key, form);
     if bloom_passes(file, table, hash) {
         let run = run_of(file, table, word_size(hash) % buckets);
-        first_of(file, table, hash, run, key)
+        first_of(file, table, hash, run, key, manner)
     } else {
         Found::Nothing
     }
@@ -151,12 +160,12 @@ fn is_key(key: &[u8]) -> bool
 }
 
 // The item of a key in an open table: 8 with the offset in the key, 12, or the item.
-pub fn lookup_in(file: &[u8], table: Table, key: &[u8]) -> Sought
+pub fn lookup_in(file: &[u8], table: Table, key: &[u8], manner: Manner) -> Sought
     requires { ⌜ InFile (now file) table ⌝ }
-    ensures { λ r. ⌜ r ≡ lookupIn plain (now (file .entry)) (now (key .entry)) table ⌝ }
+    ensures { λ r. ⌜ r ≡ lookupIn (mannerOf manner) (now (file .entry)) (now (key .entry)) table ⌝ }
 {
     if is_key(key) {
-        match find_item(file, table, key) {
+        match find_item(file, table, key, manner) {
             Found::Nothing => Sought::Refused(Refusal::KeyNotFound),
             Found::At(index) => Sought::Item(item_at(file, table, index)),
         }
@@ -199,12 +208,12 @@ fn nested_of(file: &[u8], item: Item) -> Looked
 }
 
 // The value of a key in an open table: 8 with the offset in the key, 12, then the item's. It takes no `Sought`, which would carry a copy of the item.
-fn value_in(file: &[u8], table: Table, key: &[u8]) -> Looked
+fn value_in(file: &[u8], table: Table, key: &[u8], manner: Manner) -> Looked
     requires { ⌜ InFile (now file) table ⌝ }
-    ensures { λ r. ⌜ r ≡ atItem (lookupIn plain (now (file .entry)) (now (key .entry)) table) (λ item. valueOf (now (file .entry)) item) ⌝ }
+    ensures { λ r. ⌜ r ≡ atItem (lookupIn (mannerOf manner) (now (file .entry)) (now (key .entry)) table) (λ item. valueOf (now (file .entry)) item) ⌝ }
 {
     if is_key(key) {
-        match find_item(file, table, key) {
+        match find_item(file, table, key, manner) {
             Found::Nothing => Looked::Refused(Refusal::KeyNotFound),
             Found::At(index) => value_of(file, item_at(file, table, index)),
         }
@@ -215,22 +224,22 @@ fn value_in(file: &[u8], table: Table, key: &[u8]) -> Looked
 
 // gvdb-rs: get_bytes.
 // The pointer of a key's value, in the table at a pointer.
-pub fn lookup_value(file: &[u8], start: u32, end: u32, key: &[u8]) -> Looked
-    ensures { λ r. ⌜ r ≡ lookupValue plain (now (file .entry)) start end (now (key .entry)) ⌝ }
+pub fn lookup_value(file: &[u8], start: u32, end: u32, key: &[u8], manner: Manner) -> Looked
+    ensures { λ r. ⌜ r ≡ lookupValue (mannerOf manner) (now (file .entry)) start end (now (key .entry)) ⌝ }
 {
     match open_table(file, start, end) {
         Opened::Refused(unopened) => Looked::Refused(unopened),
-        Opened::Table(table) => value_in(file, table, key),
+        Opened::Table(table) => value_in(file, table, key, manner),
     }
 }
 
 // The nested table of a key in an open table: 8 with the offset in the key, 12, then the item's. It takes no `Sought`, which would carry a copy of the item.
-fn nested_in(file: &[u8], table: Table, key: &[u8]) -> Looked
+fn nested_in(file: &[u8], table: Table, key: &[u8], manner: Manner) -> Looked
     requires { ⌜ InFile (now file) table ⌝ }
-    ensures { λ r. ⌜ r ≡ atItem (lookupIn plain (now (file .entry)) (now (key .entry)) table) (λ item. nestedOf (now (file .entry)) item) ⌝ }
+    ensures { λ r. ⌜ r ≡ atItem (lookupIn (mannerOf manner) (now (file .entry)) (now (key .entry)) table) (λ item. nestedOf (now (file .entry)) item) ⌝ }
 {
     if is_key(key) {
-        match find_item(file, table, key) {
+        match find_item(file, table, key, manner) {
             Found::Nothing => Looked::Refused(Refusal::KeyNotFound),
             Found::At(index) => nested_of(file, item_at(file, table, index)),
         }
@@ -241,11 +250,11 @@ fn nested_in(file: &[u8], table: Table, key: &[u8]) -> Looked
 
 // gvdb-rs: get_hash_table.
 // The pointer of a key's nested table, in the table at a pointer.
-pub fn lookup_table(file: &[u8], start: u32, end: u32, key: &[u8]) -> Looked
-    ensures { λ r. ⌜ r ≡ lookupTable plain (now (file .entry)) start end (now (key .entry)) ⌝ }
+pub fn lookup_table(file: &[u8], start: u32, end: u32, key: &[u8], manner: Manner) -> Looked
+    ensures { λ r. ⌜ r ≡ lookupTable (mannerOf manner) (now (file .entry)) start end (now (key .entry)) ⌝ }
 {
     match open_table(file, start, end) {
         Opened::Refused(unopened) => Looked::Refused(unopened),
-        Opened::Table(table) => nested_in(file, table, key),
+        Opened::Table(table) => nested_in(file, table, key, manner),
     }
 }

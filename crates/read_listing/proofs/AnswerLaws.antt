@@ -25,7 +25,7 @@ use Rattle.read.specs.declared.lookup.Found.{Found}
 use Rattle.read_listing.specs.declared.listing.Listed.{Listed}
 use Rattle.read_listing.specs.declared.children.Childed.{Childed}
 use Rattle.read.specs.Chain.{fragmentOf, parentOf, afterPointer, climbFrom, Joined, append, joinStep, keyOf}
-use Rattle.read.specs.Find.{findItem}
+use Rattle.read.specs.Find.{Manner, findItem}
 use Rattle.read.specs.Lookup.{atFound, lookupIn, atOpened, lookupItem, atPointer, atNested, valueOf, nestedOf, atItem, lookupValue, lookupTable}
 use Rattle.read_listing.specs.Listing.{keyIn, keyOpened, keyAt, listed, nextValue, valueOpened, valueFrom, valueInOpened, valueAt}
 use Rattle.read_listing.specs.Children.{childAt, childCount, openList, atFragment, childNamed, childOf, childFrom, childOfSought, childInOpened, nextChild}
@@ -69,59 +69,59 @@ fragment-inside file start size fits = pointer-inside-is (length file) start (st
 
 -- ---- lookup: opening, 8, 12, 13, then the value pointer's 2 or 3, or what opening the nested table refuses
 
-module _ (rule : ℕ → ℕ) (file : List ℕ) (start end : ℕ) (key : List ℕ) where
-  pub value-opening : {why : Refusal} → openTable file start end ≡ Opened.Refused why → lookedNumber (lookupValue rule file start end key) ≡ number why
+module _ (manner : Manner) (file : List ℕ) (start end : ℕ) (key : List ℕ) where
+  pub value-opening : {why : Refusal} → openTable file start end ≡ Opened.Refused why → lookedNumber (lookupValue manner file start end key) ≡ number why
   unfolding lookupValue lookupItem atOpened atItem lookedNumber
   value-opening shut = rw shut
 
-  pub table-opening : {why : Refusal} → openTable file start end ≡ Opened.Refused why → lookedNumber (lookupTable rule file start end key) ≡ number why
+  pub table-opening : {why : Refusal} → openTable file start end ≡ Opened.Refused why → lookedNumber (lookupTable manner file start end key) ≡ number why
   unfolding lookupTable lookupItem atOpened atItem lookedNumber
   table-opening shut = rw shut
 
   module _ {t : Table} (opens : openTable file start end ≡ Opened.Table t) where
-    pub value-8 : isUtf8 key ≡ false → lookedNumber (lookupValue rule file start end key) ≡ 8
+    pub value-8 : isUtf8 key ≡ false → lookedNumber (lookupValue manner file start end key) ≡ 8
     unfolding lookupValue lookupItem lookupIn atOpened atItem lookedNumber pick
     value-8 bad = rw (opens, bad)
 
-    pub table-8 : isUtf8 key ≡ false → lookedNumber (lookupTable rule file start end key) ≡ 8
+    pub table-8 : isUtf8 key ≡ false → lookedNumber (lookupTable manner file start end key) ≡ 8
     unfolding lookupTable lookupItem lookupIn atOpened atItem lookedNumber pick
     table-8 bad = rw (opens, bad)
 
     module _ (text : isUtf8 key ≡ true) where
-      pub value-12 : findItem rule file t key ≡ Found.Nothing → lookedNumber (lookupValue rule file start end key) ≡ 12
+      pub value-12 : findItem manner file t key ≡ Found.Nothing → lookedNumber (lookupValue manner file start end key) ≡ 12
       unfolding lookupValue lookupItem lookupIn atOpened atItem atFound lookedNumber pick
       value-12 none = rw (opens, text, none)
 
-      pub table-12 : findItem rule file t key ≡ Found.Nothing → lookedNumber (lookupTable rule file start end key) ≡ 12
+      pub table-12 : findItem manner file t key ≡ Found.Nothing → lookedNumber (lookupTable manner file start end key) ≡ 12
       unfolding lookupTable lookupItem lookupIn atOpened atItem atFound lookedNumber pick
       table-12 none = rw (opens, text, none)
 
-      module _ {i : ℕ} (found : findItem rule file t key ≡ Found.At i) where
-        pub value-found : lookupValue rule file start end key ≡ valueOf file (itemAt file t i)
+      module _ {i : ℕ} (found : findItem manner file t key ≡ Found.At i) where
+        pub value-found : lookupValue manner file start end key ≡ valueOf file (itemAt file t i)
         unfolding lookupValue lookupItem lookupIn atOpened atItem atFound pick
         value-found = rw (opens, text, found)
 
-        pub table-found : lookupTable rule file start end key ≡ nestedOf file (itemAt file t i)
+        pub table-found : lookupTable manner file start end key ≡ nestedOf file (itemAt file t i)
         unfolding lookupTable lookupItem lookupIn atOpened atItem atFound pick
         table-found = rw (opens, text, found)
 
-        pub value-13 : (itemAt file t i .kind ≡ 118 → ⊥) → lookedNumber (lookupValue rule file start end key) ≡ 13
+        pub value-13 : (itemAt file t i .kind ≡ 118 → ⊥) → lookedNumber (lookupValue manner file start end key) ≡ 13
         unfolding valueOf lookedNumber pick
         value-13 other = ap lookedNumber value-found ∙ rw (ne-eqb _ _ other)
 
-        pub table-13 : (itemAt file t i .kind ≡ 72 → ⊥) → lookedNumber (lookupTable rule file start end key) ≡ 13
+        pub table-13 : (itemAt file t i .kind ≡ 72 → ⊥) → lookedNumber (lookupTable manner file start end key) ≡ 13
         unfolding nestedOf lookedNumber pick
         table-13 other = ap lookedNumber table-found ∙ rw (ne-eqb _ _ other)
 
         -- 2 or 3 of the value pointer, or the value's pointer
         pub value-pointer : itemAt file t i .kind ≡ 118
-            → lookedNumber (lookupValue rule file start end key) ≡ pointedNumber (openPointer (length file) (itemAt file t i .from) (itemAt file t i .to) 8)
+            → lookedNumber (lookupValue manner file start end key) ≡ pointedNumber (openPointer (length file) (itemAt file t i .from) (itemAt file t i .to) 8)
         unfolding valueOf lookedNumber pick
         value-pointer kind = ap lookedNumber value-found ∙ rw (eq-eqb _ _ kind) (pointed-looked _ (itemAt file t i))
 
         -- what opening the nested table refuses, or its pointer
         pub table-nested : itemAt file t i .kind ≡ 72
-            → lookedNumber (lookupTable rule file start end key) ≡ openedNumber (openTable file (itemAt file t i .from) (itemAt file t i .to))
+            → lookedNumber (lookupTable manner file start end key) ≡ openedNumber (openTable file (itemAt file t i .from) (itemAt file t i .to))
         unfolding nestedOf pick
         table-nested kind = ap lookedNumber table-found ∙ rw (eq-eqb _ _ kind) (nested-looked _ (itemAt file t i))
 
@@ -230,84 +230,84 @@ module _ (file : List ℕ) (start end at : ℕ) where
 
 -- ---- children of a container: opening, 8, 12; of the container 13, then 2 or 3 of its value pointer, then 13 for its length; 15; of the child 10, 13, then 2 or 9
 
-module _ (rule : ℕ → ℕ) (file : List ℕ) (start end : ℕ) (key : List ℕ) (at : ℕ) where
-  pub children-opening : {why : Refusal} → openTable file start end ≡ Opened.Refused why → childedNumber (nextChild rule file start end key at) ≡ number why
+module _ (manner : Manner) (file : List ℕ) (start end : ℕ) (key : List ℕ) (at : ℕ) where
+  pub children-opening : {why : Refusal} → openTable file start end ≡ Opened.Refused why → childedNumber (nextChild manner file start end key at) ≡ number why
   unfolding nextChild childInOpened childedNumber
   children-opening shut = rw shut
 
   module _ {t : Table} (opens : openTable file start end ≡ Opened.Table t) where
-    pub children-8 : isUtf8 key ≡ false → (childedNumber (nextChild rule file start end key at) ≡ 8) × (childedAt (nextChild rule file start end key at) ≡ firstBad key)
+    pub children-8 : isUtf8 key ≡ false → (childedNumber (nextChild manner file start end key at) ≡ 8) × (childedAt (nextChild manner file start end key at) ≡ firstBad key)
     unfolding nextChild childInOpened childOfSought lookupIn childedNumber childedAt pick
     children-8 bad = (rw (opens, bad), rw (opens, bad))
 
     module _ (text : isUtf8 key ≡ true) where
-      pub children-12 : findItem rule file t key ≡ Found.Nothing → childedNumber (nextChild rule file start end key at) ≡ 12
+      pub children-12 : findItem manner file t key ≡ Found.Nothing → childedNumber (nextChild manner file start end key at) ≡ 12
       unfolding nextChild childInOpened childOfSought lookupIn atFound childedNumber pick
       children-12 none = rw (opens, text, none)
 
-      module _ {i : ℕ} (found : findItem rule file t key ≡ Found.At i) where
-        children-found : nextChild rule file start end key at ≡ childFrom (openList file (itemAt file t i)) file t (itemAt file t i) at
+      module _ {i : ℕ} (found : findItem manner file t key ≡ Found.At i) where
+        children-found : nextChild manner file start end key at ≡ childFrom (openList file (itemAt file t i)) file t (itemAt file t i) at
         unfolding nextChild childInOpened childOfSought lookupIn atFound pick
         children-found = rw (opens, text, found)
 
-        children-shut : {why : Refusal} → Pointed.Refused why ≡ openList file (itemAt file t i) → childedNumber (nextChild rule file start end key at) ≡ number why
+        children-shut : {why : Refusal} → Pointed.Refused why ≡ openList file (itemAt file t i) → childedNumber (nextChild manner file start end key at) ≡ number why
         unfolding childFrom childedNumber
         children-shut e = ap childedNumber children-found ∙ rw (sym e)
 
         -- the item is no container
-        pub children-other : (itemAt file t i .kind ≡ 76 → ⊥) → childedNumber (nextChild rule file start end key at) ≡ 13
+        pub children-other : (itemAt file t i .kind ≡ 76 → ⊥) → childedNumber (nextChild manner file start end key at) ≡ 13
         unfolding openList pick
         children-other other = children-shut {why = OtherKind} (rw (ne-eqb _ _ other))
 
         module _ (kind : itemAt file t i .kind ≡ 76) where
           -- 2 or 3 of the value pointer
           pub children-pointer : {why : Refusal} → openPointer (length file) (itemAt file t i .from) (itemAt file t i .to) 4 ≡ Pointed.Refused why
-              → childedNumber (nextChild rule file start end key at) ≡ number why
+              → childedNumber (nextChild manner file start end key at) ≡ number why
           children-pointer e = children-shut (list-refused file (itemAt file t i) kind refl refl e)
 
           module _ (inside : openPointer (length file) (itemAt file t i .from) (itemAt file t i .to) 4 ≡ Pointed.Inside) where
-            pub children-uneven : ((itemAt file t i .to - itemAt file t i .from) % 4 ≡ 0 → ⊥) → childedNumber (nextChild rule file start end key at) ≡ 13
+            pub children-uneven : ((itemAt file t i .to - itemAt file t i .from) % 4 ≡ 0 → ⊥) → childedNumber (nextChild manner file start end key at) ≡ 13
             children-uneven uneven = children-shut (list-uneven file (itemAt file t i) kind refl refl inside uneven)
 
             module _ (whole : (itemAt file t i .to - itemAt file t i .from) % 4 ≡ 0) where
-              children-listed : nextChild rule file start end key at ≡ childFrom Pointed.Inside file t (itemAt file t i) at
+              children-listed : nextChild manner file start end key at ≡ childFrom Pointed.Inside file t (itemAt file t i) at
               children-listed = children-found ∙ rw (sym (list-whole file (itemAt file t i) kind refl refl inside whole))
 
-              pub children-past : childCount (itemAt file t i) ≤ at → nextChild rule file start end key at ≡ Childed.Refused PastTheLast
+              pub children-past : childCount (itemAt file t i) ≤ at → nextChild manner file start end key at ≡ Childed.Refused PastTheLast
               unfolding childFrom pick
               children-past past = children-listed ∙ rw (le-ltb _ _ past)
 
-              pub children-15 : childCount (itemAt file t i) ≤ at → childedNumber (nextChild rule file start end key at) ≡ 15
+              pub children-15 : childCount (itemAt file t i) ≤ at → childedNumber (nextChild manner file start end key at) ≡ 15
               unfolding childedNumber
               children-15 past = ap childedNumber (children-past past)
 
               module _ (listed : at < childCount (itemAt file t i)) (child : ℕ) (is : childAt file (itemAt file t i .from) at ≡ child) where
-                children-child : nextChild rule file start end key at ≡ childOf file t child at
+                children-child : nextChild manner file start end key at ≡ childOf file t child at
                 unfolding childFrom pick
                 children-child = children-listed ∙ rw (lt-ltb _ _ listed, is)
 
-                pub children-10 : t .count ≤ child → childedNumber (nextChild rule file start end key at) ≡ 10
+                pub children-10 : t .count ≤ child → childedNumber (nextChild manner file start end key at) ≡ 10
                 unfolding childOf childedNumber pick
                 children-10 past = ap childedNumber children-child ∙ rw (le-leb _ _ past)
 
                 module _ (below : child < t .count) where
                   -- the child's kind is not known
-                  pub children-13 : kindKnown (itemAt file t child .kind) ≡ false → childedNumber (nextChild rule file start end key at) ≡ 13
+                  pub children-13 : kindKnown (itemAt file t child .kind) ≡ false → childedNumber (nextChild manner file start end key at) ≡ 13
                   unfolding childOf childedNumber pick
                   children-13 strange = ap childedNumber children-child ∙ rw (lt-leb _ _ below, strange)
 
                   module _ (known : kindKnown (itemAt file t child .kind) ≡ true) where
-                    children-named : nextChild rule file start end key at ≡ childNamed file child (itemAt file t child) at
+                    children-named : nextChild manner file start end key at ≡ childNamed file child (itemAt file t child) at
                     unfolding childOf pick
                     children-named = children-child ∙ rw (lt-leb _ _ below, known)
 
-                    pub children-2 : length file < itemAt file t child .key + itemAt file t child .size → childedNumber (nextChild rule file start end key at) ≡ 2
+                    pub children-2 : length file < itemAt file t child .key + itemAt file t child .size → childedNumber (nextChild manner file start end key at) ≡ 2
                     unfolding childNamed atFragment childedNumber
                     children-2 past = ap childedNumber children-named ∙ rw (fragment-outside file (itemAt file t child .key) (itemAt file t child .size) past)
 
                     module _ (fits : itemAt file t child .key + itemAt file t child .size ≤ length file) where
                       pub children-9 : isUtf8 (fragmentOf file (itemAt file t child)) ≡ false
-                          → (childedNumber (nextChild rule file start end key at) ≡ 9) × (childedAt (nextChild rule file start end key at) ≡ firstBad (fragmentOf file (itemAt file t child)))
+                          → (childedNumber (nextChild manner file start end key at) ≡ 9) × (childedAt (nextChild manner file start end key at) ≡ firstBad (fragmentOf file (itemAt file t child)))
                       unfolding childNamed atFragment childedNumber childedAt pick
                       children-9 bad =
                           let opens = fragment-inside file (itemAt file t child .key) (itemAt file t child .size) fits in
@@ -315,7 +315,7 @@ module _ (rule : ℕ → ℕ) (file : List ℕ) (start end : ℕ) (key : List �
 
                       -- the child, its kind, the place of its fragment, and the next position
                       pub children-0 : isUtf8 (fragmentOf file (itemAt file t child)) ≡ true
-                          → nextChild rule file start end key at
+                          → nextChild manner file start end key at
                           ≡ Childed.Child child (itemAt file t child .kind) (itemAt file t child .key) (itemAt file t child .key + itemAt file t child .size) (record { at = at + 1 })
                       unfolding childNamed atFragment pick
                       children-0 good = children-named ∙ rw (fragment-inside file (itemAt file t child .key) (itemAt file t child .size) fits, good)

@@ -29,7 +29,7 @@ use Rattle.read.specs.declared.lookup.Sought.{Sought}
 use Rattle.read.specs.declared.lookup.Looked.{Looked}
 use Rattle.read_listing.specs.declared.listing.Listed.{Listed}
 use Rattle.read.specs.Chain.{fragmentOf, parentOf, afterPointer, climbFrom, Joined, append, joinStep, keyOf}
-use Rattle.read.specs.Find.{findItem}
+use Rattle.read.specs.Find.{Manner, findItem}
 use Rattle.read.specs.Lookup.{atFound, lookupIn, atOpened, lookupItem, valueOf, nestedOf, atItem, lookupValue, lookupTable}
 use Rattle.read_listing.specs.Listing.{keyIn, keyOpened, keyAt, listed}
 use Rattle.read.specs.Answer.{lookedNumber}
@@ -55,41 +55,41 @@ nested-other file item =
     let P : Looked → Type 0 = λ l. lookedNumber l ≡ 8 → ⊥ in
     pick-with P _ _ _ (λ _ e. omega (arith, e, nested-looked (openTable file (item .from) (item .to)) item, opened-below file (item .from) (item .to))) (λ _ e. omega arith)
 
-module _ (rule : ℕ → ℕ) (file : List ℕ) (start end : ℕ) (key : List ℕ) {at : ℕ} where
+module _ (manner : Manner) (file : List ℕ) (start end : ℕ) (key : List ℕ) {at : ℕ} where
   found-other : (t : Table) (f : Found) → atFound file t f ≡ Sought.Refused (KeyNotUtf8 at) → ⊥
   unfolding atFound
   found-other t (Found.At i) e = let z : _≡_ {A = ℕ} 0 1 = cc in omega arith
   found-other t Found.Nothing e = let z : _≡_ {A = ℕ} 0 1 = cc in omega arith
 
-  opened-8 : (o : Opened) → openTable file start end ≡ o → atOpened o (λ t. lookupIn rule file key t) ≡ Sought.Refused (KeyNotUtf8 at)
+  opened-8 : (o : Opened) → openTable file start end ≡ o → atOpened o (λ t. lookupIn manner file key t) ≡ Sought.Refused (KeyNotUtf8 at)
       → (t : Table) × (openTable file start end ≡ Opened.Table t) × BadText key at
   unfolding atOpened lookupIn
   opened-8 (Opened.Table t) opens e = (t, opens, by-text e)
     where
-      by-text : lookupIn rule file key t ≡ Sought.Refused (KeyNotUtf8 at) → BadText key at
+      by-text : lookupIn manner file key t ≡ Sought.Refused (KeyNotUtf8 at) → BadText key at
       by-text =
           let P : Sought → Type 0 = λ s. s ≡ Sought.Refused (KeyNotUtf8 at) → BadText key at in
-          pick-with P _ _ _ (λ _ f. absurd (found-other t (findItem rule file t key) f)) (λ bad f. bad-there key bad (cc))
+          pick-with P _ _ _ (λ _ f. absurd (found-other t (findItem manner file t key) f)) (λ bad f. bad-there key bad (cc))
   opened-8 (Opened.Refused why) opens e =
       let is : why ≡ KeyNotUtf8 at = cc in
       absurd (omega (arith, subst (λ (w : Refusal). number w < 8) is (opened-low file start end opens)))
 
-  sought-8 : (of : Item → Looked) → ((item : Item) → lookedNumber (of item) ≡ 8 → ⊥) → (s : Sought) → lookupItem rule file start end key ≡ s
+  sought-8 : (of : Item → Looked) → ((item : Item) → lookedNumber (of item) ≡ 8 → ⊥) → (s : Sought) → lookupItem manner file start end key ≡ s
       → atItem s of ≡ Looked.Refused (KeyNotUtf8 at) → (t : Table) × (openTable file start end ≡ Opened.Table t) × BadText key at
   unfolding atItem lookupItem lookedNumber
   sought-8 of other (Sought.Item item) sought e = absurd (other item (ap lookedNumber e))
   sought-8 of other (Sought.Refused why) sought e = opened-8 (openTable file start end) refl (sought ∙ (cc))
 
   eight : (of : Item → Looked) → ((t : Table) × (openTable file start end ≡ Opened.Table t) × BadText key at)
-      → atItem (lookupItem rule file start end key) of ≡ Looked.Refused (KeyNotUtf8 at)
+      → atItem (lookupItem manner file start end key) of ≡ Looked.Refused (KeyNotUtf8 at)
   unfolding atItem lookupItem atOpened lookupIn pick
   eight of (t, opens, bad) = rw (opens, bad-no-utf8 key bad) (ap (λ (n : ℕ). Looked.Refused (KeyNotUtf8 n)) (sym (bad .is)))
 
 pub eight-at : EightAt
 unfolding lookupValue lookupTable
-eight-at rule file start end key at = (
-  (sought-8 rule file start end key (λ item. valueOf file item) (value-other file) _ refl, eight rule file start end key (λ item. valueOf file item)),
-  (sought-8 rule file start end key (λ item. nestedOf file item) (nested-other file) _ refl, eight rule file start end key (λ item. nestedOf file item)),
+eight-at manner file start end key at = (
+  (sought-8 manner file start end key (λ item. valueOf file item) (value-other file) _ refl, eight manner file start end key (λ item. valueOf file item)),
+  (sought-8 manner file start end key (λ item. nestedOf file item) (nested-other file) _ refl, eight manner file start end key (λ item. nestedOf file item)),
 )
 
 -- ---- 9

@@ -8,3 +8,4 @@ pub mod TwoFilterWords
 pub mod AnswerLaws
 pub mod BadLaws
 pub mod ChildLaws
+pub mod FormLaws

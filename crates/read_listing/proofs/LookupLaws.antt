@@ -18,6 +18,7 @@ use Rattle.read_listing.specs.declared.listing.Valued.{Valued}
 use Rattle.read_listing.specs.declared.children.Childed.{Childed}
 use Rattle.read.specs.Lookup.{lookupIn, atPointer, atNested, valueOf, nestedOf, atItem, lookupValue, lookupTable}
 use Rattle.read_listing.specs.Listing.{nextValue, valueOpened, valueFrom, valueInOpened, valueAt}
+use Rattle.read.specs.Find.{Manner}
 use Rattle.read_listing.specs.Children.{childAt, openList, atFragment, childNamed, childOf, childFrom, childOfSought, childInOpened, nextChild}
 
 -- ---- a pointer whose table opens
@@ -68,13 +69,13 @@ unfolding atItem LookedFits
 at-item-fits file (Sought.Item item) of fits = fits item
 at-item-fits file (Sought.Refused why) of fits = tt
 
-pub value-looked-fits : (rule : ℕ → ℕ) (file : List ℕ) (start end : ℕ) (key : List ℕ) → LookedFits file (lookupValue rule file start end key)
+pub value-looked-fits : (manner : Manner) (file : List ℕ) (start end : ℕ) (key : List ℕ) → LookedFits file (lookupValue manner file start end key)
 unfolding lookupValue
-value-looked-fits rule file start end key = at-item-fits file _ _ (λ item. value-fits file item)
+value-looked-fits manner file start end key = at-item-fits file _ _ (λ item. value-fits file item)
 
-pub table-looked-fits : (rule : ℕ → ℕ) (file : List ℕ) (start end : ℕ) (key : List ℕ) → LookedFits file (lookupTable rule file start end key)
+pub table-looked-fits : (manner : Manner) (file : List ℕ) (start end : ℕ) (key : List ℕ) → LookedFits file (lookupTable manner file start end key)
 unfolding lookupTable
-table-looked-fits rule file start end key = at-item-fits file _ _ (λ item. nested-fits file item)
+table-looked-fits manner file start end key = at-item-fits file _ _ (λ item. nested-fits file item)
 
 -- ---- value listing
 
@@ -118,9 +119,9 @@ child-of-fits file t index at =
     by-pointer Pointed.Inside e = pick-with (ChildedFits file) _ _ _ (λ _. pointer-inside _ _ _ _ e) (λ _. tt)
     by-pointer (Pointed.Refused why) e = tt
 
-pub childed-fits : (rule : ℕ → ℕ) (file : List ℕ) (start end : ℕ) (key : List ℕ) (at : ℕ) → ChildedFits file (nextChild rule file start end key at)
+pub childed-fits : (manner : Manner) (file : List ℕ) (start end : ℕ) (key : List ℕ) (at : ℕ) → ChildedFits file (nextChild manner file start end key at)
 unfolding nextChild childInOpened childOfSought childFrom ChildedFits
-childed-fits rule file start end key at = by-table (openTable file start end)
+childed-fits manner file start end key at = by-table (openTable file start end)
   where
     by-list : (t : Table) (item : Item) (p : Pointed) → ChildedFits file (childFrom p file t item at)
     by-list t item Pointed.Inside = pick-with (ChildedFits file) _ _ _ (λ _. child-of-fits file t (childAt file (item .from) at) at) (λ _. tt)
@@ -130,6 +131,6 @@ childed-fits rule file start end key at = by-table (openTable file start end)
     by-item t (Sought.Item item) = by-list t item (openList file item)
     by-item t (Sought.Refused why) = tt
 
-    by-table : (o : Opened) → ChildedFits file (childInOpened rule file key at o)
-    by-table (Opened.Table t) = by-item t (lookupIn rule file key t)
+    by-table : (o : Opened) → ChildedFits file (childInOpened manner file key at o)
+    by-table (Opened.Table t) = by-item t (lookupIn manner file key t)
     by-table (Opened.Refused why) = tt

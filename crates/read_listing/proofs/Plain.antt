@@ -28,7 +28,7 @@ use Rattle.read_listing.specs.declared.listing.Listed.{Listed}
 use Rattle.read_listing.specs.declared.listing.Valued.{Valued}
 use Rattle.read_listing.specs.declared.children.Childed.{Childed}
 use Rattle.read.specs.Chain.{fragmentOf, parentOf, climbFrom, Joined, append, joinStep, keyOf, names}
-use Rattle.read.specs.Find.{bloomPasses, runOf, itemMatches, findItem}
+use Rattle.read.specs.Find.{Manner, bloomPasses, runOf, itemMatches, findItem}
 use Rattle.read.specs.Lookup.{lookupValue, lookupTable}
 use Rattle.read_listing.specs.Answer.{listedNumber}
 use Rattle.read_listing.specs.Listing.{keyIn, keyOpened, keyAt, listed, written, nextValue, valueAt}
@@ -42,51 +42,51 @@ use Rattle.read_listing.proofs.ListingLaws.{in-range, key-in-range, fro
 -- ---- lookup
 
 -- an item of the table with the key's hash, whose chain joins the key, of a kind and with a pointer
-pub record Named (rule : ℕ → ℕ) (file : List ℕ) (t : Table) (key : List ℕ) (i kind from to : ℕ) : Type 0 where
+pub record Named (manner : Manner) (file : List ℕ) (t : Table) (key : List ℕ) (i kind from to : ℕ) : Type 0 where
   pub below : i < t .count
-  pub hashed : itemAt file t i .hash ≡ hashBy rule key
+  pub hashed : itemAt file t i .hash ≡ hashBy (manner .byte) key
   pub joins : keyOf file t (t .count) i ≡ Joined.joined key
   pub kinded : itemAt file t i .kind ≡ kind
   pub starts : itemAt file t i .from ≡ from
   pub ends : itemAt file t i .to ≡ to
 
 -- the run of the key's bucket
-abbrev pub runFor : (ℕ → ℕ) → List ℕ → Table → List ℕ → Run
-runFor rule file t key = runOf file t (hashBy rule key % t .buckets)
+abbrev pub runFor : Manner → List ℕ → Table → List ℕ → Run
+runFor manner file t key = runOf file t (hashBy (manner .byte) key % t .buckets)
 
-module _ (rule : ℕ → ℕ) (file : List ℕ) (t : Table) (key : List ℕ) where
+module _ (manner : Manner) (file : List ℕ) (t : Table) (key : List ℕ) where
   -- what is found is an item of the table, has the key's hash, and its chain joins the key
-  pub found-names : (i : ℕ) → findItem rule file t key ≡ Found.At i
-      → (i < t .count) × (itemAt file t i .hash ≡ hashBy rule key) × (keyOf file t (t .count) i ≡ Joined.joined key)
+  pub found-names : (i : ℕ) → findItem manner file t key ≡ Found.At i
+      → (i < t .count) × (itemAt file t i .hash ≡ hashBy (manner .byte) key) × (keyOf file t (t .count) i ≡ Joined.joined key)
   unfolding FindSays
   found-names i e =
-      let says = subst (FindSays rule file t key (runFor rule file t key)) e (find-says rule file t key) in
-      let named = match-true rule file t key i (says .3) in
+      let says = subst (FindSays manner file t key (runFor manner file t key)) e (find-says manner file t key) in
+      let named = match-true manner file t key i (says .3) in
       (says .0, named .0, named .1)
 
   -- it lies in the run of the key's bucket, and no item before it in the run has the hash and joins the key
-  pub found-first : (i : ℕ) → findItem rule file t key ≡ Found.At i
-      → (runFor rule file t key .first ≤ i) × (i < runFor rule file t key .last)
-      × ((k : ℕ) → runFor rule file t key .first ≤ k → k < i
-      → itemAt file t k .hash ≡ hashBy rule key → keyOf file t (t .count) k ≡ Joined.joined key → ⊥)
+  pub found-first : (i : ℕ) → findItem manner file t key ≡ Found.At i
+      → (runFor manner file t key .first ≤ i) × (i < runFor manner file t key .last)
+      × ((k : ℕ) → runFor manner file t key .first ≤ k → k < i
+      → itemAt file t k .hash ≡ hashBy (manner .byte) key → keyOf file t (t .count) k ≡ Joined.joined key → ⊥)
   unfolding FindSays
   found-first i e =
-      let says = subst (FindSays rule file t key (runFor rule file t key)) e (find-says rule file t key) in
-      (says .1, says .2, λ k l h. match-false rule file t key k (says .4 k l h))
+      let says = subst (FindSays manner file t key (runFor manner file t key)) e (find-says manner file t key) in
+      (says .1, says .2, λ k l h. match-false manner file t key k (says .4 k l h))
 
   -- what is not found has no item in its run that has the hash and joins the key
-  pub not-found : findItem rule file t key ≡ Found.Nothing → (t .buckets ≡ 0 → ⊥) → bloomPasses file t (hashBy rule key) ≡ true
-      → (i : ℕ) → runFor rule file t key .first ≤ i → i < runFor rule file t key .last → i < t .count
-      → itemAt file t i .hash ≡ hashBy rule key → keyOf file t (t .count) i ≡ Joined.joined key → ⊥
+  pub not-found : findItem manner file t key ≡ Found.Nothing → (t .buckets ≡ 0 → ⊥) → bloomPasses (manner .shift) file t (hashBy (manner .byte) key) ≡ true
+      → (i : ℕ) → runFor manner file t key .first ≤ i → i < runFor manner file t key .last → i < t .count
+      → itemAt file t i .hash ≡ hashBy (manner .byte) key → keyOf file t (t .count) i ≡ Joined.joined key → ⊥
   unfolding FindSays
   not-found e some passes i from to below =
-      let says = subst (FindSays rule file t key (runFor rule file t key)) e (find-says rule file t key) in
-      match-false rule file t key i (says some passes i from to below)
+      let says = subst (FindSays manner file t key (runFor manner file t key)) e (find-says manner file t key) in
+      match-false manner file t key i (says some passes i from to below)
 
-named : (rule : ℕ → ℕ) (file : List ℕ) (t : Table) (key : List ℕ) (i : ℕ) {item : Item} {kind from to : ℕ} → findItem rule file t key ≡ Found.At i
-    → itemAt file t i ≡ item → Placed kind item from to → Named rule file t key i kind from to
-named rule file t key i found is placed =
-    let names = found-names rule file t key i found in
+named : (manner : Manner) (file : List ℕ) (t : Table) (key : List ℕ) (i : ℕ) {item : Item} {kind from to : ℕ} → findItem manner file t key ≡ Found.At i
+    → itemAt file t i ≡ item → Placed kind item from to → Named manner file t key i kind from to
+named manner file t key i found is placed =
+    let names = found-names manner file t key i found in
     record {
       below = names .0;
       hashed = names .1;
@@ -97,30 +97,30 @@ named rule file t key i found is placed =
     }
 
 -- a value that is looked up is that of an item of kind 'v' of the table, with the key's hash, whose chain joins the key
-pub value-named : (rule : ℕ → ℕ) (file : List ℕ) (start end : ℕ) (key : List ℕ) {from to : ℕ} → lookupValue rule file start end key ≡ Looked.Pointer from to
-    → (t : Table) × (i : ℕ) × (openTable file start end ≡ Opened.Table t) × Named rule file t key i 118 from to
-value-named rule file start end key e =
-    let a = value-answers rule file start end key e in
-    (a .seeks .table, a .seeks .index, a .seeks .opens, named rule file (a .seeks .table) key (a .seeks .index) (a .seeks .found) (a .seeks .is) (a .placed))
+pub value-named : (manner : Manner) (file : List ℕ) (start end : ℕ) (key : List ℕ) {from to : ℕ} → lookupValue manner file start end key ≡ Looked.Pointer from to
+    → (t : Table) × (i : ℕ) × (openTable file start end ≡ Opened.Table t) × Named manner file t key i 118 from to
+value-named manner file start end key e =
+    let a = value-answers manner file start end key e in
+    (a .seeks .table, a .seeks .index, a .seeks .opens, named manner file (a .seeks .table) key (a .seeks .index) (a .seeks .found) (a .seeks .is) (a .placed))
 
 -- a nested table that is looked up is that of an item of kind 'H', in the same way
-pub table-named : (rule : ℕ → ℕ) (file : List ℕ) (start end : ℕ) (key : List ℕ) {from to : ℕ} → lookupTable rule file start end key ≡ Looked.Pointer from to
-    → (t : Table) × (i : ℕ) × (openTable file start end ≡ Opened.Table t) × Named rule file t key i 72 from to
-table-named rule file start end key e =
-    let a = table-answers rule file start end key e in
-    (a .seeks .table, a .seeks .index, a .seeks .opens, named rule file (a .seeks .table) key (a .seeks .index) (a .seeks .found) (a .seeks .is) (a .placed))
+pub table-named : (manner : Manner) (file : List ℕ) (start end : ℕ) (key : List ℕ) {from to : ℕ} → lookupTable manner file start end key ≡ Looked.Pointer from to
+    → (t : Table) × (i : ℕ) × (openTable file start end ≡ Opened.Table t) × Named manner file t key i 72 from to
+table-named manner file start end key e =
+    let a = table-answers manner file start end key e in
+    (a .seeks .table, a .seeks .index, a .seeks .opens, named manner file (a .seeks .table) key (a .seeks .index) (a .seeks .found) (a .seeks .is) (a .placed))
 
 -- a value that is looked up lies in the file
-pub value-in-file : (rule : ℕ → ℕ) (file : List ℕ) (start end : ℕ) (key : List ℕ) {from to : ℕ} → lookupValue rule file start end key ≡ Looked.Pointer from to
+pub value-in-file : (manner : Manner) (file : List ℕ) (start end : ℕ) (key : List ℕ) {from to : ℕ} → lookupValue manner file start end key ≡ Looked.Pointer from to
     → (from ≤ to) × (to ≤ length file)
 unfolding LookedFits
-value-in-file rule file start end key e = subst (LookedFits file) e (value-looked-fits rule file start end key)
+value-in-file manner file start end key e = subst (LookedFits file) e (value-looked-fits manner file start end key)
 
 -- and so does a nested table
-pub table-in-file : (rule : ℕ → ℕ) (file : List ℕ) (start end : ℕ) (key : List ℕ) {from to : ℕ} → lookupTable rule file start end key ≡ Looked.Pointer from to
+pub table-in-file : (manner : Manner) (file : List ℕ) (start end : ℕ) (key : List ℕ) {from to : ℕ} → lookupTable manner file start end key ≡ Looked.Pointer from to
     → (from ≤ to) × (to ≤ length file)
 unfolding LookedFits
-table-in-file rule file start end key e = subst (LookedFits file) e (table-looked-fits rule file start end key)
+table-in-file manner file start end key e = subst (LookedFits file) e (table-looked-fits manner file start end key)
 
 -- ---- listing
 
@@ -131,10 +131,10 @@ unfolding ValuedFits
 listed-value-in-file file start end at e = subst (ValuedFits file) e (valued-fits file start end at)
 
 -- so does the fragment of a child that is listed
-pub child-in-file : (rule : ℕ → ℕ) (file : List ℕ) (start end : ℕ) (key : List ℕ) (at : ℕ) {index kind from to : ℕ} {next : Cursor}
-    → nextChild rule file start end key at ≡ Childed.Child index kind from to next → (from ≤ to) × (to ≤ length file)
+pub child-in-file : (manner : Manner) (file : List ℕ) (start end : ℕ) (key : List ℕ) (at : ℕ) {index kind from to : ℕ} {next : Cursor}
+    → nextChild manner file start end key at ≡ Childed.Child index kind from to next → (from ≤ to) × (to ≤ length file)
 unfolding ChildedFits
-child-in-file rule file start end key at e = subst (ChildedFits file) e (childed-fits rule file start end key at)
+child-in-file manner file start end key at e = subst (ChildedFits file) e (childed-fits manner file start end key at)
 
 -- the item listed is the first of kind 'v' at or after the position; where there is none, no item from there on is of kind 'v'
 pub next-value-first : (file : List ℕ) (t : Table) (at : ℕ) → nextValue file t at < t .count
@@ -198,6 +198,6 @@ module _ (file : List ℕ) (t : Table) (i : ℕ) (lies : InFile file t) (below :
   self-parent-listed start end room table = rw (table, in-range file t i below, self-parent-ends (t .count))
 
   -- and it matches no key
-  pub self-parent-no-match : (rule : ℕ → ℕ) (key : List ℕ) → itemMatches rule file t key i ≡ false
+  pub self-parent-no-match : (manner : Manner) (key : List ℕ) → itemMatches manner file t key i ≡ false
   unfolding itemMatches names
-  self-parent-no-match rule key = rw (self-parent-ends (t .count)) (pick-same _ false)
+  self-parent-no-match manner key = rw (self-parent-ends (t .count)) (pick-same _ false)

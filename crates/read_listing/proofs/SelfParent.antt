@@ -8,14 +8,14 @@ use Rattle.words.specs.Store.{zeros, copies}
 use Rattle.words.specs.Field.{field}
 use Rattle.words.specs.Field as fields
 use Rattle.words.specs.Bits.{bloomCount}
-use Rattle.words.specs.Hash.{plain, hashBy, hashFrom}
+use Rattle.words.specs.Hash.{hashBy, hashFrom}
 use Rattle.text.specs.Utf8.{isUtf8, firstBad, goodFrom}
 use Rattle.layout.specs.Pointer.{openPointer}
 use Rattle.layout.specs.Table.{tableOf, tableIn, openTable}
 use Rattle.layout.specs.Item.{itemAt}
 use Rattle.layout.specs.Answer.{openedNumber}
 use Rattle.read.specs.Chain.{fragmentOf, parentOf, afterPointer, climbFrom, append, joinStep, keyOf, names}
-use Rattle.read.specs.Find.{bloomPasses, bucketWord, runOf, itemMatches, firstFrom, firstOf, findItem}
+use Rattle.read.specs.Find.{rust, bloomPasses, bucketWord, runOf, itemMatches, firstFrom, firstOf, findItem}
 use Rattle.read.specs.Lookup.{atFound, lookupIn, atOpened, lookupItem, atItem, lookupValue}
 use Rattle.read_listing.specs.Listing.{keyIn, keyOpened, keyAt, listed}
 use Rattle.read.specs.Answer.{lookedNumber}
@@ -36,6 +36,6 @@ pub self-parent-11 : listedNumber (listed (keyAt selfParent 24 60 0) 16 0) ≡ 1
 unfolding selfParent copies openTable openPointer tableIn tableOf bloomCount field fields.littleEndian pick keyAt keyOpened keyIn keyOf joinStep append climbFrom afterPointer parentOf fragmentOf isUtf8 firstBad goodFrom itemAt listed listedNumber
 self-parent-11 = refl
 
-pub self-parent-12 : lookedNumber (lookupValue plain selfParent 24 60 []) ≡ 12
+pub self-parent-12 : lookedNumber (lookupValue rust selfParent 24 60 []) ≡ 12
 unfolding selfParent copies openTable openPointer tableIn tableOf bloomCount field fields.littleEndian pick keyOf joinStep append climbFrom afterPointer parentOf fragmentOf isUtf8 firstBad goodFrom itemAt names hashBy hashFrom bloomPasses bucketWord runOf itemMatches firstFrom firstOf findItem atFound lookupIn atOpened lookupItem atItem lookupValue lookedNumber
 self-parent-12 = refl

@@ -7,7 +7,7 @@ use Rattle.words.specs.Choice.{pick}
 use Rattle.words.specs.Field.{field}
 use Rattle.words.specs.Field as fields
 use Rattle.words.specs.Bits.{bloomCount, bitSet}
-use Rattle.words.specs.Hash.{plain, hashBy, hashFrom}
+use Rattle.words.specs.Hash.{hashBy, hashFrom}
 use Rattle.text.specs.Compare.{sameBytes}
 use Rattle.text.specs.Utf8.{between, tail, isTwo, startsThree, startsFour, firstOf, sequenceLen, stepLen, oneMore, goodFrom, firstBad, isUtf8}
 use Rattle.layout.specs.Pointer.{openPointer}
@@ -16,7 +16,7 @@ use Rattle.layout.specs.Item.{itemAt}
 use Rattle.read.specs.declared.lookup.Looked.{Looked}
 use Rattle.read.specs.Chain.{fragmentOf, parentOf, afterPointer, climbFrom, append, joinStep, keyOf, names}
 use Rattle.read.specs.Find as find
-use Rattle.read.specs.Find.{bloomPasses, bucketWord, runOf, itemMatches, firstFrom, findItem}
+use Rattle.read.specs.Find.{rust, bloomPasses, bucketWord, runOf, itemMatches, firstFrom, findItem}
 use Rattle.read.specs.Lookup.{atFound, lookupIn, atOpened, lookupItem, atItem, atPointer, valueOf, lookupValue}
 use Rattle.read.specs.Answer.{lookedNumber}
 
@@ -28,10 +28,10 @@ filtered =
     ++ (0xE6 ∷ 0xB5 ∷ 0x02 ∷ 0 ∷ 255 ∷ 255 ∷ 255 ∷ 255 ∷ 69 ∷ 0 ∷ 0 ∷ 0 ∷ 1 ∷ 0 ∷ 118 ∷ 0 ∷ 80 ∷ 0 ∷ 0 ∷ 0 ∷ 81 ∷ 0 ∷ 0 ∷ 0 ∷ [])
     ++ (97 ∷ 65 ∷ 0 ∷ 0 ∷ 1 ∷ 0 ∷ 0 ∷ 0 ∷ 0 ∷ 0 ∷ 0 ∷ 0 ∷ 2 ∷ [])
 
-pub second-word : lookupValue plain filtered 0 68 (65 ∷ []) ≡ Looked.Pointer 80 81
+pub second-word : lookupValue rust filtered 0 68 (65 ∷ []) ≡ Looked.Pointer 80 81
 unfolding filtered openTable openPointer tableIn tableOf bloomCount bitSet field fields.littleEndian pick keyOf joinStep append climbFrom afterPointer parentOf fragmentOf isUtf8 firstBad goodFrom oneMore stepLen sequenceLen firstOf isTwo startsThree startsFour tail between sameBytes itemAt names hashBy hashFrom bloomPasses bucketWord runOf itemMatches firstFrom find.firstOf findItem atFound lookupIn atOpened lookupItem atItem atPointer valueOf lookupValue
 second-word = refl
 
-pub first-word : lookedNumber (lookupValue plain filtered 0 68 (97 ∷ [])) ≡ 12
+pub first-word : lookedNumber (lookupValue rust filtered 0 68 (97 ∷ [])) ≡ 12
 unfolding filtered openTable openPointer tableIn tableOf bloomCount bitSet field fields.littleEndian pick keyOf joinStep append climbFrom afterPointer parentOf fragmentOf isUtf8 firstBad goodFrom oneMore stepLen sequenceLen firstOf isTwo startsThree startsFour tail between sameBytes itemAt names hashBy hashFrom bloomPasses bucketWord runOf itemMatches firstFrom find.firstOf findItem atFound lookupIn atOpened lookupItem atItem atPointer valueOf lookupValue lookedNumber
 first-word = refl

@@ -18,14 +18,15 @@ use Rattle.read.specs.declared.lookup.Looked.{Looked}
 use Rattle.read_listing.specs.declared.listing.Listed.{Listed}
 use Rattle.read.specs.Chain.{fragmentOf, climbFrom}
 use Rattle.read.specs.Lookup.{lookupValue, lookupTable}
+use Rattle.read.specs.Find.{Manner}
 use Rattle.read_listing.specs.Listing.{keyAt, listed}
 
 -- the statement: 8 comes exactly where the table opens and the given key is bad, with the offset at which it is
 abbrev pub EightAt : Type 0
 EightAt =
-    (rule : ℕ → ℕ) (file : List ℕ) (start end : ℕ) (key : List ℕ) (at : ℕ)
-    → ((lookupValue rule file start end key ≡ Looked.Refused (KeyNotUtf8 at)) ↔ ((t : Table) × (openTable file start end ≡ Opened.Table t) × BadText key at))
-    × ((lookupTable rule file start end key ≡ Looked.Refused (KeyNotUtf8 at)) ↔ ((t : Table) × (openTable file start end ≡ Opened.Table t) × BadText key at))
+    (manner : Manner) (file : List ℕ) (start end : ℕ) (key : List ℕ) (at : ℕ)
+    → ((lookupValue manner file start end key ≡ Looked.Refused (KeyNotUtf8 at)) ↔ ((t : Table) × (openTable file start end ≡ Opened.Table t) × BadText key at))
+    × ((lookupTable manner file start end key ≡ Looked.Refused (KeyNotUtf8 at)) ↔ ((t : Table) × (openTable file start end ≡ Opened.Table t) × BadText key at))
 
 -- an item's fragment lies in the file and is bad at an offset
 abbrev pub BadHere : List ℕ → Item → ℕ → Type 0

@@ -20,6 +20,7 @@ use Rattle.layout.specs.Item.{itemAt}
 use Rattle.read.specs.declared.lookup.Sought.{Sought}
 use Rattle.read_listing.specs.declared.children.Childed.{Childed}
 use Rattle.read.specs.Chain.{fragmentOf}
+use Rattle.read.specs.Find.{Manner}
 use Rattle.read.specs.Lookup.{lookupIn}
 
 -- the child indices of a container: a word each, from an offset on
@@ -66,10 +67,10 @@ unfoldable pub childOfSought : Sought → List ℕ → Table → ℕ → Childed
 childOfSought (Sought.Item item) file t at = childFrom (openList file item) file t item at
 childOfSought (Sought.Refused why) file t at = Childed.Refused why
 
-unfoldable pub childInOpened : (ℕ → ℕ) → List ℕ → List ℕ → ℕ → Opened → Childed
-childInOpened rule file key at (Opened.Table t) = childOfSought (lookupIn rule file key t) file t at
-childInOpened rule file key at (Opened.Refused why) = Childed.Refused why
+unfoldable pub childInOpened : Manner → List ℕ → List ℕ → ℕ → Opened → Childed
+childInOpened manner file key at (Opened.Table t) = childOfSought (lookupIn manner file key t) file t at
+childInOpened manner file key at (Opened.Refused why) = Childed.Refused why
 
 -- the child at a position of the container under a key, of the table at a pointer
-unfoldable pub nextChild : (ℕ → ℕ) → List ℕ → ℕ → ℕ → List ℕ → ℕ → Childed
-nextChild rule file start end key at = childInOpened rule file key at (openTable file start end)
+unfoldable pub nextChild : Manner → List ℕ → ℕ → ℕ → List ℕ → ℕ → Childed
+nextChild manner file start end key at = childInOpened manner file key at (openTable file start end)

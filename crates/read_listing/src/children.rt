@@ -12,6 +12,7 @@ use layout::table::Table;
 use layout::table::open_table;
 use read::lookup::Sought;
 use read::lookup::lookup_in;
+use read::manner::Manner;
 use text::utf8::first_bad;
 use text::utf8::is_utf8;
 use words::align::Alignment;
@@ -21,9 +22,9 @@ use words::wide::word_size;
 ghost use mathlib.Core.Path.{_≡_};
 ghost use Prim.Native.Nat.{_≤_, _<_};
 ghost use lib.ListN.{length};
-ghost use Rattle.words.specs.Hash.{plain};
 ghost use Rattle.layout.specs.Limits.{longestFile};
 ghost use Rattle.layout.specs.Table.{InFile};
+ghost use Rattle.read.specs.Find.{mannerOf};
 ghost use Rattle.read_listing.specs.Children.{childCount, openList, childNamed, childOf, childFrom, childInOpened, nextChild};
 
 // A child: its index, the byte of its kind, the pointer of its fragment, and the next position; or why there is none. A refused child can be passed over.
@@ -126,11 +127,11 @@ fn child_from(file: &[u8], table: Table, item: Item, at: usize) -> Childed
 }
 
 // The same of the container under a key, in an open table: 8, 12, then the container.
-fn child_in(file: &[u8], table: Table, key: &[u8], at: usize) -> Childed
+fn child_in(file: &[u8], table: Table, key: &[u8], at: usize, manner: Manner) -> Childed
     requires { ⌜ InFile (now file) table ⌝ }
-    ensures { λ r. ⌜ r ≡ childInOpened plain (now (file .entry)) (now (key .entry)) at (Opened.Table table) ⌝ }
+    ensures { λ r. ⌜ r ≡ childInOpened (mannerOf manner) (now (file .entry)) (now (key .entry)) at (Opened.Table table) ⌝ }
 {
-    match lookup_in(file, table, key) {
+    match lookup_in(file, table, key, manner) {
         Sought::Refused(why) => Childed::Refused(why),
         Sought::Item(item) => child_from(file, table, item, at),
     }
@@ -138,12 +139,19 @@ fn child_in(file: &[u8], table: Table, key: &[u8], at: usize) -> Childed
 
 impl Cursor {
     // The child at the cursor's position of the container under a key, in the table at a pointer.
-    pub fn next_child(self, file: &[u8], start: u32, end: u32, key: &[u8]) -> Childed
-        ensures { λ r. ⌜ r ≡ nextChild plain (now (file .entry)) start end (now (key .entry)) (self .at) ⌝ }
+    pub fn next_child(
+        self,
+        file: &[u8],
+        start: u32,
+        end: u32,
+        key: &[u8],
+        manner: Manner,
+    ) -> Childed
+        ensures { λ r. ⌜ r ≡ nextChild (mannerOf manner) (now (file .entry)) start end (now (key .entry)) (self .at) ⌝ }
     {
         match open_table(file, start, end) {
             Opened::Refused(why) => Childed::Refused(why),
-            Opened::Table(table) => child_in(file, table, key, self.at),
+            Opened::Table(table) => child_in(file, table, key, self.at, manner),
         }
     }
 }

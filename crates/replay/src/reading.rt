@@ -23,13 +23,13 @@ fn open(file: &[u8], r: Record) -> bool {
 
 // The key is the first string; the value's pointer.
 fn get(list: &[u8], file: &[u8], r: Record) -> bool {
-    let said = gvdb_get(file, r.start, r.end, list::bytes(list, r.first));
+    let said = gvdb_get(file, r.start, r.end, list::bytes(list, r.first), 0);
     (said.number == r.number) & (said.start == r.one) & (said.end == r.two)
 }
 
 // The same of a nested table.
 fn get_table(list: &[u8], file: &[u8], r: Record) -> bool {
-    let said = gvdb_get_table(file, r.start, r.end, list::bytes(list, r.first));
+    let said = gvdb_get_table(file, r.start, r.end, list::bytes(list, r.first), 0);
     (said.number == r.number) & (said.start == r.one) & (said.end == r.two)
 }
 

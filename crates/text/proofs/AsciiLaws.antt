@@ -11,9 +11,11 @@ use lib.Dec.{leb, eqb}
 use lib.Bits.{bitAnd, and-zero-l, and-high, and-block}
 use borrow.Author.Tests.{leb-true, leb-false, lt-leb, le-leb, eqb-true, eqb-false, eq-eqb, ne-eqb}
 use Rattle.words.specs.Store.{part}
+use Rattle.words.specs.Hash.{hashStep, hashFrom, hashBy, plain, signed}
 use Rattle.words.specs.Field.{littleEndian, field, longAt}
 use Rattle.words.proofs.ChoiceLaws.{both, both-hold}
 use Rattle.words.proofs.StoreLaws.{length-part}
+use Rattle.words.proofs.HashLaws.{signed-low}
 use Rattle.words.proofs.FieldLaws.{stretch-bytes}
 use Rattle.text.specs.Ascii.{isAscii}
 use Rattle.text.specs.Utf8.{goodFrom, firstBad, isUtf8, oneMore}
@@ -139,3 +141,16 @@ module _ (s : List ℕ) (i : ℕ) (h : i < length s) where
 pub bytes-end : (s : List ℕ) (i : ℕ) → length s ≤ i → isAscii (drop i s) ≡ true
 unfolding isAscii
 bytes-end s i h = rw (drop-of-length-le s h)
+
+-- a text of ASCII bytes has one hash in both forms
+ascii-from : (s : List ℕ) (h : ℕ) → isAscii s ≡ true → hashFrom signed h s ≡ hashFrom plain h s
+unfolding hashFrom isAscii
+ascii-from [] h e = refl
+ascii-from (b ∷ s) h e =
+    let parts = both (leb b 0x7F) (isAscii s) e in
+    let low : signed b ≡ b = signed-low b (omega (arith, leb-true b 0x7F (parts .0))) in
+    ascii-from s (hashStep signed h b) (parts .1) ∙ ap (λ (n : ℕ). hashFrom plain ((h * 33 + n) % 2 ^ 32) s) low
+
+pub ascii-hash : (s : List ℕ) → isAscii s ≡ true → hashBy signed s ≡ hashBy plain s
+unfolding hashBy
+ascii-hash s e = ascii-from s 5381 e

@@ -2,3 +2,4 @@ pub mod PartLaws
 pub mod Plain
 pub mod Unique
 pub mod ThroughLaws
+pub mod HoldsLaws

@@ -6,7 +6,8 @@ use native.Mathlib.Omega.{arith}
 use lib.ListN.{length, take, drop}
 use denote.Ref.{RefT, now}
 use Rattle.words.specs.Choice.{pick}
-use Rattle.words.specs.Hash.{plain}
+use Rattle.read.specs.declared.manner.Manner as code
+use Rattle.read.specs.Find.{Manner, mannerOf}
 use Rattle.words.proofs.ChoiceLaws.{pick-with}
 use Rattle.layout.specs.declared.refusal.Refusal.{Refusal}
 use Rattle.layout.specs.declared.refusal.Refusal.the-variants.{TableTooShort}
@@ -32,11 +33,12 @@ use Rattle.view.specs.Part.{Viewed, Stretch, pointerStart, pointerEnd, l
 use Rattle.view.specs.Views.{OpenedOf, ValueOf, NestedOf, ListedOf, ChildOf}
 use Rattle.view.proofs.PartLaws.{stretch-same, stretch-out, viewed-same}
 
--- the view `table` of the lent file: the whole file and the pointer from start to end
-pub record Whole (file : RefT (List ℕ)) (table : TableView) (start end : ℕ) : Type 0 where
+-- the view `table` of the lent file: the whole file, the pointer from start to end, and the manner
+pub record Whole (file : RefT (List ℕ)) (table : TableView) (start end : ℕ) (manner : code.Manner) : Type 0 where
   pub seen : Viewed file (table .file) 0 (now file)
   pub starts : table .start ≡ start
   pub ends : table .end ≡ end
+  pub manners : table .manner ≡ manner
 
 -- the view of a refusal: no bytes, and the pointer from 0 to 0
 pub record Empty (file : RefT (List ℕ)) (table : TableView) : Type 0 where
@@ -61,7 +63,7 @@ empty-refused file table empty = rw (empty .seen .holds, empty .starts, empty .e
 module _ (t : TableView) (key : List ℕ) (r : ValueView) (said : ValueOf t key r) where
   pub value-seen : {from to : ℕ} → r .answer ≡ Looked.Pointer from to → Viewed (t .file) (r .bytes) from (take (to - from) (drop from (now (t .file))))
   value-seen {from} {to} e =
-      seen _ _ _ _ from to (ap pointerStart e) (ap pointerEnd e) (value-in-file plain (now (t .file)) (t .start) (t .end) key (sym (said .answered) ∙ e)) (said .viewed)
+      seen _ _ _ _ from to (ap pointerStart e) (ap pointerEnd e) (value-in-file (mannerOf (t .manner)) (now (t .file)) (t .start) (t .end) key (sym (said .answered) ∙ e)) (said .viewed)
 
   pub value-refused : {why : Refusal} → r .answer ≡ Looked.Refused why → Viewed (t .file) (r .bytes) 0 []
   value-refused e = none _ _ _ _ (ap pointerStart e) (ap pointerEnd e) (said .viewed)
@@ -82,17 +84,18 @@ module _ (t : TableView) (key : List ℕ) (at : ℕ) (r : ChildView) (said : Chi
   pub child-seen : {index kind from to : ℕ} {next : Cursor} → r .answer ≡ Childed.Child index kind from to next
       → Viewed (t .file) (r .fragment) from (take (to - from) (drop from (now (t .file))))
   child-seen {from = from} {to = to} e =
-      seen _ _ _ _ from to (ap childStart e) (ap childEnd e) (child-in-file plain (now (t .file)) (t .start) (t .end) key at (sym (said .answered) ∙ e)) (said .viewed)
+      seen _ _ _ _ from to (ap childStart e) (ap childEnd e) (child-in-file _ (now (t .file)) (t .start) (t .end) key at (sym (said .answered) ∙ e)) (said .viewed)
 
   pub child-refused : {why : Refusal} → r .answer ≡ Childed.Refused why → Viewed (t .file) (r .fragment) 0 []
   child-refused e = none _ _ _ _ (ap childStart e) (ap childEnd e) (said .viewed)
 
-module _ (file : RefT (List ℕ)) (start end : ℕ) (r : OpenedView) (said : OpenedOf file start end r) where
-  pub opened-whole : {table : Table} → r .answer ≡ Opened.Table table → Whole file (r .table) start end
+module _ (file : RefT (List ℕ)) (start end : ℕ) (manner : code.Manner) (r : OpenedView) (said : OpenedOf file start end manner r) where
+  pub opened-whole : {table : Table} → r .answer ≡ Opened.Table table → Whole file (r .table) start end manner
   opened-whole e = record {
     seen = viewed-same _ _ _ _ _ _ refl (ap (λ o. openedFile o (now file)) e) (said .viewed);
     starts = said .starts ∙ ap (λ o. openedPointer o start) e;
     ends = said .ends ∙ ap (λ o. openedPointer o end) e;
+    manners = said .manners;
   }
 
   pub opened-empty : {why : Refusal} → r .answer ≡ Opened.Refused why → Empty file (r .table)
@@ -116,28 +119,29 @@ nested-open file item {from} {to} =
         (table, subst (λ (n : ℕ). openTable file n to ≡ Opened.Table table) f (subst (λ (n : ℕ). openTable file (item .from) n ≡ Opened.Table table) g opens))
     by-opened (Opened.Refused why) opens e = let z : _≡_ {A = ℕ} 0 1 = cc in absurd (omega arith)
 
-pub table-opens : (rule : ℕ → ℕ) (file : List ℕ) (start end : ℕ) (key : List ℕ) {from to : ℕ} → lookupTable rule file start end key ≡ Looked.Pointer from to
+pub table-opens : (manner : Manner) (file : List ℕ) (start end : ℕ) (key : List ℕ) {from to : ℕ} → lookupTable manner file start end key ≡ Looked.Pointer from to
     → (table : Table) × (openTable file from to ≡ Opened.Table table)
 unfolding lookupTable atItem
-table-opens rule file start end key {from} {to} = by-item (lookupItem rule file start end key)
+table-opens manner file start end key {from} {to} = by-item (lookupItem manner file start end key)
   where
     by-item : (s : Sought) → atItem s (λ item. nestedOf file item) ≡ Looked.Pointer from to → (table : Table) × (openTable file from to ≡ Opened.Table table)
     by-item (Sought.Item item) e = nested-open file item e
     by-item (Sought.Refused why) e = let z : _≡_ {A = ℕ} 0 1 = cc in absurd (omega arith)
 
 module _ (t : TableView) (key : List ℕ) (r : NestedView) (said : NestedOf t key r) where
-  pub nested-whole : {from to : ℕ} → r .answer ≡ Looked.Pointer from to → Whole (t .file) (r .table) from to
+  pub nested-whole : {from to : ℕ} → r .answer ≡ Looked.Pointer from to → Whole (t .file) (r .table) from to (t .manner)
   nested-whole e = record {
     seen = viewed-same _ _ _ _ _ _ refl (ap (λ l. nestedFile l (now (t .file))) e) (said .viewed);
     starts = said .starts ∙ ap pointerStart e;
     ends = said .ends ∙ ap pointerEnd e;
+    manners = said .manners;
   }
 
   -- and the table at the view opens
   pub nested-opens : {from to : ℕ} → r .answer ≡ Looked.Pointer from to → (table : Table) × (openTable (now (r .table .file)) (r .table .start) (r .table .end) ≡ Opened.Table table)
   nested-opens {from} {to} e =
       let whole = nested-whole e in
-      let opens = table-opens plain (now (t .file)) (t .start) (t .end) key (sym (said .answered) ∙ e) in
+      let opens = table-opens (mannerOf (t .manner)) (now (t .file)) (t .start) (t .end) key (sym (said .answered) ∙ e) in
       (opens .0, rw (whole .seen .holds, whole .starts, whole .ends) (opens .1))
 
   pub nested-empty : {why : Refusal} → r .answer ≡ Looked.Refused why → Empty (t .file) (r .table)

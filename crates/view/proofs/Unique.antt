@@ -4,7 +4,8 @@ use Prim.Native.Nat.{ℕ}
 use mathlib.Core.Path.{_≡_, sym, ap, subst, _∙_}
 use mathlib.Core.List.{List}
 use denote.Ref.{RefT, now}
-use Rattle.words.specs.Hash.{plain}
+use Rattle.read.specs.declared.manner.Manner.{Manner}
+use Rattle.read.specs.Find.{mannerOf}
 use Rattle.check_table.specs.declared.check.Checked.{Checked}
 use Rattle.check_table.specs.Rules.{checkTable}
 use Rattle.layout.specs.declared.table.Opened.{Opened}
@@ -27,11 +28,12 @@ pub record Same (r s : RefT (List ℕ)) : Type 0 where
   pub place : r .ptr .1 ≡ s .ptr .1
   pub bytes : now r ≡ now s
 
--- two views of a table are the same bytes and the same pointer
+-- two views of a table are the same bytes, the same pointer and the same manner
 pub record SameTable (r s : TableView) : Type 0 where
   pub file : Same (r .file) (s .file)
   pub start : r .start ≡ s .start
   pub end : r .end ≡ s .end
+  pub manner : r .manner ≡ s .manner
 
 pub viewed-unique : (file r s : RefT (List ℕ)) (at : ℕ) (bytes : List ℕ) → Viewed file r at bytes → Viewed file s at bytes → Same r s
 viewed-unique file r s at bytes p q = record {
@@ -40,15 +42,16 @@ viewed-unique file r s at bytes p q = record {
   bytes = p .holds ∙ sym (q .holds);
 }
 
-pub open-view-unique : (file : RefT (List ℕ)) (start end : ℕ) (r s : OpenedView) → OpenedOf file start end r → OpenedOf file start end s
+pub open-view-unique : (file : RefT (List ℕ)) (start end : ℕ) (manner : Manner) (r s : OpenedView) → OpenedOf file start end manner r → OpenedOf file start end manner s
     → (r .answer ≡ s .answer) × SameTable (r .table) (s .table)
-open-view-unique file start end r s p q =
+open-view-unique file start end manner r s p q =
     let same : r .answer ≡ s .answer = p .answered ∙ sym (q .answered) in (
       same,
       record {
         file = viewed-unique file _ _ _ _ (subst (λ (o : Opened). OpenedIn file o (r .table .file)) same (p .viewed)) (q .viewed);
         start = p .starts ∙ ap (λ o. openedPointer o start) same ∙ sym (q .starts);
         end = p .ends ∙ ap (λ o. openedPointer o end) same ∙ sym (q .ends);
+        manner = p .manners ∙ sym (q .manners);
       },
     )
 
@@ -66,6 +69,7 @@ module _ (t : TableView) where
           file = viewed-unique (t .file) _ _ _ _ (subst (λ (l : Looked). NestedIn (t .file) l (r .table .file)) same (p .viewed)) (q .viewed);
           start = p .starts ∙ ap pointerStart same ∙ sym (q .starts);
           end = p .ends ∙ ap pointerEnd same ∙ sym (q .ends);
+          manner = p .manners ∙ sym (q .manners);
         },
       )
 
@@ -82,5 +86,5 @@ module _ (t : TableView) where
   pub next-key-unique : (at : ℕ) (buffer : List ℕ) (r s : Listed) (left right : List ℕ) → KeyOf t at buffer r left → KeyOf t at buffer s right → (r ≡ s) × (left ≡ right)
   next-key-unique at buffer r s left right p q = (p .answered ∙ sym (q .answered), p .wrote ∙ sym (q .wrote))
 
-  pub check-unique : (r s : Checked) → r ≡ checkTable plain (now (t .file)) (t .start) (t .end) → s ≡ checkTable plain (now (t .file)) (t .start) (t .end) → r ≡ s
+  pub check-unique : (r s : Checked) → r ≡ checkTable (mannerOf (t .manner)) (now (t .file)) (t .start) (t .end) → s ≡ checkTable (mannerOf (t .manner)) (now (t .file)) (t .start) (t .end) → r ≡ s
   check-unique r s p q = p ∙ sym q

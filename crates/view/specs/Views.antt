@@ -4,7 +4,8 @@ use mathlib.Core.Path.{_≡_}
 use mathlib.Core.List.{List}
 use lib.ListN.{length}
 use denote.Ref.{RefT, now}
-use Rattle.words.specs.Hash.{plain}
+use Rattle.read.specs.declared.manner.Manner.{Manner}
+use Rattle.read.specs.Find.{mannerOf}
 use Rattle.layout.specs.Table.{openTable}
 use Rattle.read.specs.Lookup.{lookupValue, lookupTable}
 use Rattle.read_listing.specs.Listing.{valueAt, keyAt, listed, written}
@@ -18,24 +19,26 @@ use Rattle.view.specs.declared.table.ListedView.{ListedView}
 use Rattle.view.specs.declared.table.ChildView.{ChildView}
 use Rattle.view.specs.Part.{ValueIn, ListedIn, ChildIn, OpenedIn, NestedIn, openedPointer, pointerStart, pointerEnd}
 
--- an opening of a file at a pointer
-pub record OpenedOf (file : RefT (List ℕ)) (start end : ℕ) (r : OpenedView) : Type 0 where
+-- an opening of a file at a pointer, to be read in a manner
+pub record OpenedOf (file : RefT (List ℕ)) (start end : ℕ) (manner : Manner) (r : OpenedView) : Type 0 where
   pub answered : r .answer ≡ openTable (now file) start end
   pub viewed : OpenedIn file (r .answer) (r .table .file)
   pub starts : r .table .start ≡ openedPointer (r .answer) start
   pub ends : r .table .end ≡ openedPointer (r .answer) end
+  pub manners : r .table .manner ≡ manner
 
 -- a lookup of a value in the table t
 pub record ValueOf (t : TableView) (key : List ℕ) (r : ValueView) : Type 0 where
-  pub answered : r .answer ≡ lookupValue plain (now (t .file)) (t .start) (t .end) key
+  pub answered : r .answer ≡ lookupValue (mannerOf (t .manner)) (now (t .file)) (t .start) (t .end) key
   pub viewed : ValueIn (t .file) (r .answer) (r .bytes)
 
--- a lookup of a nested table in the table t
+-- a lookup of a nested table in the table t, to be read in the same manner
 pub record NestedOf (t : TableView) (key : List ℕ) (r : NestedView) : Type 0 where
-  pub answered : r .answer ≡ lookupTable plain (now (t .file)) (t .start) (t .end) key
+  pub answered : r .answer ≡ lookupTable (mannerOf (t .manner)) (now (t .file)) (t .start) (t .end) key
   pub viewed : NestedIn (t .file) (r .answer) (r .table .file)
   pub starts : r .table .start ≡ pointerStart (r .answer)
   pub ends : r .table .end ≡ pointerEnd (r .answer)
+  pub manners : r .table .manner ≡ t .manner
 
 -- a value listing of the table t from a position on
 pub record ListedOf (t : TableView) (at : ℕ) (r : ListedView) : Type 0 where
@@ -44,7 +47,7 @@ pub record ListedOf (t : TableView) (at : ℕ) (r : ListedView) : Type 0 where
 
 -- the child at a position of the container under a key, in the table t
 pub record ChildOf (t : TableView) (key : List ℕ) (at : ℕ) (r : ChildView) : Type 0 where
-  pub answered : r .answer ≡ nextChild plain (now (t .file)) (t .start) (t .end) key at
+  pub answered : r .answer ≡ nextChild (mannerOf (t .manner)) (now (t .file)) (t .start) (t .end) key at
   pub viewed : ChildIn (t .file) (r .answer) (r .fragment)
 
 -- a key listing of the table t at a position, into a lent buffer; `left` is what the buffer then holds

@@ -3,21 +3,23 @@
 use check_table::check::Checked;
 use layout::table::Opened;
 use read::lookup::Looked;
+use read::manner::Manner;
 use read_listing::children::Childed;
 use read_listing::listing::Cursor;
 use read_listing::listing::Listed;
 use read_listing::listing::Valued;
 ghost use mathlib.Core.Path.{_≡_};
-ghost use Rattle.words.specs.Hash.{plain};
+ghost use Rattle.read.specs.Find.{mannerOf};
 ghost use Rattle.check_table.specs.Rules.{checkTable};
 ghost use Rattle.view.specs.Views.{OpenedOf, ValueOf, NestedOf, ListedOf, ChildOf, KeyOf};
 
 // gvdb-rs: HashTable.
-// A table of a lent file: the file, and the pointer to the table.
+// A table of a lent file: the file, the pointer to the table, and the manner in which it is read.
 pub struct TableView<'a> {
     pub file: &'a [u8],
     pub start: u32,
     pub end: u32,
+    pub manner: Manner,
 }
 
 // What opening answers, and the table.
@@ -51,9 +53,9 @@ pub struct ChildView<'a> {
 }
 
 // gvdb-rs: File::read_hash_table, HashTable::for_bytes.
-// The table of a file at a pointer.
-pub fn open_view<'a>(file: &'a [u8], start: u32, end: u32) -> OpenedView<'a>
-    ensures { λ r. ⌜ OpenedOf (file .entry) start end r ⌝ }
+// The table of a file at a pointer, to be read in a manner.
+pub fn open_view<'a>(file: &'a [u8], start: u32, end: u32, manner: Manner) -> OpenedView<'a>
+    ensures { λ r. ⌜ OpenedOf (file .entry) start end manner r ⌝ }
 {
     let answer = layout::table::open_table(file, start, end);
     let lent = crate::part::opened_part(file, answer);
@@ -65,6 +67,7 @@ pub fn open_view<'a>(file: &'a [u8], start: u32, end: u32) -> OpenedView<'a>
             file: lent,
             start: from,
             end: to,
+            manner,
         },
     }
 }
@@ -75,26 +78,28 @@ impl<'a> TableView<'a> {
     pub fn value(self, key: &[u8]) -> ValueView<'a>
         ensures { λ r. ⌜ ValueOf (self .entry) (now (key .entry)) r ⌝ }
     {
-        let answer = read::lookup::lookup_value(self.file, self.start, self.end, key);
+        let answer = read::lookup::lookup_value(self.file, self.start, self.end, key, self.manner);
         let bytes = crate::part::value_part(self.file, answer);
         ValueView { answer, bytes }
     }
 
     // gvdb-rs: get_hash_table.
-    // The nested table of a key.
+    // The nested table of a key, to be read in the same manner.
     pub fn nested(self, key: &[u8]) -> NestedView<'a>
         ensures { λ r. ⌜ NestedOf (self .entry) (now (key .entry)) r ⌝ }
     {
-        let answer = read::lookup::lookup_table(self.file, self.start, self.end, key);
+        let answer = read::lookup::lookup_table(self.file, self.start, self.end, key, self.manner);
         let lent = crate::part::nested_part(self.file, answer);
         let from = crate::part::pointer_start(answer);
         let to = crate::part::pointer_end(answer);
+        let manner = self.manner;
         NestedView {
             answer,
             table: TableView {
                 file: lent,
                 start: from,
                 end: to,
+                manner,
             },
         }
     }
@@ -113,7 +118,7 @@ impl<'a> TableView<'a> {
     pub fn next_child(self, key: &[u8], cursor: Cursor) -> ChildView<'a>
         ensures { λ r. ⌜ ChildOf (self .entry) (now (key .entry)) (cursor .at) r ⌝ }
     {
-        let answer = Cursor::next_child(cursor, self.file, self.start, self.end, key);
+        let answer = Cursor::next_child(cursor, self.file, self.start, self.end, key, self.manner);
         let fragment = crate::part::child_part(self.file, answer);
         ChildView { answer, fragment }
     }
@@ -128,8 +133,8 @@ impl<'a> TableView<'a> {
 
     // The check of the table.
     pub fn check(self) -> Checked
-        ensures { λ r. ⌜ r ≡ checkTable plain (now (self .entry .file)) (self .entry .start) (self .entry .end) ⌝ }
+        ensures { λ r. ⌜ r ≡ checkTable (mannerOf (self .entry .manner)) (now (self .entry .file)) (self .entry .start) (self .entry .end) ⌝ }
     {
-        check_table::check::check_table(self.file, self.start, self.end)
+        check_table::check::check_table(self.file, self.start, self.end, self.manner)
     }
 }

@@ -7,7 +7,12 @@ use native.Mathlib.Omega.{arith}
 use native.Mathlib.Nat.{mul-le-mul, le-pred-of-lt}
 use lib.ListN.{length, getD, take, drop, drop-of-length-le}
 use lib.Seq.{drop-cons, take-add, take-all}
-use Rattle.words.specs.Hash.{hashStep, hashFrom, hashBy}
+use mathlib.Core.Bool.{true, false}
+use lib.Dec.{ltb}
+use borrow.Author.Tests.{lt-ltb, le-ltb}
+use Rattle.words.specs.Choice.{pick}
+use Rattle.words.specs.declared.hash.Form.{Form}
+use Rattle.words.specs.Hash.{hashStep, hashFrom, hashBy, plain, signed, ruleOf}
 
 module _ (rule : ℕ → ℕ) where
   -- one turn of the loop, and its end
@@ -58,3 +63,34 @@ module _ (rule : ℕ → ℕ) where
 -- a product of two numbers of 32 bits has 64
 pub product-fits : {a b : ℕ} → a < 2 ^ 32 → b < 2 ^ 32 → a * b < 2 ^ 64
 product-fits {a} {b} ha hb = omega (arith, mul-le-mul (le-pred-of-lt ha) (le-pred-of-lt hb))
+
+-- what a byte counts under the signed rule, below 128 and from 128 on
+pub signed-low : (b : ℕ) → b < 128 → signed b ≡ b
+unfolding signed pick
+signed-low b l = simp (lt-ltb b 128 l)
+
+pub signed-high : (b : ℕ) → 128 ≤ b → signed b ≡ b + 4294967040
+unfolding signed pick
+signed-high b l = simp (le-ltb b 128 l)
+
+pub counts-plain : {form : Form} (b : ℕ) {wide : ℕ} → form ≡ Form.Plain → wide ≡ b → wide ≡ ruleOf form b
+counts-plain b e w = w ∙ sym (ap (λ (f : Form). ruleOf f b) e)
+
+pub counts-low : {form : Form} (b : ℕ) {wide : ℕ} → form ≡ Form.Signed → wide ≡ b → wide < 128 → wide ≡ ruleOf form b
+counts-low b e w l = w ∙ sym (ap (λ (f : Form). ruleOf f b) e ∙ signed-low b (omega (arith, w, l)))
+
+pub counts-high : {form : Form} (b : ℕ) {wide : ℕ} → form ≡ Form.Signed → wide ≡ b → 128 ≤ wide → wide + 4294967040 ≡ ruleOf form b
+counts-high b e w l = ap (λ (n : ℕ). n + 4294967040) w ∙ sym (ap (λ (f : Form). ruleOf f b) e ∙ signed-high b (omega (arith, w, l)))
+
+-- a signed byte is itself below 128, and from there on to 255 it is 256 less, modulo 2^32
+pub signed-is : (b : ℕ) → (b < 128 → signed b ≡ b) × (128 ≤ b → b < 256 → (signed b + 256 ≡ b + 2 ^ 32) × (signed b < 2 ^ 32))
+signed-is b = (signed-low b, λ l h. let e = signed-high b l in (omega (arith, e), omega (arith, e, h)))
+
+-- 'é' is C3 A9: its two hashes
+pub accent-plain : hashBy plain (0xC3 ∷ 0xA9 ∷ []) ≡ 5866513
+unfolding hashBy hashFrom
+accent-plain = refl
+
+pub accent-signed : hashBy signed (0xC3 ∷ 0xA9 ∷ []) ≡ 5857809
+unfolding hashBy hashFrom signed pick
+accent-signed = refl

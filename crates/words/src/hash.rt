@@ -1,8 +1,14 @@
-// The hash of a key: start 5381, for each byte times 33 plus the byte, modulo 2^32.
+// The hash of a key: start 5381, for each byte times 33 plus what the byte counts, modulo 2^32.
 use crate::wide::byte_word;
 ghost use mathlib.Core.Path.{_≡_};
-ghost use Prim.Native.Nat.{_*_, _%_, _^_};
-ghost use Rattle.words.specs.Hash.{hashFrom, plain, hashOf};
+ghost use Prim.Native.Nat.{_*_, _%_, _^_, _<_};
+ghost use Rattle.words.specs.Hash.{hashFrom, hashBy, ruleOf, hashOf};
+
+// What a byte counts in the hash: 0 to 255, as in the Rust, or -128 to 127, as in GLib.
+pub enum Form {
+    Plain,
+    Signed,
+}
 
 // The hash of no bytes.
 pub const HASH_START: u32 = 5381;
@@ -15,18 +21,36 @@ pub fn wrapping_mul(a: u32, b: u32) -> u32
     (wide % 0x1_0000_0000) as u32
 }
 
-// The hash of bytes, going on from the hash of what stands before them.
-pub fn hash_on(start: u32, bytes: &[u8]) -> u32
-    ensures { λ r. ⌜ r ≡ hashFrom plain start (now (bytes .entry)) ⌝ }
+// What a byte counts under a form, as a number of 32 bits.
+pub fn byte_counts(b: u8, form: Form) -> u32
+    ensures { λ r. ⌜ (r ≡ ruleOf form b) × (r < 2 ^ 32) ⌝ }
+{
+    let wide = byte_word(b);
+    match form {
+        Form::Plain => wide,
+        Form::Signed => { if wide < 128 { wide } else { wide + 0xFFFF_FF00 } }
+    }
+}
+
+// The hash of bytes under a form, going on from the hash of what stands before them.
+pub fn hash_on(start: u32, bytes: &[u8], form: Form) -> u32
+    ensures { λ r. ⌜ r ≡ hashFrom (ruleOf form) start (now (bytes .entry)) ⌝ }
 {
     let mut value = start;
     let mut i = 0;
     while i < bytes.len() {
         let scaled = wrapping_mul(value, 33);
-        value = std::num::wrapping_add_u32(scaled, byte_word(bytes[i]));
+        value = std::num::wrapping_add_u32(scaled, byte_counts(bytes[i], form));
         i += 1;
     }
     value
+}
+
+// The hash of a key under a form.
+pub fn hash_key(key: &[u8], form: Form) -> u32
+    ensures { λ r. ⌜ r ≡ hashBy (ruleOf form) (now (key .entry)) ⌝ }
+{
+    hash_on(HASH_START, key, form)
 }
 
 // gvdb-rs: djb_hash.
@@ -34,5 +58,5 @@ pub fn hash_on(start: u32, bytes: &[u8]) -> u32
 pub fn djb_hash(key: &[u8]) -> u32
     ensures { λ r. ⌜ r ≡ hashOf (now (key .entry)) ⌝ }
 {
-    hash_on(HASH_START, key)
+    hash_on(HASH_START, key, Form::Plain)
 }

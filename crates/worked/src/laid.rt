@@ -43,18 +43,18 @@ fn said(room: usize, written: GvdbImage) {
     say::end();
 }
 
-// Writes a table into so many bytes of a buffer.
-fn write(words: &mut [usize], arena: &[u8], buffer: &mut [u8], room: usize) {
+// Writes a table into so many bytes of a buffer, in a manner.
+fn write(words: &mut [usize], arena: &[u8], buffer: &mut [u8], room: usize, manner: u32) {
     if room <= buffer.len() {
-        let written = gvdb_write(words, arena, 0, &mut buffer[..room]);
+        let written = gvdb_write(words, arena, 0, &mut buffer[..room], manner);
         said(room, written);
     }
 }
 
 // The buffer held dots; what stands in it afterwards.
-fn image(words: &mut [usize], arena: &[u8], room: usize) {
+fn image(words: &mut [usize], arena: &[u8], room: usize, manner: u32) {
     let mut buffer = [b'.'; 112];
-    write(words, arena, &mut buffer, room);
+    write(words, arena, &mut buffer, room, manner);
     say::bytes(&buffer);
     say::end();
 }
@@ -70,7 +70,7 @@ fn empty() {
     let mut words = room_of_words();
     let mut arena = room_of_bytes();
     start(&mut words, &mut arena, b"");
-    image(&mut words, &arena, 112);
+    image(&mut words, &arena, 112, 0);
 }
 
 // "a" with 01 02: 66 bytes, and a buffer of 65.
@@ -79,9 +79,9 @@ fn one() {
     let mut arena = room_of_bytes();
     start(&mut words, &mut arena, b"");
     insert(&mut words, &mut arena, 0, b"a", b"\x01\x02");
-    image(&mut words, &arena, 65);
-    image(&mut words, &arena, 66);
-    image(&mut words, &arena, 112);
+    image(&mut words, &arena, 65, 0);
+    image(&mut words, &arena, 66, 0);
+    image(&mut words, &arena, 112, 0);
 }
 
 // "a/b" with 07: 104 bytes, and a buffer of 103.
@@ -90,14 +90,24 @@ fn two() {
     let mut arena = room_of_bytes();
     start(&mut words, &mut arena, b"/");
     insert(&mut words, &mut arena, 0, b"a/b", b"\x07");
-    image(&mut words, &arena, 103);
-    image(&mut words, &arena, 104);
-    image(&mut words, &arena, 112);
+    image(&mut words, &arena, 103, 0);
+    image(&mut words, &arena, 104, 0);
+    image(&mut words, &arena, 112, 0);
+}
+
+// "é" with 01 02: 66 bytes, which differ in the hash at 36 alone between the base form and the signed one.
+fn accent() {
+    let mut words = room_of_words();
+    let mut arena = room_of_bytes();
+    start(&mut words, &mut arena, b"");
+    insert(&mut words, &mut arena, 0, b"\xC3\xA9", b"\x01\x02");
+    image(&mut words, &arena, 66, 0);
+    image(&mut words, &arena, 66, 1);
 }
 
 // The child at a position of the container "a/".
 fn child(image: &[u8], start: u32, end: u32, position: usize) {
-    let child = gvdb_next_child(image, start, end, b"a/", position);
+    let child = gvdb_next_child(image, start, end, b"a/", position, 0);
     say::text(b"child ");
     say::size(position);
     say::text(b" of \"a/\": ");
@@ -124,7 +134,7 @@ fn children() {
     start(&mut words, &mut arena, b"/");
     insert(&mut words, &mut arena, 0, b"a/c", b"");
     insert(&mut words, &mut arena, 0, b"a/b", b"");
-    let written = gvdb_write(&mut words, &arena, 0, &mut buffer);
+    let written = gvdb_write(&mut words, &arena, 0, &mut buffer, 0);
     said(160, written);
     child(&buffer, written.start, written.end, 0);
     child(&buffer, written.start, written.end, 1);
@@ -207,6 +217,7 @@ pub fn tables() {
     empty();
     one();
     two();
+    accent();
     children();
     keys();
     items();

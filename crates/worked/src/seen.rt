@@ -1,12 +1,14 @@
 // Values as views show them: the bytes themselves, looked up through a view of the file, and none on a refusal.
 use crate::say;
+use read::manner::Manner;
+use words::hash::Form;
 
 // The value of a key.
 fn value(file: &[u8], start: u32, end: u32, key: &[u8]) {
     say::text(b"  view of ");
     say::text(key);
     say::text(b": ");
-    say::bytes(view::through::value_bytes(file, start, end, key));
+    say::bytes(view::through::value_bytes(file, start, end, key, Manner { form: Form::Plain }));
     say::end();
 }
 
@@ -17,7 +19,14 @@ fn nested(file: &[u8], start: u32, end: u32, table: &[u8], key: &[u8]) {
     say::text(b" in ");
     say::text(table);
     say::text(b": ");
-    say::bytes(view::through::nested_bytes(file, start, end, table, key));
+    say::bytes(view::through::nested_bytes(
+        file,
+        start,
+        end,
+        table,
+        key,
+        Manner { form: Form::Plain },
+    ));
     say::end();
 }
 

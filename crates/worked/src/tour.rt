@@ -5,9 +5,11 @@ use layout::refusal::Refusal;
 use layout::refusal::bad_at;
 use layout::refusal::number_of;
 use read::lookup::Looked;
+use read::manner::Manner;
 use read_listing::listing::Cursor;
 use read_listing::listing::Listed;
 use read_listing::listing::Valued;
+use words::hash::Form;
 
 // A refusal's number; with 8 and 9 where the text is bad.
 fn refusal(why: Refusal) {
@@ -85,16 +87,18 @@ fn lookup(file: &[u8], start: u32, end: u32, key: &[u8]) {
     say::text(b"  lookup of ");
     say::bytes(key);
     say::text(b"as a value:");
-    looked(read::lookup::lookup_value(file, start, end, key));
+    let base = Manner { form: Form::Plain };
+    looked(read::lookup::lookup_value(file, start, end, key, base));
     say::text(b"; as a table:");
-    looked(read::lookup::lookup_table(file, start, end, key));
+    looked(read::lookup::lookup_table(file, start, end, key, base));
     say::end();
 }
 
 // What the check says of the root table.
 fn check(file: &[u8], start: u32, end: u32) {
     say::text(b"  check: ");
-    match check_table::check::check_table(file, start, end) {
+    let base = Manner { form: Form::Plain };
+    match check_table::check::check_table(file, start, end, base) {
         Checked::Sound => say::text(b"sound"),
         Checked::Broken { rule, item } => {
             say::text(b"rule ");

@@ -104,52 +104,52 @@ laid-front size before part image h e = ap (λ (l : List ℕ). l ++ drop size be
 
 -- ---- from the roster
 
-module _ (ws ar before : List ℕ) (t : ℕ) where
+module _ (rule : ℕ → ℕ) (ws ar before : List ℕ) (t : ℕ) where
   abbrev pub FromTable : Written → List ℕ → Type 0
-  FromTable r after = Given (tableAnswer ws ar t (length before)) r (imageFor ws ar t) before after
+  FromTable r after = Given (tableAnswer rule ws ar t (length before)) r (imageFor rule ws ar t) before after
 
   pub table-empty : {told : Bool} → told ≡ hasEmpty (stateOf ws ar) deepest t → told ≡ true → FromTable (Written.Refused EmptyKey) before
   unfolding tableAnswer
-  table-empty is e = refused _ (imageFor ws ar t) before (Written.Refused EmptyKey) (sym (pick-true (Written.Refused EmptyKey) (sizeAnswer (length before) (length (stateOf ws ar t .members)) (length (imageFor ws ar t))) (sym is ∙ e))) (nothing-empty (imageFor ws ar t) before)
+  table-empty is e = refused _ (imageFor rule ws ar t) before (Written.Refused EmptyKey) (sym (pick-true (Written.Refused EmptyKey) (sizeAnswer (length before) (length (stateOf ws ar t .members)) (length (imageFor rule ws ar t))) (sym is ∙ e))) (nothing-empty (imageFor rule ws ar t) before)
 
-  pub table-indexed : {told : Bool} → told ≡ hasEmpty (stateOf ws ar) deepest t → told ≡ false → (numbered after : List ℕ) (r : Written) → NumberedAs ws ar numbered → t < mostTables
+  pub table-indexed : {told : Bool} → told ≡ hasEmpty (stateOf ws ar) deepest t → told ≡ false → (numbered after : List ℕ) (r : Written) → NumberedAs rule ws ar numbered → t < mostTables
       → r ≡ fitAnswer numbered ar t (length before) → after ≡ laidBy (fitAnswer numbered ar t (length before)) (numberedImage numbered ar t) before → FromTable r after
   unfolding tableAnswer fitAnswer
   table-indexed is none numbered after r s l e f =
-      let image : numberedImage numbered ar t ≡ imageFor ws ar t = numbered-image ws ar numbered s t l in
-      let same : sizeAnswer (length before) (slotCount numbered t) (length (numberedImage numbered ar t)) ≡ pick (hasEmpty (stateOf ws ar) deepest t) (Written.Refused EmptyKey) (sizeAnswer (length before) (length (stateOf ws ar t .members)) (length (imageFor ws ar t))) =
+      let image : numberedImage numbered ar t ≡ imageFor rule ws ar t = numbered-image ws ar numbered s t l in
+      let same : sizeAnswer (length before) (slotCount numbered t) (length (numberedImage numbered ar t)) ≡ pick (hasEmpty (stateOf ws ar) deepest t) (Written.Refused EmptyKey) (sizeAnswer (length before) (length (stateOf ws ar t .members)) (length (imageFor rule ws ar t))) =
       ap (λ (n : ℕ). sizeAnswer (length before) n (length (numberedImage numbered ar t))) (numbered-count ws ar numbered s t l) ∙ ap (λ (x : List ℕ). sizeAnswer (length before) (length (stateOf ws ar t .members)) (length x)) image
-      ∙ sym (pick-false (Written.Refused EmptyKey) (sizeAnswer (length before) (length (stateOf ws ar t .members)) (length (imageFor ws ar t))) (sym is ∙ none)) in
-      record { answers = e ∙ same; lays = f ∙ ap (λ (a : Written). laidBy a (numberedImage numbered ar t) before) same ∙ ap (λ (x : List ℕ). laidBy (pick (hasEmpty (stateOf ws ar) deepest t) (Written.Refused EmptyKey) (sizeAnswer (length before) (length (stateOf ws ar t .members)) (length (imageFor ws ar t)))) x before) image }
+      ∙ sym (pick-false (Written.Refused EmptyKey) (sizeAnswer (length before) (length (stateOf ws ar t .members)) (length (imageFor rule ws ar t))) (sym is ∙ none)) in
+      record { answers = e ∙ same; lays = f ∙ ap (λ (a : Written). laidBy a (numberedImage numbered ar t) before) same ∙ ap (λ (x : List ℕ). laidBy (pick (hasEmpty (stateOf ws ar) deepest t) (Written.Refused EmptyKey) (sizeAnswer (length before) (length (stateOf ws ar t .members)) (length (imageFor rule ws ar t)))) x before) image }
 
   -- ---- the whole answer
 
   abbrev pub FromWrite : Written → List ℕ → Type 0
-  FromWrite r after = Given (writeAnswer ws ar t (length before)) r (imageFor ws ar t) before after
+  FromWrite r after = Given (writeAnswer rule ws ar t (length before)) r (imageFor rule ws ar t) before after
 
-  write-is : writeAnswer ws ar t (length before) ≡ pick (fullyValid ws ar) (pick (freeStanding ws t) (tableAnswer ws ar t (length before)) (Written.Refused TableUnknown)) (Written.Refused MemoryBroken)
+  write-is : writeAnswer rule ws ar t (length before) ≡ pick (fullyValid ws ar) (pick (freeStanding ws t) (tableAnswer rule ws ar t (length before)) (Written.Refused TableUnknown)) (Written.Refused MemoryBroken)
   unfolding writeAnswer tableAnswer sizeAnswer
   write-is = refl
 
   pub write-broken : fullyValid ws ar ≡ false → FromWrite (Written.Refused MemoryBroken) before
   write-broken e =
-      refused _ (imageFor ws ar t) before (Written.Refused MemoryBroken)
-      (sym (write-is ∙ pick-false (pick (freeStanding ws t) (tableAnswer ws ar t (length before)) (Written.Refused TableUnknown)) (Written.Refused MemoryBroken) e)) (nothing-broken (imageFor ws ar t) before)
+      refused _ (imageFor rule ws ar t) before (Written.Refused MemoryBroken)
+      (sym (write-is ∙ pick-false (pick (freeStanding ws t) (tableAnswer rule ws ar t (length before)) (Written.Refused TableUnknown)) (Written.Refused MemoryBroken) e)) (nothing-broken (imageFor rule ws ar t) before)
 
   module _ (ok : fullyValid ws ar ≡ true) where
-    write-valid : writeAnswer ws ar t (length before) ≡ pick (freeStanding ws t) (tableAnswer ws ar t (length before)) (Written.Refused TableUnknown)
-    write-valid = write-is ∙ pick-true (pick (freeStanding ws t) (tableAnswer ws ar t (length before)) (Written.Refused TableUnknown)) (Written.Refused MemoryBroken) ok
+    write-valid : writeAnswer rule ws ar t (length before) ≡ pick (freeStanding ws t) (tableAnswer rule ws ar t (length before)) (Written.Refused TableUnknown)
+    write-valid = write-is ∙ pick-true (pick (freeStanding ws t) (tableAnswer rule ws ar t (length before)) (Written.Refused TableUnknown)) (Written.Refused MemoryBroken) ok
 
     pub write-unknown : freeStanding ws t ≡ false → FromWrite (Written.Refused TableUnknown) before
     write-unknown e =
-        refused _ (imageFor ws ar t) before (Written.Refused TableUnknown)
-        (sym (write-valid ∙ pick-false (tableAnswer ws ar t (length before)) (Written.Refused TableUnknown) e)) (nothing-unknown (imageFor ws ar t) before)
+        refused _ (imageFor rule ws ar t) before (Written.Refused TableUnknown)
+        (sym (write-valid ∙ pick-false (tableAnswer rule ws ar t (length before)) (Written.Refused TableUnknown) e)) (nothing-unknown (imageFor rule ws ar t) before)
 
-    pub index-and-write : freeStanding ws t ≡ true → (r : Written) (after : List ℕ) → r ≡ tableAnswer ws ar t (length before) → after ≡ laidBy (tableAnswer ws ar t (length before)) (imageFor ws ar t) before → FromWrite r after
+    pub index-and-write : freeStanding ws t ≡ true → (r : Written) (after : List ℕ) → r ≡ tableAnswer rule ws ar t (length before) → after ≡ laidBy (tableAnswer rule ws ar t (length before)) (imageFor rule ws ar t) before → FromWrite r after
     index-and-write e r after er ea =
-        let same : tableAnswer ws ar t (length before) ≡ writeAnswer ws ar t (length before) = sym (write-valid ∙ pick-true (tableAnswer ws ar t (length before)) (Written.Refused TableUnknown) e) in
-        record { answers = er ∙ same; lays = ea ∙ ap (λ (a : Written). laidBy a (imageFor ws ar t) before) same }
+        let same : tableAnswer rule ws ar t (length before) ≡ writeAnswer rule ws ar t (length before) = sym (write-valid ∙ pick-true (tableAnswer rule ws ar t (length before)) (Written.Refused TableUnknown) e) in
+        record { answers = er ∙ same; lays = ea ∙ ap (λ (a : Written). laidBy a (imageFor rule ws ar t) before) same }
 
-  pub image-after : laidBy (writeAnswer ws ar t (length before)) (imageFor ws ar t) before ≡ imageAfter ws ar t before
+  pub image-after : laidBy (writeAnswer rule ws ar t (length before)) (imageFor rule ws ar t) before ≡ imageAfter rule ws ar t before
   unfolding imageAfter
   image-after = refl

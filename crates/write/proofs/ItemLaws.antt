@@ -11,12 +11,13 @@ use lib.ListN.{length, getD, take, drop, length-append, List·getD-append}
 use lib.Seq.{take-nil, getD-at, take-suc, take-all, drop-drop}
 use Rattle.words.specs.Choice.{pick}
 use Rattle.words.specs.Store.{part}
-use Rattle.words.specs.Hash.{plain, hashBy}
+use Rattle.words.specs.declared.hash.Form.{Form}
+use Rattle.words.specs.Hash.{hashBy, ruleOf}
 use Rattle.words.proofs.ChoiceLaws.{pick-true, pick-false, eq-or-ne, lt-or-ge}
 use Rattle.layout.specs.Kind.{kindByte, valueKind, tableKind, containerKind}
 use Rattle.layout.specs.Item.{noItem}
 use Rattle.model.specs.Table.{Content, Rows, kindOf, isContainer, isChild, fragmentAt}
-use Rattle.build_memory.specs.Memory.{itemTotal, itemTable, itemHash, keyStart, keySize, itemParent, itemKind, valueStart, valueSize, itemGuest, keyOf}
+use Rattle.build_memory.specs.Memory.{itemTotal, itemTable, keyStart, keySize, itemParent, itemKind, valueStart, valueSize, itemGuest, keyOf}
 use Rattle.build_memory.specs.Meaning.{contentOf}
 use Rattle.image.specs.Index.{laidIndex}
 use Rattle.image.specs.Plan.{word, wordsOf}
@@ -24,6 +25,8 @@ use Rattle.image.specs.Image.{parentIndex, childWords}
 use Rattle.image.proofs.ChildLaws.{words-append}
 use Rattle.write_bytes.specs.Numbered.{byKind}
 use Rattle.write_bytes.proofs.KindLaws.{kind-value, kind-table, kind-container}
+use Rattle.write_order.specs.Items.{hashFor}
+use Rattle.write_order.proofs.ItemLaws.{hash-for}
 use Rattle.write_numbers.specs.Roster.{stateOf, itemIndex, Rostered}
 use Rattle.write_numbers.proofs.StateLaws.{state-key}
 use Rattle.build_memory.proofs.MeaningLaws.{key-length}
@@ -50,25 +53,25 @@ module _ (ws ar : List ℕ) (i : ℕ) where
 
 -- ---- the indices of children as words
 
-no-words : (table : Rows) (l : List ℕ) → wordsOf (λ j. laidIndex plain table (getD l j 0)) 0 ≡ childWords plain table (take 0 l)
+no-words : (rule : ℕ → ℕ) (table : Rows) (l : List ℕ) → wordsOf (λ j. laidIndex rule table (getD l j 0)) 0 ≡ childWords rule table (take 0 l)
 unfolding wordsOf childWords
-no-words table l = refl
+no-words rule table l = refl
 
-one-word : (table : Rows) (c : ℕ) → childWords plain table (c ∷ []) ≡ word (laidIndex plain table c)
+one-word : (rule : ℕ → ℕ) (table : Rows) (c : ℕ) → childWords rule table (c ∷ []) ≡ word (laidIndex rule table c)
 unfolding childWords
-one-word table c = append-nil (word (laidIndex plain table c))
+one-word rule table c = append-nil (word (laidIndex rule table c))
 
-more-words : (table : Rows) (l : List ℕ) (n : ℕ) → n < length l → wordsOf (λ j. laidIndex plain table (getD l j 0)) n ≡ childWords plain table (take n l)
-    → wordsOf (λ j. laidIndex plain table (getD l j 0)) (suc n) ≡ childWords plain table (take (suc n) l)
+more-words : (rule : ℕ → ℕ) (table : Rows) (l : List ℕ) (n : ℕ) → n < length l → wordsOf (λ j. laidIndex rule table (getD l j 0)) n ≡ childWords rule table (take n l)
+    → wordsOf (λ j. laidIndex rule table (getD l j 0)) (suc n) ≡ childWords rule table (take (suc n) l)
 unfolding wordsOf
-more-words table l n h e = rw (take-suc l n 0 h, words-append, one-word) (ap (λ (x : List ℕ). x ++ word (laidIndex plain table (getD l n 0))) e)
+more-words rule table l n h e = rw (take-suc l n 0 h, words-append, one-word) (ap (λ (x : List ℕ). x ++ word (laidIndex rule table (getD l n 0))) e)
 
-pub children-words : (table : Rows) (l : List ℕ) → wordsOf (λ j. laidIndex plain table (getD l j 0)) (length l) ≡ childWords plain table l
-children-words table l = first (length l) (omega arith) ∙ ap (childWords plain table) (take-all (length l) l (omega arith))
+pub children-words : (rule : ℕ → ℕ) (table : Rows) (l : List ℕ) → wordsOf (λ j. laidIndex rule table (getD l j 0)) (length l) ≡ childWords rule table l
+children-words rule table l = first (length l) (omega arith) ∙ ap (childWords rule table) (take-all (length l) l (omega arith))
   where
-    first : (n : ℕ) → n ≤ length l → wordsOf (λ j. laidIndex plain table (getD l j 0)) n ≡ childWords plain table (take n l)
-    first zero h = no-words table l
-    first (suc n) h = more-words table l n h (first n (omega arith))
+    first : (n : ℕ) → n ≤ length l → wordsOf (λ j. laidIndex rule table (getD l j 0)) n ≡ childWords rule table (take n l)
+    first zero h = no-words rule table l
+    first (suc n) h = more-words rule table l n h (first n (omega arith))
 
 -- ---- a child has the parent word that it is listed by
 
@@ -108,7 +111,7 @@ drop-part l at size n = drop-take n size (drop at l) ∙ ap (take (size - n)) (d
     drop-take (suc n) (suc m) [] = sym (take-nil (suc m - suc n))
     drop-take (suc n) (suc m) (x ∷ l) = let e : suc m - suc n ≡ m - n = omega arith in rw e (drop-take n m l)
 
-module _ (ws ar roster : List ℕ) (r : Right ws ar) (ro : Rostered ws ar roster) where
+module _ {rule : ℕ → ℕ} (ws ar roster : List ℕ) (r : Right ws ar) (ro : Rostered rule ws ar roster) where
   -- ---- children
 
   holds-children : (t j : ℕ) → j < itemTotal ws → isContainer (stateOf ws ar t .content j) ≡ eqb (itemKind ws j) containerKind
@@ -144,23 +147,23 @@ module _ (ws ar roster : List ℕ) (r : Right ws ar) (ro : Rostered ws ar roster
 
     -- ---- the fields of its slot
 
-    pub hash-is : itemHash ws i ≡ hashBy plain (stateOf ws ar t .key i)
-    hash-is = r .hash i l ∙ ap (hashBy plain) (sym (state-key ws ar t i l))
+    pub hash-is : (form : Form) → hashFor form ws ar i ≡ hashBy (ruleOf form) (stateOf ws ar t .key i)
+    hash-is form = hash-for ws ar i form (r .hash i l) refl ∙ ap (hashBy (ruleOf form)) (sym (state-key ws ar t i l))
 
-    pub parent-is : parentWord ws roster i ≡ parentIndex plain (stateOf ws ar t) i
+    pub parent-is : parentWord ws roster i ≡ parentIndex rule (stateOf ws ar t) i
     unfolding parentWord parentIndex
     parent-is = rw child-is (by (by-child ws i))
       where
-        number : childTest ws i ≡ true → itemIndex roster (itemParent ws i - 1) ≡ laidIndex plain (stateOf ws ar t) (stateOf ws ar t .above i)
+        number : childTest ws i ≡ true → itemIndex roster (itemParent ws i - 1) ≡ laidIndex rule (stateOf ws ar t) (stateOf ws ar t .above i)
         number e =
             let n = child-some ws i e in
-            ro .indices (itemParent ws i - 1) (above-in n) ∙ ap (λ (u : ℕ). laidIndex plain (stateOf ws ar u) (itemParent ws i - 1)) (r .parent i l n .same ∙ own)
-            ∙ ap (laidIndex plain (stateOf ws ar t)) (sym (above-some n))
+            ro .indices (itemParent ws i - 1) (above-in n) ∙ ap (λ (u : ℕ). laidIndex rule (stateOf ws ar u) (itemParent ws i - 1)) (r .parent i l n .same ∙ own)
+            ∙ ap (laidIndex rule (stateOf ws ar t)) (sym (above-some n))
 
         by : (childTest ws i ≡ true) ⊎ (childTest ws i ≡ false)
-            → pick (childTest ws i) (itemIndex roster (itemParent ws i - 1)) noItem ≡ pick (childTest ws i) (laidIndex plain (stateOf ws ar t) (stateOf ws ar t .above i)) noItem
-        by (inl e) = pick-true (itemIndex roster (itemParent ws i - 1)) noItem e ∙ number e ∙ sym (pick-true (laidIndex plain (stateOf ws ar t) (stateOf ws ar t .above i)) noItem e)
-        by (inr e) = pick-false (itemIndex roster (itemParent ws i - 1)) noItem e ∙ sym (pick-false (laidIndex plain (stateOf ws ar t) (stateOf ws ar t .above i)) noItem e)
+            → pick (childTest ws i) (itemIndex roster (itemParent ws i - 1)) noItem ≡ pick (childTest ws i) (laidIndex rule (stateOf ws ar t) (stateOf ws ar t .above i)) noItem
+        by (inl e) = pick-true (itemIndex roster (itemParent ws i - 1)) noItem e ∙ number e ∙ sym (pick-true (laidIndex rule (stateOf ws ar t) (stateOf ws ar t .above i)) noItem e)
+        by (inr e) = pick-false (itemIndex roster (itemParent ws i - 1)) noItem e ∙ sym (pick-false (laidIndex rule (stateOf ws ar t) (stateOf ws ar t .above i)) noItem e)
 
     whole-key : part ar (keyStart ws i) (keySize ws i) ≡ stateOf ws ar t .key i
     unfolding keyOf

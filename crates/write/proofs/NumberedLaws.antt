@@ -5,7 +5,6 @@ use mathlib.Core.List.{List, _++_}
 use Prim.Native.Nat.{ℕ, zero, suc, _+_, _<_}
 use native.Mathlib.Omega.{arith}
 use lib.ListN.{length}
-use Rattle.words.specs.Hash.{plain}
 use Rattle.words.specs.Store.{part, zeros}
 use Rattle.image.specs.Plan.{wordsOf}
 use Rattle.image.specs.Fits.{SamePlan}
@@ -55,17 +54,17 @@ module _ (numbered arena : List ℕ) (fits : NumberedFits numbered arena) (f g :
 
 -- ---- the theorem
 
-module _ (ws ar numbered : List ℕ) (s : NumberedAs ws ar numbered) where
-  pub numbered-bytes : (d t at : ℕ) → t < mostTables → numberedBytes numbered ar d t at ≡ tableBytes plain (stateOf ws ar) d t at
+module _ {rule : ℕ → ℕ} (ws ar numbered : List ℕ) (s : NumberedAs rule ws ar numbered) where
+  pub numbered-bytes : (d t at : ℕ) → t < mostTables → numberedBytes numbered ar d t at ≡ tableBytes rule (stateOf ws ar) d t at
   unfolding numberedBytes tableBytes
   numbered-bytes zero t at l = refl
   numbered-bytes (suc d) t at l =
       let f : ℕ → ℕ → List ℕ = λ u start. numberedBytes numbered ar d u start in
-      let g : ℕ → ℕ → List ℕ = λ u start. tableBytes plain (stateOf ws ar) d u start in
+      let g : ℕ → ℕ → List ℕ = λ u start. tableBytes rule (stateOf ws ar) d u start in
       plan-same (numberedPlan f numbered ar t) (numberedPlan g numbered ar t) (inner-same numbered ar (s .fits) f g (λ u start h. numbered-bytes d u start h) t l) at
-      ∙ plan-same (numberedPlan g numbered ar t) (planOf plain g (stateOf ws ar) (stateOf ws ar t)) (s .plans g t l) at
+      ∙ plan-same (numberedPlan g numbered ar t) (planOf rule g (stateOf ws ar) (stateOf ws ar t)) (s .plans g t l) at
 
-  pub numbered-image : (t : ℕ) → t < mostTables → numberedImage numbered ar t ≡ imageFor ws ar t
+  pub numbered-image : (t : ℕ) → t < mostTables → numberedImage numbered ar t ≡ imageFor rule ws ar t
   unfolding numberedImage imageFor imageOf
   numbered-image t l = ap (λ (bytes : List ℕ). zeros headerSize ++ bytes) (numbered-bytes deepest t headerSize l)
 

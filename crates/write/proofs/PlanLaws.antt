@@ -6,11 +6,12 @@ use Prim.Native.Nat.{ℕ, _+_, _-_, _*_, _≤_, _<_, _^_}
 use native.Mathlib.Omega.{arith}
 use lib.ListN.{length, getD}
 use Rattle.words.specs.Store.{part}
-use Rattle.words.specs.Hash.{plain}
+use Rattle.words.specs.declared.hash.Form.{Form}
+use Rattle.words.specs.Hash.{ruleOf}
 use Rattle.words.proofs.StoreLaws.{length-part}
 use Rattle.model.specs.Table.{Content}
 use Rattle.layout.specs.Kind.{containerKind}
-use Rattle.build_memory.specs.Memory.{itemTotal, itemTable, itemHash, keyStart, keySize, itemKind, valueStart, valueSize, itemGuest}
+use Rattle.build_memory.specs.Memory.{itemTotal, itemTable, keyStart, keySize, itemKind, valueStart, valueSize, itemGuest}
 use Rattle.image.specs.Index.{itemOf, laidIndex}
 use Rattle.layout.specs.Sizes.{chunkSize}
 use Rattle.image.specs.Plan.{wordsOf}
@@ -19,6 +20,7 @@ use Rattle.image.specs.Image.{alignOf, childrenOf, childWords, valueOf, coversO
 use Rattle.image.proofs.PlanLaws.{words-same}
 use Rattle.words.proofs.ChoiceLaws.{lt-or-ge}
 use Rattle.write_bytes.specs.Numbered.{firstSlot, slotCount, slotWord, slotHash, slotParent, slotFragment, slotFragmentSize, slotKind, slotValueWord, slotValueSize, slotBucket, childWord, slotValue, numberedPlan, NumberedFits, slotCover, childrenFrom, slotsFrom}
+use Rattle.write_order.specs.Items.{hashFor}
 use Rattle.write_numbers.specs.Roster.{stateOf, itemIndex, bucketWord, Rostered}
 use Rattle.layout.specs.Limits.{mostItems, mostTables}
 use Rattle.write.specs.NumberedAs.{childItems, fromLast, skipped, parentWord, slotOf, startOf, sizeOf, frontWords, backWords, slotWords, Siblings, NumberedStart, NumberedChildren, NumberedSlots, Firsts, NumberedAs}
@@ -32,8 +34,8 @@ use Rattle.write.proofs.ItemLaws.{children-words, hash-is, parent-is, f
 pub siblings-firsts : (ws order firsts : List ℕ) → itemTotal ws ≤ mostItems → Siblings ws order firsts → Firsts firsts
 siblings-firsts ws order firsts few k = record { wide = k .wide; up = λ i h. omega (arith, k .next i h); few = λ i h. omega (arith, k .few i h) }
 
-module _ (ws ar roster order firsts a b numbered : List ℕ) (r : Right ws ar) (ro : Rostered ws ar roster) (siblings : Siblings ws order firsts)
-    (st : NumberedStart roster a) (ch : NumberedChildren ws roster order a b) (sl : NumberedSlots ws ar roster firsts b numbered (itemTotal ws)) where
+module _ (form : Form) (ws ar roster order firsts a b numbered : List ℕ) (r : Right ws ar) (ro : Rostered (ruleOf form) ws ar roster) (siblings : Siblings ws order firsts)
+    (st : NumberedStart roster a) (ch : NumberedChildren ws roster order a b) (sl : NumberedSlots form ws ar roster firsts b numbered (itemTotal ws)) where
   head-is : (k : ℕ) → k < slotsFrom → getD numbered k 0 ≡ getD roster k 0
   head-is k h = sl .head k h ∙ ch .kept k (omega arith) ∙ st .is k (omega arith) ∙ sym (start-in roster k h)
 
@@ -77,10 +79,10 @@ module _ (ws ar roster order firsts a b numbered : List ℕ) (r : Right ws ar) (
 
   -- the words of a slot, by the item that it is of
   module _ (s i : ℕ) (l : i < itemTotal ws) (at-slot : slotOf ws roster i ≡ s) where
-    word-is : (which : ℕ) → which < 8 → slotWord numbered s which ≡ getD (slotWords ws roster firsts i) which 0
+    word-is : (which : ℕ) → which < 8 → slotWord numbered s which ≡ getD (slotWords ws roster firsts form ar i) which 0
     word-is which w = ap (λ (u : ℕ). slotWord numbered u which) (sym at-slot) ∙ sl .is i l which w
 
-    w0 : slotHash numbered s ≡ itemHash ws i
+    w0 : slotHash numbered s ≡ hashFor form ws ar i
     unfolding slotWords frontWords backWords
     w0 = word-is 0 (omega arith)
 
@@ -122,34 +124,34 @@ module _ (ws ar roster order firsts a b numbered : List ℕ) (r : Right ws ar) (
       siblings-size : itemKind ws i ≡ containerKind → sizeOf ws firsts i ≡ length (childItems ws (i + 1) (itemTotal ws))
       siblings-size e = sym (size-child ws firsts i (itemKind ws i) refl (λ q. omega arith) (λ q. omega arith)) ∙ omega (arith, siblings .next i inside)
 
-      kid-word : (j : ℕ) → j < length (childItems ws (i + 1) (itemTotal ws)) → childWord numbered (getD firsts (i + 1) 0 + j) ≡ laidIndex plain (stateOf ws ar t) (getD (childItems ws (i + 1) (itemTotal ws)) j 0)
+      kid-word : (j : ℕ) → j < length (childItems ws (i + 1) (itemTotal ws)) → childWord numbered (getD firsts (i + 1) 0 + j) ≡ laidIndex (ruleOf form) (stateOf ws ar t) (getD (childItems ws (i + 1) (itemTotal ws)) j 0)
       kid-word j h =
           let c = getD (childItems ws (i + 1) (itemTotal ws)) j 0 in
           let below : c < itemTotal ws = kid-in ws ar roster r ro t i l own j h in
           child-is (getD firsts (i + 1) 0 + j) (omega (arith, siblings .next i inside, siblings .few i inside))
           ∙ ap (itemIndex roster) (siblings .child i j inside h) ∙ ro .indices c below
-          ∙ ap (λ (u : ℕ). laidIndex plain (stateOf ws ar u) c) (kid-table ws ar roster r ro t i l own j h)
+          ∙ ap (λ (u : ℕ). laidIndex (ruleOf form) (stateOf ws ar u) c) (kid-table ws ar roster r ro t i l own j h)
 
-      child-items-words : wordsOf (λ j. childWord numbered (getD firsts (i + 1) 0 + j)) (length (childItems ws (i + 1) (itemTotal ws))) ≡ childWords plain (stateOf ws ar t) (childrenOf (stateOf ws ar t) i)
+      child-items-words : wordsOf (λ j. childWord numbered (getD firsts (i + 1) 0 + j)) (length (childItems ws (i + 1) (itemTotal ws))) ≡ childWords (ruleOf form) (stateOf ws ar t) (childrenOf (stateOf ws ar t) i)
       child-items-words =
-          words-same (λ j. childWord numbered (getD firsts (i + 1) 0 + j)) (λ j. laidIndex plain (stateOf ws ar t) (getD (childItems ws (i + 1) (itemTotal ws)) j 0)) (length (childItems ws (i + 1) (itemTotal ws))) kid-word
-          ∙ children-words (stateOf ws ar t) (childItems ws (i + 1) (itemTotal ws)) ∙ ap (childWords plain (stateOf ws ar t)) (sym (children-child-items ws ar r t i l own))
+          words-same (λ j. childWord numbered (getD firsts (i + 1) 0 + j)) (λ j. laidIndex (ruleOf form) (stateOf ws ar t) (getD (childItems ws (i + 1) (itemTotal ws)) j 0)) (length (childItems ws (i + 1) (itemTotal ws))) kid-word
+          ∙ children-words (ruleOf form) (stateOf ws ar t) (childItems ws (i + 1) (itemTotal ws)) ∙ ap (childWords (ruleOf form) (stateOf ws ar t)) (sym (children-child-items ws ar r t i l own))
 
-      value-is : (inner : ℕ → ℕ → List ℕ) (at : ℕ) → slotValue inner numbered ar s at ≡ valueOf plain inner (stateOf ws ar) (stateOf ws ar t) i (stateOf ws ar t .content i) at
+      value-is : (inner : ℕ → ℕ → List ℕ) (at : ℕ) → slotValue inner numbered ar s at ≡ valueOf (ruleOf form) inner (stateOf ws ar) (stateOf ws ar t) i (stateOf ws ar t .content i) at
       unfolding slotValue valueOf
       value-is inner at =
           rw (w4, w5, w6)
-          (by-content ws ar roster r ro t i l own (λ (x : Content). valueOf plain inner (stateOf ws ar) (stateOf ws ar t) i x at)
+          (by-content ws ar roster r ro t i l own (λ (x : Content). valueOf (ruleOf form) inner (stateOf ws ar) (stateOf ws ar t) i x at)
           (part ar (startOf ws firsts i) (sizeOf ws firsts i)) (inner (startOf ws firsts i) at) (wordsOf (λ j. childWord numbered (startOf ws firsts i + j)) (sizeOf ws firsts i))
           (λ e. rw (← (start-value ws firsts i (itemKind ws i) refl e (valueStart ws i) refl), ← (size-value ws firsts i (itemKind ws i) refl e (valueSize ws i) refl)))
           (λ e. rw (← (start-guest ws firsts i (itemKind ws i) refl e (itemGuest ws i) refl)))
           (λ e. rw (siblings-start e, siblings-size e) child-items-words))
 
-      covers-is : (inner : ℕ → ℕ → List ℕ) → slotCover numbered s ≡ coversOf plain inner (stateOf ws ar) (stateOf ws ar t) i (stateOf ws ar t .content i)
+      covers-is : (inner : ℕ → ℕ → List ℕ) → slotCover numbered s ≡ coversOf (ruleOf form) inner (stateOf ws ar) (stateOf ws ar t) i (stateOf ws ar t .content i)
       unfolding slotCover coversOf
       covers-is inner =
           rw (w4, w5, w6)
-          (by-content ws ar roster r ro t i l own (λ (x : Content). coversOf plain inner (stateOf ws ar) (stateOf ws ar t) i x)
+          (by-content ws ar roster r ro t i l own (λ (x : Content). coversOf (ruleOf form) inner (stateOf ws ar) (stateOf ws ar t) i x)
           (sizeOf ws firsts i) (chunkSize (slotCount numbered (startOf ws firsts i))) (4 * sizeOf ws firsts i)
           (λ e. sym (size-value ws firsts i (itemKind ws i) refl e (valueSize ws i) refl) ∙ sym (length-part ar (valueStart ws i) (valueSize ws i) (r .value i l e)))
           (λ e. ap chunkSize (ap (slotCount numbered) (sym (start-guest ws firsts i (itemKind ws i) refl e (itemGuest ws i) refl)) ∙ members-is (itemGuest ws i) (r .guest i l e)))
@@ -157,12 +159,12 @@ module _ (ws ar roster order firsts a b numbered : List ℕ) (r : Right ws ar) (
 
   -- ---- the tables
 
-  plan-is : (inner : ℕ → ℕ → List ℕ) (t : ℕ) → t < mostTables → SamePlan (numberedPlan inner numbered ar t) (planOf plain inner (stateOf ws ar) (stateOf ws ar t))
+  plan-is : (inner : ℕ → ℕ → List ℕ) (t : ℕ) → t < mostTables → SamePlan (numberedPlan inner numbered ar t) (planOf (ruleOf form) inner (stateOf ws ar) (stateOf ws ar t))
   unfolding numberedPlan planOf
   plan-is inner t h = record {
     count = members-is t h;
     first = λ k l. w7 (firstSlot numbered t + k) (it k) (item k l) (slot k l) ∙ ap (λ (n : ℕ). bucketWord roster (n + k)) (first-is t h) ∙ ro .buckets t k h (low k l);
-    hash = λ k l. w0 (firstSlot numbered t + k) (it k) (item k l) (slot k l) ∙ hash-is ws ar roster r ro t (it k) (item k l) (own k l);
+    hash = λ k l. w0 (firstSlot numbered t + k) (it k) (item k l) (slot k l) ∙ hash-is ws ar roster r ro t (it k) (item k l) (own k l) form;
     parent = λ k l. w1 (firstSlot numbered t + k) (it k) (item k l) (slot k l) ∙ parent-is ws ar roster r ro t (it k) (item k l) (own k l);
     fragment = λ k l. rw (w2 (firstSlot numbered t + k) (it k) (item k l) (slot k l), w3 (firstSlot numbered t + k) (it k) (item k l) (slot k l)) (fragment-is ws ar roster r ro t (it k) (item k l) (own k l));
     kind = λ k l. w4 (firstSlot numbered t + k) (it k) (item k l) (slot k l) ∙ kind-is ws ar roster r ro t (it k) (item k l) (own k l);
@@ -172,7 +174,7 @@ module _ (ws ar roster order firsts a b numbered : List ℕ) (r : Right ws ar) (
   }
     where
       it : ℕ → ℕ
-      it k = itemOf plain (stateOf ws ar t) k
+      it k = itemOf (ruleOf form) (stateOf ws ar t) k
 
       low : (k : ℕ) → k < slotCount numbered t → k < slotCount roster t
       low k l = omega (arith, count-is t h)
@@ -186,5 +188,5 @@ module _ (ws ar roster order firsts a b numbered : List ℕ) (r : Right ws ar) (
       slot : (k : ℕ) (l : k < slotCount numbered t) → slotOf ws roster (it k) ≡ firstSlot numbered t + k
       slot k l = slot-of ws ar roster r ro t k h (low k l) ∙ ap (λ (n : ℕ). n + k) (sym (first-is t h))
 
-  pub numbered-as : NumberedAs ws ar numbered
+  pub numbered-as : NumberedAs (ruleOf form) ws ar numbered
   numbered-as = record { fits = numbered-fits; plans = plan-is }

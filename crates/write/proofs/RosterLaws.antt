@@ -6,7 +6,6 @@ use mathlib.Core.List.{List}
 use Prim.Native.Nat.{ℕ, _+_, _-_, _≤_, _<_, _^_}
 use native.Mathlib.Omega.{arith}
 use lib.ListN.{length}
-use Rattle.words.specs.Hash.{plain}
 use Rattle.words.proofs.ChoiceLaws.{pick-true, pick-false, eq-or-ne}
 use Rattle.model.specs.Table.{Has}
 use Rattle.layout.specs.Item.{noItem}
@@ -28,7 +27,7 @@ by-child ws i = by (childTest ws i) refl
     by true e = inl e
     by false e = inr e
 
-module _ (ws ar roster : List ℕ) (r : Right ws ar) (ro : Rostered ws ar roster) where
+module _ {rule : ℕ → ℕ} (ws ar roster : List ℕ) (r : Right ws ar) (ro : Rostered rule ws ar roster) where
   module _ (i : ℕ) (l : i < itemTotal ws) where
     mine : Has (stateOf ws ar (itemTable ws i) .members) i
     mine = state-has ws ar (itemTable ws i) i l refl
@@ -36,7 +35,7 @@ module _ (ws ar roster : List ℕ) (r : Right ws ar) (ro : Rostered ws ar roster
     pub index-low : itemIndex roster i < slotCount roster (itemTable ws i)
     index-low =
         let t = itemTable ws i in
-        let h : laidIndex plain (stateOf ws ar t) i < length (stateOf ws ar t .members) = index-within plain (stateOf ws ar t) (state-once ws ar t) i mine in
+        let h : laidIndex rule (stateOf ws ar t) i < length (stateOf ws ar t .members) = index-within rule (stateOf ws ar t) (state-once ws ar t) i mine in
         omega (arith, ro .indices i l, ro .counts t (r .table i l))
 
     pub slot-low : slotOf ws roster i < mostItems
@@ -50,15 +49,15 @@ module _ (ws ar roster : List ℕ) (r : Right ws ar) (ro : Rostered ws ar roster
     unfolding slotOf
     slot-item =
         let t = itemTable ws i in
-        ro .items t (itemIndex roster i) (r .table i l) index-low ∙ ap (itemOf plain (stateOf ws ar t)) (ro .indices i l)
-        ∙ item-index plain (stateOf ws ar t) (state-once ws ar t) i mine
+        ro .items t (itemIndex roster i) (r .table i l) index-low ∙ ap (itemOf rule (stateOf ws ar t)) (ro .indices i l)
+        ∙ item-index rule (stateOf ws ar t) (state-once ws ar t) i mine
 
     -- the word of the bucket at its index
     pub bucket-few : bucketWord roster (slotOf ws roster i) ≤ mostItems
     unfolding slotOf
     bucket-few =
         let t = itemTable ws i in
-        omega (arith, ro .buckets t (itemIndex roster i) (r .table i l) index-low, first-most plain (stateOf ws ar t) (itemIndex roster i), ro .counts t (r .table i l), ro .inside t (r .table i l))
+        omega (arith, ro .buckets t (itemIndex roster i) (r .table i l) index-low, first-most rule (stateOf ws ar t) (itemIndex roster i), ro .counts t (r .table i l), ro .inside t (r .table i l))
 
     earlier : itemParent ws i ≤ i
     earlier = ⊎-elim (λ e. omega arith) (λ n. r .parent i l n .earlier) (eq-or-ne (itemParent ws i) 0)
@@ -100,19 +99,19 @@ module _ (ws ar roster : List ℕ) (r : Right ws ar) (ro : Rostered ws ar roster
   -- ---- the item at an index
 
   module _ (t k : ℕ) (known : t < mostTables) (low : k < slotCount roster t) where
-    item-has : Has (stateOf ws ar t .members) (itemOf plain (stateOf ws ar t) k)
-    item-has = item-within plain (stateOf ws ar t) (state-once ws ar t) k (omega (arith, ro .counts t known))
+    item-has : Has (stateOf ws ar t .members) (itemOf rule (stateOf ws ar t) k)
+    item-has = item-within rule (stateOf ws ar t) (state-once ws ar t) k (omega (arith, ro .counts t known))
 
-    pub item-in : itemOf plain (stateOf ws ar t) k < itemTotal ws
-    item-in = state-below ws ar t (itemOf plain (stateOf ws ar t) k) item-has
+    pub item-in : itemOf rule (stateOf ws ar t) k < itemTotal ws
+    item-in = state-below ws ar t (itemOf rule (stateOf ws ar t) k) item-has
 
-    pub item-of : itemTable ws (itemOf plain (stateOf ws ar t) k) ≡ t
-    item-of = state-table ws ar t (itemOf plain (stateOf ws ar t) k) item-has
+    pub item-of : itemTable ws (itemOf rule (stateOf ws ar t) k) ≡ t
+    item-of = state-table ws ar t (itemOf rule (stateOf ws ar t) k) item-has
 
-    pub slot-of : slotOf ws roster (itemOf plain (stateOf ws ar t) k) ≡ firstSlot roster t + k
+    pub slot-of : slotOf ws roster (itemOf rule (stateOf ws ar t) k) ≡ firstSlot roster t + k
     unfolding slotOf
     slot-of =
-        let i = itemOf plain (stateOf ws ar t) k in
-        let e : itemIndex roster i ≡ k = ro .indices i item-in ∙ ap (λ (u : ℕ). laidIndex plain (stateOf ws ar u) i) item-of
-        ∙ index-item plain (stateOf ws ar t) (state-once ws ar t) k (omega (arith, ro .counts t known)) in
+        let i = itemOf rule (stateOf ws ar t) k in
+        let e : itemIndex roster i ≡ k = ro .indices i item-in ∙ ap (λ (u : ℕ). laidIndex rule (stateOf ws ar u) i) item-of
+        ∙ index-item rule (stateOf ws ar t) (state-once ws ar t) k (omega (arith, ro .counts t known)) in
         rw (item-of, e)

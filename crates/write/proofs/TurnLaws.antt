@@ -8,12 +8,15 @@ use borrow.Author.Tests.{lt-ltb, le-ltb}
 use lib.ListN.{length, getD, take}
 use lib.Seq.{length-take-le, getD-take}
 use Rattle.words.specs.Store.{putAt}
-use Rattle.words.specs.Hash.{plain}
+use Rattle.words.specs.declared.hash.Form.{Form}
+use Rattle.words.specs.Hash.{ruleOf}
 use Rattle.words.proofs.ChoiceLaws.{pick-true, pick-false, eq-or-ne, lt-or-ge}
 use Rattle.words.proofs.HashLaws.{hash-below}
 use Rattle.words.proofs.StoreLaws.{length-put, get-put, get-before, get-after, put-append}
-use Rattle.build_memory.specs.Memory.{itemTotal, itemHash, keyStart, keySize, itemKind, valueStart, valueSize, itemGuest, keyOf}
+use Rattle.build_memory.specs.Memory.{itemTotal, keyStart, keySize, itemKind, valueStart, valueSize, itemGuest, keyOf}
 use Rattle.write_bytes.specs.Numbered.{slotsFrom, numberedSize, slotWord, slotHash, slotParent, slotFragment, slotFragmentSize, slotKind, slotValueWord, slotValueSize, slotBucket, SlotFits, slotSize}
+use Rattle.write_order.specs.Items.{hashFor}
+use Rattle.write_order.proofs.ItemLaws.{hash-for}
 use Rattle.write_numbers.specs.Roster.{rosterSize, bucketWord, Rostered}
 use Rattle.layout.specs.Limits.{mostItems}
 use Rattle.write.specs.NumberedAs.{skipped, parentWord, slotOf, startOf, sizeOf, frontWords, backWords, slotWords, Clear, startWord, NumberedStart, NumberedChildren, NumberedSlots, Firsts}
@@ -47,18 +50,18 @@ fits-same a b ar s e f =
 
 -- ---- a slot that was put
 
-length-words : (ws roster firsts : List ℕ) (i : ℕ) → length (slotWords ws roster firsts i) ≡ 8
+length-words : (ws roster firsts : List ℕ) (form : Form) (ar : List ℕ) (i : ℕ) → length (slotWords ws roster firsts form ar i) ≡ 8
 unfolding slotWords frontWords backWords
-length-words ws roster firsts i = refl
+length-words ws roster firsts form ar i = refl
 
-front-length : (ws roster : List ℕ) (i : ℕ) → length (frontWords ws roster i) ≡ 4
+front-length : (ws roster : List ℕ) (form : Form) (ar : List ℕ) (i : ℕ) → length (frontWords ws roster form ar i) ≡ 4
 unfolding frontWords
-front-length ws roster i = refl
+front-length ws roster form ar i = refl
 
-pub halves-put : (ws roster firsts l : List ℕ) (i : ℕ) {s slot : ℕ} → s ≡ slot → {front : List ℕ} → front ≡ putAt l (slotsFrom + slotSize * s) (frontWords ws roster i)
-    → {all : List ℕ} → all ≡ putAt front (slotsFrom + slotSize * s + 4) (backWords ws roster firsts i) → all ≡ putAt l (slotsFrom + slotSize * slot) (slotWords ws roster firsts i)
+pub halves-put : (form : Form) (ws ar roster firsts l : List ℕ) (i : ℕ) {s slot : ℕ} → s ≡ slot → {front : List ℕ} → front ≡ putAt l (slotsFrom + slotSize * s) (frontWords ws roster form ar i)
+    → {all : List ℕ} → all ≡ putAt front (slotsFrom + slotSize * s + 4) (backWords ws roster firsts i) → all ≡ putAt l (slotsFrom + slotSize * slot) (slotWords ws roster firsts form ar i)
 unfolding slotWords
-halves-put ws roster firsts l i same e f = f ∙ rw (e, same, put-append, front-length)
+halves-put form ws ar roster firsts l i same e f = f ∙ rw (e, same, put-append, front-length)
 
 module _ (l vs : List ℕ) (long : length l ≡ numberedSize) (eight : length vs ≡ 8) (s : ℕ) (low : s < mostItems) where
   put-own : (which : ℕ) → which < 8 → slotWord (putAt l (slotsFrom + slotSize * s) vs) s which ≡ getD vs which 0
@@ -73,14 +76,14 @@ module _ (l vs : List ℕ) (long : length l ≡ numberedSize) (eight : length vs
       (λ more. get-after l (slotsFrom + slotSize * s) vs (slotsFrom + slotSize * u + which) (omega arith))
       (lt-or-ge u s)
 
-module _ (ws ar roster firsts : List ℕ) (r : Right ws ar) (ro : Rostered ws ar roster) (fi : Firsts firsts) where
+module _ (form : Form) (ws ar roster firsts : List ℕ) (r : Right ws ar) (ro : Rostered (ruleOf form) ws ar roster) (fi : Firsts firsts) where
   -- the slot of an item can be laid
   item-fits : (numbered : List ℕ) (i : ℕ) → i < itemTotal ws
-      → ((which : ℕ) → which < 8 → slotWord numbered (slotOf ws roster i) which ≡ getD (slotWords ws roster firsts i) which 0) → SlotFits numbered ar (slotOf ws roster i)
+      → ((which : ℕ) → which < 8 → slotWord numbered (slotOf ws roster i) which ≡ getD (slotWords ws roster firsts form ar i) which 0) → SlotFits numbered ar (slotOf ws roster i)
   unfolding slotWords frontWords backWords
   item-fits numbered i l e =
       let s = slotOf ws roster i in
-      let e0 : slotHash numbered s ≡ itemHash ws i = e 0 (omega arith) in
+      let e0 : slotHash numbered s ≡ hashFor form ws ar i = e 0 (omega arith) in
       let e1 : slotParent numbered s ≡ parentWord ws roster i = e 1 (omega arith) in
       let e2 : slotFragment numbered s ≡ keyStart ws i + skipped ws i = e 2 (omega arith) in
       let e3 : slotFragmentSize numbered s ≡ keySize ws i - skipped ws i = e 3 (omega arith) in
@@ -90,7 +93,7 @@ module _ (ws ar roster firsts : List ℕ) (r : Right ws ar) (ro : Rostered ws ar
       let e7 : slotBucket numbered s ≡ bucketWord roster s = e 7 (omega arith) in
       let inside : i < mostItems = omega (arith, r .valid .items) in
       record {
-        hash = omega (arith, r .hash i l, hash-below plain (keyOf ws ar i));
+        hash = omega (arith, hash-for ws ar i form (r .hash i l) refl, hash-below (ruleOf form) (keyOf ws ar i));
         parent = omega (arith, parent-few ws ar roster r ro i l);
         fragment = omega (arith, skip-most ws ar roster r ro i l, r .key i l);
         size = omega (arith, r .short i l);
@@ -112,16 +115,16 @@ module _ (ws ar roster firsts : List ℕ) (r : Right ws ar) (ro : Rostered ws ar
         );
       }
 
-  pub slots-none : (numbered : List ℕ) → ((s : ℕ) → s < mostItems → SlotFits numbered ar s) → NumberedSlots ws ar roster firsts numbered numbered 0
+  pub slots-none : (numbered : List ℕ) → ((s : ℕ) → s < mostItems → SlotFits numbered ar s) → NumberedSlots form ws ar roster firsts numbered numbered 0
   slots-none numbered fit = record { long = refl; is = λ i h. absurd (omega arith); fits = fit; head = λ k h. refl; tail = λ k h. refl }
 
-  pub slots-more : (before numbered : List ℕ) (i : ℕ) → length before ≡ numberedSize → i < itemTotal ws → NumberedSlots ws ar roster firsts before numbered i
-      → NumberedSlots ws ar roster firsts before (putAt numbered (slotsFrom + slotSize * slotOf ws roster i) (slotWords ws roster firsts i)) (i + 1)
+  pub slots-more : (before numbered : List ℕ) (i : ℕ) → length before ≡ numberedSize → i < itemTotal ws → NumberedSlots form ws ar roster firsts before numbered i
+      → NumberedSlots form ws ar roster firsts before (putAt numbered (slotsFrom + slotSize * slotOf ws roster i) (slotWords ws roster firsts form ar i)) (i + 1)
   slots-more before numbered i long l q =
       let s = slotOf ws roster i in
-      let vs = slotWords ws roster firsts i in
+      let vs = slotWords ws roster firsts form ar i in
       let size : length numbered ≡ numberedSize = q .long ∙ long in
-      let eight : length vs ≡ 8 = length-words ws roster firsts i in
+      let eight : length vs ≡ 8 = length-words ws roster firsts form ar i in
       let low : s < mostItems = slot-low ws ar roster r ro i l in
       record {
         long = length-put numbered (slotsFrom + slotSize * s) vs ∙ q .long;
@@ -195,10 +198,10 @@ start-fits ws ar roster order a b st ch s h =
 -- ---- the four words and the four more, as they are read
 
 module _ (ws roster l : List ℕ) (i at : ℕ) where
-  pub front-made : (hash parent skip key size : ℕ) → hash ≡ itemHash ws i → parent ≡ parentWord ws roster i → skip ≡ skipped ws i → key ≡ keyStart ws i → size ≡ keySize ws i
-      → putAt l at (hash ∷ parent ∷ (key + skip) ∷ (size - skip) ∷ []) ≡ putAt l at (frontWords ws roster i)
+  pub front-made : (form : Form) (ar : List ℕ) (hash parent skip key size : ℕ) → hash ≡ hashFor form ws ar i → parent ≡ parentWord ws roster i → skip ≡ skipped ws i → key ≡ keyStart ws i → size ≡ keySize ws i
+      → putAt l at (hash ∷ parent ∷ (key + skip) ∷ (size - skip) ∷ []) ≡ putAt l at (frontWords ws roster form ar i)
   unfolding frontWords
-  front-made hash parent skip key size e f g h k = rw (e, f, g, h, k)
+  front-made form ar hash parent skip key size e f g h k = rw (e, f, g, h, k)
 
   pub back-made : (firsts : List ℕ) (kind start size slot : ℕ) → kind ≡ itemKind ws i → start ≡ startOf ws firsts i → size ≡ sizeOf ws firsts i → slot ≡ slotOf ws roster i
       → putAt l at (kind ∷ start ∷ size ∷ getD roster (2176 + slot) 0 ∷ []) ≡ putAt l at (backWords ws roster firsts i)

@@ -7,29 +7,27 @@ use mathlib.Core.List.{List}
 use native.Mathlib.Omega.{arith}
 use borrow.Author.Tests.{eq-eqb, ltb-true, ltb-false, eqb-true}
 use lib.Dec.{eqb, ltb}
-use lib.ListN.{length, take, drop, length-append}
+use lib.ListN.{length, getD, take, drop, length-append}
 use lib.Seq.{take-at, take-take}
 use Rattle.words.specs.Choice.{pick}
 use Rattle.words.specs.Store.{putAt, zeros}
-use Rattle.words.specs.Hash.{plain}
 use Rattle.words.proofs.ChoiceLaws.{both}
 use Rattle.words.proofs.BelowLaws.{some-below, below-some}
 use Rattle.words.proofs.StoreLaws.{part-put, drop-after, length-zeros}
 use Rattle.layout.specs.declared.refusal.Refusal.the-variants.{MemoryBroken, TableUnknown, EmptyKey, ImageTooLong}
 use Rattle.layout.specs.Limits.{longestFile, deepest}
 use Rattle.layout.specs.Sizes.{headerSize}
-use Rattle.model.specs.Table.{Content, State, times}
+use Rattle.model.specs.Table.{Content, State}
 use Rattle.build_memory.specs.Memory.{tableTotal, tablePlaced}
 use Rattle.build_rules.specs.Valid.{fullyValid}
-use Rattle.image.specs.Index.{itemOf, laidIndex}
+use Rattle.image.specs.Index.{indexIn}
 use Rattle.image.specs.Image.{tableBytes, imageOf}
-use Rattle.image.proofs.IndexLaws.{item-within, index-within, item-index}
+use Rattle.image.proofs.TimesLaws.{times-some, index-stands}
 use Rattle.write_numbers.specs.Roster.{stateOf}
 use Rattle.write.specs.declared.Written.{Written}
 use Rattle.build_tables.specs.Table.{freeStanding}
 use Rattle.write.specs.Write.{emptyHeld, hasEmpty, tooLong, imageFor, writeAnswer, writtenNumber, laidBy, imageAfter}
 use Rattle.write.specs.When.{EmptyIn, MayWrite, SucceedsExactly, SuccessKeepsRest, SuccessClearsHeader}
-use Rattle.write_numbers.proofs.StateLaws.{state-once}
 use Rattle.write.proofs.NumberLaws.{write-30, write-0}
 
 -- ---- 30 is given just where a key is empty
@@ -45,7 +43,7 @@ or-right false e = e
 never : {A : Type 0} → false ≡ true → A
 never e = absurd (let z : _≡_ {A = ℕ} 0 1 = cc in omega arith)
 
-module _ (state : State) (one : (t x : ℕ) → times x (state t .members) ≤ 1) where
+module _ (state : State) where
   module _ (d : ℕ) where
     -- what an item holds has an empty key
     abbrev Below : Content → Type 0
@@ -68,18 +66,18 @@ module _ (state : State) (one : (t x : ℕ) → times x (state t .members) ≤ 1
   empty-says zero t e = never e
   empty-says (suc d) t e =
       let (k, l, is) = some-below _ (length (state t .members)) e in
-      (itemOf plain (state t) k, item-within plain (state t) (one t) k l, ⊎-elim (λ p. inl (eqb-true _ _ p)) (λ q. inr (held-says d (empty-says d) _ q)) (either _ _ is))
+      (getD (state t .members) k 0, times-some (getD (state t .members) k 0) (state t .members) k l refl, ⊎-elim (λ p. inl (eqb-true _ _ p)) (λ q. inr (held-says d (empty-says d) _ q)) (either _ _ is))
 
   pub empty-found : (d t : ℕ) → EmptyIn state d t → hasEmpty state d t ≡ true
   unfolding hasEmpty EmptyIn
   empty-found zero t e = absurd e
   empty-found (suc d) t (i, has, why) =
-      below-some _ (length (state t .members)) (laidIndex plain (state t) i) (index-within plain (state t) (one t) i has)
-      (rw (item-index plain (state t) (one t) i has) (held-found d (empty-found d) _ _ why))
+      let s = index-stands (state t .members) i has in
+      below-some _ (length (state t .members)) (indexIn (state t .members) i) (s .within) (rw (s .is) (held-found d (empty-found d) _ _ why))
 
-pub write-30-plain : (ws ar : List ℕ) (t room : ℕ) → fullyValid ws ar ≡ true → t < tableTotal ws → tablePlaced ws t ≡ 0 → EmptyIn (stateOf ws ar) deepest t
-    → writtenNumber (writeAnswer ws ar t room) ≡ 30
-write-30-plain ws ar t room ok known loose empty = write-30 ws ar t room ok known loose (empty-found (stateOf ws ar) (state-once ws ar) deepest t empty)
+pub write-30-plain : (rule : ℕ → ℕ) (ws ar : List ℕ) (t room : ℕ) → fullyValid ws ar ≡ true → t < tableTotal ws → tablePlaced ws t ≡ 0 → EmptyIn (stateOf ws ar) deepest t
+    → writtenNumber (writeAnswer rule ws ar t room) ≡ 30
+write-30-plain rule ws ar t room ok known loose empty = write-30 rule ws ar t room ok known loose (empty-found (stateOf ws ar) deepest t empty)
 
 -- ---- exactly when a write succeeds
 
@@ -106,60 +104,60 @@ passed true true false true room good e = absurd (omega (arith, e))
 passed true true false false true good e = absurd (omega (arith, e))
 passed true true false false false good e = record { whole-is = refl; free-is = refl; empty-is = refl; file-is = refl; room-is = refl }
 
-module _ (ws ar : List ℕ) (t room : ℕ) where
-  succeeds : writtenNumber (writeAnswer ws ar t room) ≡ 0 → MayWrite ws ar t room
+module _ (rule : ℕ → ℕ) (ws ar : List ℕ) (t room : ℕ) where
+  succeeds : writtenNumber (writeAnswer rule ws ar t room) ≡ 0 → MayWrite rule ws ar t room
   unfolding writeAnswer tooLong freeStanding
   succeeds e =
-      let p = passed (fullyValid ws ar) (ltb t (tableTotal ws) && eqb (tablePlaced ws t) 0) (hasEmpty (stateOf ws ar) deepest t) (ltb longestFile (length (imageFor ws ar t))) (ltb room (length (imageFor ws ar t))) _ e in
+      let p = passed (fullyValid ws ar) (ltb t (tableTotal ws) && eqb (tablePlaced ws t) 0) (hasEmpty (stateOf ws ar) deepest t) (ltb longestFile (length (imageFor rule ws ar t))) (ltb room (length (imageFor rule ws ar t))) _ e in
       let (known, loose) = both (ltb t (tableTotal ws)) (eqb (tablePlaced ws t) 0) (p .free-is) in
       record {
         whole = p .whole-is;
         known = ltb-true _ _ known;
         loose = eqb-true _ _ loose;
-        named = λ empty. never (sym (p .empty-is) ∙ empty-found (stateOf ws ar) (state-once ws ar) deepest t empty);
+        named = λ empty. never (sym (p .empty-is) ∙ empty-found (stateOf ws ar) deepest t empty);
         short = ltb-false _ _ (p .file-is);
         fits = ltb-false _ _ (p .room-is);
       }
 
   not-empty : (EmptyIn (stateOf ws ar) deepest t → ⊥) → (found : Bool) → hasEmpty (stateOf ws ar) deepest t ≡ found → hasEmpty (stateOf ws ar) deepest t ≡ false
-  not-empty none true e = absurd (none (empty-says (stateOf ws ar) (state-once ws ar) deepest t e))
+  not-empty none true e = absurd (none (empty-says (stateOf ws ar) deepest t e))
   not-empty none false e = e
 
-  written : (m : MayWrite ws ar t room) → writeAnswer ws ar t room ≡ Written.Image 24 (24 + (8 + 28 * length (stateOf ws ar t .members))) (length (imageFor ws ar t))
-  written m = write-0 ws ar t room (m .whole) (m .known) (m .loose) (not-empty (m .named) _ refl) (m .short) (m .fits)
+  written : (m : MayWrite rule ws ar t room) → writeAnswer rule ws ar t room ≡ Written.Image 24 (24 + (8 + 28 * length (stateOf ws ar t .members))) (length (imageFor rule ws ar t))
+  written m = write-0 rule ws ar t room (m .whole) (m .known) (m .loose) (not-empty (m .named) _ refl) (m .short) (m .fits)
 
 pub succeeds-exactly : SucceedsExactly
 unfolding writtenNumber
-succeeds-exactly ws ar t room = (succeeds ws ar t room, λ m. ap writtenNumber (written ws ar t room m))
+succeeds-exactly rule ws ar t room = (succeeds rule ws ar t room, λ m. ap writtenNumber (written rule ws ar t room m))
 
 -- ---- what it leaves
 
-module _ (ws ar buffer : List ℕ) (t start end size : ℕ) (e : writeAnswer ws ar t (length buffer) ≡ Written.Image start end size) where
-  may : MayWrite ws ar t (length buffer)
+module _ (rule : ℕ → ℕ) (ws ar buffer : List ℕ) (t start end size : ℕ) (e : writeAnswer rule ws ar t (length buffer) ≡ Written.Image start end size) where
+  may : MayWrite rule ws ar t (length buffer)
   unfolding writtenNumber
-  may = succeeds ws ar t (length buffer) (ap writtenNumber e)
+  may = succeeds rule ws ar t (length buffer) (ap writtenNumber e)
 
-  size-is : size ≡ length (imageFor ws ar t)
-  size-is = let same = sym e ∙ written ws ar t (length buffer) may in cc
+  size-is : size ≡ length (imageFor rule ws ar t)
+  size-is = let same = sym e ∙ written rule ws ar t (length buffer) may in cc
 
-  after-is : imageAfter ws ar t buffer ≡ putAt buffer 0 (imageFor ws ar t)
+  after-is : imageAfter rule ws ar t buffer ≡ putAt buffer 0 (imageFor rule ws ar t)
   unfolding imageAfter laidBy
-  after-is = ap (λ (answer : Written). laidBy answer (imageFor ws ar t) buffer) e
+  after-is = ap (λ (answer : Written). laidBy answer (imageFor rule ws ar t) buffer) e
 
-image-header : (ws ar : List ℕ) (t : ℕ) → (24 ≤ length (imageFor ws ar t)) × (take 24 (imageFor ws ar t) ≡ zeros 24)
+image-header : (rule : ℕ → ℕ) (ws ar : List ℕ) (t : ℕ) → (24 ≤ length (imageFor rule ws ar t)) × (take 24 (imageFor rule ws ar t) ≡ zeros 24)
 unfolding imageFor imageOf
-image-header ws ar t =
-    let table = tableBytes plain (stateOf ws ar) deepest t headerSize in
+image-header rule ws ar t =
+    let table = tableBytes rule (stateOf ws ar) deepest t headerSize in
     (omega (arith, length-append (zeros 24) table, length-zeros 24), take-at (zeros 24) table 24 (length-zeros 24))
 
 pub success-rest : SuccessKeepsRest
-success-rest ws ar buffer t start end size e =
-    ap (drop size) (after-is ws ar buffer t start end size e) ∙ drop-after buffer 0 (imageFor ws ar t) size (omega (arith, size-is ws ar buffer t start end size e))
+success-rest rule ws ar buffer t start end size e =
+    ap (drop size) (after-is rule ws ar buffer t start end size e) ∙ drop-after buffer 0 (imageFor rule ws ar t) size (omega (arith, size-is rule ws ar buffer t start end size e))
 
 pub success-header : SuccessClearsHeader
-success-header ws ar buffer t start end size e =
-    let (long, clear) = image-header ws ar t in
-    let image = imageFor ws ar t in
-    let fits = may ws ar buffer t start end size e .fits in
-    ap (take 24) (after-is ws ar buffer t start end size e) ∙ sym (take-take 24 (length image) (putAt buffer 0 image) long)
+success-header rule ws ar buffer t start end size e =
+    let (long, clear) = image-header rule ws ar t in
+    let image = imageFor rule ws ar t in
+    let fits = may rule ws ar buffer t start end size e .fits in
+    ap (take 24) (after-is rule ws ar buffer t start end size e) ∙ sym (take-take 24 (length image) (putAt buffer 0 image) long)
     ∙ ap (take 24) (part-put buffer 0 image (omega (arith, fits))) ∙ clear

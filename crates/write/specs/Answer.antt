@@ -18,6 +18,6 @@ sizeAnswer room count size = pick (tooLong room size) (Written.Refused ImageTooL
 unfoldable pub fitAnswer : List ℕ → List ℕ → ℕ → ℕ → Written
 fitAnswer numbered ar t room = sizeAnswer room (slotCount numbered t) (length (numberedImage numbered ar t))
 
-unfoldable pub tableAnswer : List ℕ → List ℕ → ℕ → ℕ → Written
-tableAnswer ws ar t room =
-    pick (hasEmpty (stateOf ws ar) deepest t) (Written.Refused EmptyKey) (sizeAnswer room (length (stateOf ws ar t .members)) (length (imageFor ws ar t)))
+unfoldable pub tableAnswer : (ℕ → ℕ) → List ℕ → List ℕ → ℕ → ℕ → Written
+tableAnswer rule ws ar t room =
+    pick (hasEmpty (stateOf ws ar) deepest t) (Written.Refused EmptyKey) (sizeAnswer room (length (stateOf ws ar t .members)) (length (imageFor rule ws ar t)))

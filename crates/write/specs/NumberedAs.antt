@@ -6,21 +6,22 @@ use mathlib.Core.List.{List, [], _∷_, _++_}
 use lib.Dec.{eqb, ltb}
 use lib.ListN.{length, getD}
 use Rattle.words.specs.Choice.{pick}
-use Rattle.words.specs.Hash.{plain}
+use Rattle.words.specs.declared.hash.Form.{Form}
 use Rattle.layout.specs.Item.{noItem}
 use Rattle.layout.specs.Kind.{containerKind}
-use Rattle.build_memory.specs.Memory.{itemTotal, itemTable, itemHash, keyStart, keySize, itemParent, itemKind, valueStart, valueSize, itemGuest, leastWords}
+use Rattle.build_memory.specs.Memory.{itemTotal, itemTable, keyStart, keySize, itemParent, itemKind, valueStart, valueSize, itemGuest, leastWords}
 use Rattle.image.specs.Fits.{SamePlan}
 use Rattle.image.specs.Image.{planOf}
 use Rattle.layout.specs.Limits.{mostTables, mostItems}
 use Rattle.write_bytes.specs.Numbered.{slotsFrom, childrenFrom, numberedSize, slotWord, childWord, byKind, numberedPlan, NumberedFits, SlotFits, firstSlot, slotSize}
+use Rattle.write_order.specs.Items.{hashFor}
 use Rattle.write_numbers.specs.Roster.{stateOf, itemIndex, bucketWord, rosterSize}
 
 -- every table of the numbered table agrees with the table that the memory means, whatever nested tables are laid as
-pub record NumberedAs (ws ar numbered : List ℕ) : Type 0 where
+pub record NumberedAs (rule : ℕ → ℕ) (ws ar numbered : List ℕ) : Type 0 where
   pub fits : NumberedFits numbered ar
   pub plans : (inner : ℕ → ℕ → List ℕ) (t : ℕ) → t < mostTables
-      → SamePlan (numberedPlan inner numbered ar t) (planOf plain inner (stateOf ws ar) (stateOf ws ar t))
+      → SamePlan (numberedPlan inner numbered ar t) (planOf rule inner (stateOf ws ar) (stateOf ws ar t))
 
 -- ---- children
 
@@ -107,16 +108,16 @@ module _ (ws roster : List ℕ) where
     pub key : keyStart ws i + keySize ws i < 2 ^ 64
     pub within : slotOf i < mostItems
 
-  unfoldable pub frontWords : ℕ → List ℕ
-  frontWords i = itemHash ws i ∷ parentWord i ∷ (keyStart ws i + skipped ws i) ∷ (keySize ws i - skipped ws i) ∷ []
+  -- the words of its slot: four, the first of them its hash under a form, and four more
+  unfoldable pub frontWords : Form → List ℕ → ℕ → List ℕ
+  frontWords form ar i = hashFor form ws ar i ∷ parentWord i ∷ (keyStart ws i + skipped ws i) ∷ (keySize ws i - skipped ws i) ∷ []
 
   module _ (firsts : List ℕ) where
-    -- the words of its slot: four, and four more
     unfoldable pub backWords : ℕ → List ℕ
     backWords i = itemKind ws i ∷ startOf ws firsts i ∷ sizeOf ws firsts i ∷ bucketWord roster (slotOf i) ∷ []
 
-    unfoldable pub slotWords : ℕ → List ℕ
-    slotWords i = frontWords i ++ backWords i
+    unfoldable pub slotWords : Form → List ℕ → ℕ → List ℕ
+    slotWords form ar i = frontWords form ar i ++ backWords i
 
 -- `firsts` ascends, up to the count of the child words
 pub record Firsts (firsts : List ℕ) : Type 0 where
@@ -125,9 +126,9 @@ pub record Firsts (firsts : List ℕ) : Type 0 where
   pub few : (i : ℕ) → i < mostItems → getD firsts (i + 2) 0 ≤ mostItems
 
 -- the slots of the first n items have their words, every slot can be laid, and all else is as it was
-pub record NumberedSlots (ws ar roster firsts before after : List ℕ) (n : ℕ) : Type 0 where
+pub record NumberedSlots (form : Form) (ws ar roster firsts before after : List ℕ) (n : ℕ) : Type 0 where
   pub long : length after ≡ length before
-  pub is : (i : ℕ) → i < n → (which : ℕ) → which < slotSize → slotWord after (slotOf ws roster i) which ≡ getD (slotWords ws roster firsts i) which 0
+  pub is : (i : ℕ) → i < n → (which : ℕ) → which < slotSize → slotWord after (slotOf ws roster i) which ≡ getD (slotWords ws roster firsts form ar i) which 0
   pub fits : (s : ℕ) → s < mostItems → SlotFits after ar s
   pub head : (k : ℕ) → k < slotsFrom → getD after k 0 ≡ getD before k 0
   pub tail : (k : ℕ) → childrenFrom ≤ k → getD after k 0 ≡ getD before k 0

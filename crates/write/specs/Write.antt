@@ -4,18 +4,16 @@ use Prim.Native.Nat.{ℕ, zero, suc, _+_}
 use mathlib.Core.Bool.{Bool, false, _||_}
 use mathlib.Core.List.{List, []}
 use lib.Dec.{eqb, ltb}
-use lib.ListN.{length}
+use lib.ListN.{length, getD}
 use Rattle.words.specs.Choice.{pick}
 use Rattle.words.specs.Below.{someBelow}
 use Rattle.words.specs.Store.{putAt}
-use Rattle.words.specs.Hash.{plain}
 use Rattle.layout.specs.Limits.{longestFile, deepest}
 use Rattle.layout.specs.Refusal.{number}
 use Rattle.layout.specs.declared.refusal.Refusal.the-variants.{MemoryBroken, TableUnknown, EmptyKey, ImageTooLong}
 use Rattle.model.specs.Table.{Content, State}
 use Rattle.build_rules.specs.Valid.{fullyValid}
 use Rattle.build_tables.specs.Table.{freeStanding}
-use Rattle.image.specs.Index.{itemOf}
 use Rattle.layout.specs.Sizes.{headerSize, chunkSize}
 use Rattle.image.specs.Image.{imageOf}
 use Rattle.write_numbers.specs.Roster.{stateOf}
@@ -31,25 +29,25 @@ emptyHeld empty Content.container = false
 unfoldable pub hasEmpty : State → ℕ → ℕ → Bool
 hasEmpty state zero t = false
 hasEmpty state (suc d) t =
-    someBelow (λ k. eqb (length (state t .key (itemOf plain (state t) k))) 0 || emptyHeld (λ u. hasEmpty state d u) (state t .content (itemOf plain (state t) k)))
+    someBelow (λ k. eqb (length (state t .key (getD (state t .members) k 0))) 0 || emptyHeld (λ u. hasEmpty state d u) (state t .content (getD (state t .members) k 0)))
     (length (state t .members))
 
--- what is to be laid
-unfoldable pub imageFor : List ℕ → List ℕ → ℕ → List ℕ
-imageFor ws ar t = imageOf plain (stateOf ws ar) t
+-- what is to be laid, by a rule for a byte of the hash
+unfoldable pub imageFor : (ℕ → ℕ) → List ℕ → List ℕ → ℕ → List ℕ
+imageFor rule ws ar t = imageOf rule (stateOf ws ar) t
 
 -- an image is longer than a buffer, or than a file may be
 unfoldable pub tooLong : ℕ → ℕ → Bool
 tooLong room size = ltb longestFile size || ltb room size
 
 -- the answer: the root pointer, which covers the table chunk, and the image's length
-unfoldable pub writeAnswer : List ℕ → List ℕ → ℕ → ℕ → Written
-writeAnswer ws ar t room =
+unfoldable pub writeAnswer : (ℕ → ℕ) → List ℕ → List ℕ → ℕ → ℕ → Written
+writeAnswer rule ws ar t room =
     pick (fullyValid ws ar)
     (pick (freeStanding ws t)
     (pick (hasEmpty (stateOf ws ar) deepest t) (Written.Refused EmptyKey)
-    (pick (tooLong room (length (imageFor ws ar t))) (Written.Refused ImageTooLong)
-    (Written.Image headerSize (headerSize + chunkSize (length (stateOf ws ar t .members))) (length (imageFor ws ar t)))))
+    (pick (tooLong room (length (imageFor rule ws ar t))) (Written.Refused ImageTooLong)
+    (Written.Image headerSize (headerSize + chunkSize (length (stateOf ws ar t .members))) (length (imageFor rule ws ar t)))))
     (Written.Refused TableUnknown))
     (Written.Refused MemoryBroken)
 
@@ -58,8 +56,8 @@ unfoldable pub laidBy : Written → List ℕ → List ℕ → List ℕ
 laidBy (Written.Image start end size) image buffer = putAt buffer 0 image
 laidBy (Written.Refused why) image buffer = buffer
 
-unfoldable pub imageAfter : List ℕ → List ℕ → ℕ → List ℕ → List ℕ
-imageAfter ws ar t buffer = laidBy (writeAnswer ws ar t (length buffer)) (imageFor ws ar t) buffer
+unfoldable pub imageAfter : (ℕ → ℕ) → List ℕ → List ℕ → ℕ → List ℕ → List ℕ
+imageAfter rule ws ar t buffer = laidBy (writeAnswer rule ws ar t (length buffer)) (imageFor rule ws ar t) buffer
 
 -- the document's number; 0 for a success
 unfoldable pub writtenNumber : Written → ℕ

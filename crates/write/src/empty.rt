@@ -4,11 +4,13 @@ use build_memory::fields::KEY_SIZE;
 use build_memory::fields::KIND;
 use build_memory::fields::item_word;
 use layout::kind::TABLE_KIND;
+use words::hash::Form;
 use write_bytes::numbered::HEAD_WORDS;
 use write_bytes::numbered::SLOTS_FROM;
 ghost use mathlib.Core.Path.{_≡_};
 ghost use mathlib.Core.Bool.{true};
 ghost use Prim.Native.Nat.{_<_};
+ghost use Rattle.words.specs.Hash.{ruleOf};
 ghost use Rattle.build_memory.specs.Memory.{itemTotal};
 ghost use Rattle.build_rules.specs.Valid.{fullyValid};
 ghost use Rattle.write_numbers.specs.Roster.{stateOf, Rostered};
@@ -23,9 +25,10 @@ pub fn has_empty(
     roster: &[usize],
     table: usize,
     depth: usize,
+    form: Form,
 ) -> bool
     requires { ⌜ fullyValid (now words) (now arena) ≡ true ⌝ }
-    requires { ⌜ Rostered (now words) (now arena) (now roster) ⌝ }
+    requires { ⌜ Rostered (ruleOf form) (now words) (now arena) (now roster) ⌝ }
     requires { ⌜ table < mostTables ⌝ }
     ensures { λ r. ⌜ r ≡ hasEmpty (stateOf (now (words .entry)) (now (arena .entry))) depth table ⌝ }
 {
@@ -37,7 +40,7 @@ pub fn has_empty(
     let mut k = 0;
     while k < count {
         let item = roster[SLOTS_FROM + (first + k)];
-        if item_empty(words, arena, roster, item, depth - 1) {
+        if item_empty(words, arena, roster, item, depth - 1, form) {
             return true;
         }
         k += 1;
@@ -46,9 +49,16 @@ pub fn has_empty(
 }
 
 // Whether an item has the empty key, or holds a table with one.
-fn item_empty(words: &[usize], arena: &[u8], roster: &[usize], item: usize, depth: usize) -> bool
+fn item_empty(
+    words: &[usize],
+    arena: &[u8],
+    roster: &[usize],
+    item: usize,
+    depth: usize,
+    form: Form,
+) -> bool
     requires { ⌜ fullyValid (now words) (now arena) ≡ true ⌝ }
-    requires { ⌜ Rostered (now words) (now arena) (now roster) ⌝ }
+    requires { ⌜ Rostered (ruleOf form) (now words) (now arena) (now roster) ⌝ }
     requires { ⌜ item < itemTotal (now words) ⌝ }
     ensures { λ r. ⌜ r ≡ itemEmpty (now (words .entry)) (now (arena .entry)) depth item ⌝ }
 {
@@ -59,5 +69,5 @@ fn item_empty(words: &[usize], arena: &[u8], roster: &[usize], item: usize, dept
         return false;
     }
     let guest = item_word(words, item, GUEST);
-    has_empty(words, arena, roster, guest, depth)
+    has_empty(words, arena, roster, guest, depth, form)
 }

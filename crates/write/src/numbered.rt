@@ -5,12 +5,14 @@ use crate::children::put_children;
 use crate::slot::put_slot;
 use build_memory::fields::ITEMS;
 use layout::limits::MOST_ITEMS;
+use words::hash::Form;
 use words::store::put_words;
 use write_bytes::numbered::SLOTS_FROM;
 ghost use mathlib.Core.Path.{_≡_};
 ghost use mathlib.Core.Bool.{true};
 ghost use Prim.Native.Nat.{ℕ, _<_};
 ghost use lib.ListN.{length};
+ghost use Rattle.words.specs.Hash.{ruleOf};
 ghost use Rattle.build_memory.specs.Memory.{itemTotal};
 ghost use Rattle.build_rules.specs.Valid.{fullyValid};
 ghost use Rattle.write_bytes.specs.Numbered.{SlotFits, numberedSize};
@@ -33,27 +35,34 @@ fn put_slots(
     roster: &[usize],
     firsts: &[usize],
     numbered: &mut [usize],
+    form: Form,
 )
     requires { ⌜ fullyValid (now words) (now arena) ≡ true ⌝ }
-    requires { ⌜ Rostered (now words) (now arena) (now roster) ⌝ }
+    requires { ⌜ Rostered (ruleOf form) (now words) (now arena) (now roster) ⌝ }
     requires { ⌜ Firsts (now firsts) ⌝ }
     requires { ⌜ (length (now numbered) ≡ numberedSize) × ((s : ℕ) → s < mostItems → SlotFits (now numbered) (now arena) s) ⌝ }
-    ensures { λ _. ⌜ NumberedSlots (now (words .entry)) (now (arena .entry)) (now (roster .entry)) (now (firsts .entry)) (now (numbered .entry)) (now (numbered .exit)) (itemTotal (now (words .entry))) ⌝ }
+    ensures { λ _. ⌜ NumberedSlots form (now (words .entry)) (now (arena .entry)) (now (roster .entry)) (now (firsts .entry)) (now (numbered .entry)) (now (numbered .exit)) (itemTotal (now (words .entry))) ⌝ }
 {
     let n = words[ITEMS];
     let mut i = 0;
     while i < n {
-        put_slot(words, roster, firsts, i, numbered);
+        put_slot(words, roster, firsts, i, numbered, arena, form);
         i += 1;
     }
 }
 
 // Fills a clear numbered table: head, child words, slots.
-pub fn fill_numbered(words: &[usize], arena: &[u8], roster: &[usize], numbered: &mut [usize])
+pub fn fill_numbered(
+    words: &[usize],
+    arena: &[u8],
+    roster: &[usize],
+    numbered: &mut [usize],
+    form: Form,
+)
     requires { ⌜ fullyValid (now words) (now arena) ≡ true ⌝ }
-    requires { ⌜ Rostered (now words) (now arena) (now roster) ⌝ }
+    requires { ⌜ Rostered (ruleOf form) (now words) (now arena) (now roster) ⌝ }
     requires { ⌜ (length (now numbered) ≡ numberedSize) × Clear (now numbered) ⌝ }
-    ensures { λ _. ⌜ NumberedAs (now (words .entry)) (now (arena .entry)) (now (numbered .exit)) ⌝ }
+    ensures { λ _. ⌜ NumberedAs (ruleOf form) (now (words .entry)) (now (arena .entry)) (now (numbered .exit)) ⌝ }
 {
     let n = words[ITEMS];
     let mut order = [0usize; MOST_ITEMS];
@@ -61,5 +70,5 @@ pub fn fill_numbered(words: &[usize], arena: &[u8], roster: &[usize], numbered: 
     order_siblings(words, arena, &mut order, &mut firsts);
     start_numbered(roster, numbered);
     put_children(words, roster, &order, numbered);
-    put_slots(words, arena, roster, &firsts, numbered);
+    put_slots(words, arena, roster, &firsts, numbered, form);
 }

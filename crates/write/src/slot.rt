@@ -1,7 +1,6 @@
 // The words of an item's slot.
 use build_memory::fields::EMPTY;
 use build_memory::fields::GUEST;
-use build_memory::fields::HASH;
 use build_memory::fields::KEY;
 use build_memory::fields::KEY_SIZE;
 use build_memory::fields::KIND;
@@ -13,12 +12,14 @@ use build_memory::fields::item_word;
 use layout::kind::CONTAINER_KIND;
 use layout::kind::TABLE_KIND;
 use layout::kind::VALUE_KIND;
+use words::hash::Form;
 use words::store::put_words;
 use write_bytes::numbered::HEAD_WORDS;
 use write_bytes::numbered::SLOT_SIZE;
 use write_bytes::numbered::SLOTS_FROM;
 use write_numbers::roster::BUCKETS_FROM;
 use write_numbers::roster::INDICES_FROM;
+use write_order::items::hash_of;
 ghost use mathlib.Core.Path.{_≡_};
 ghost use Prim.Native.Nat.{ℕ, _+_, _*_, _-_, _<_, _≤_};
 ghost use lib.ListN.{length, getD};
@@ -106,12 +107,20 @@ fn size_of(words: &[usize], firsts: &[usize], i: usize) -> usize
 }
 
 // Puts the first four words of an item's slot.
-fn put_front(words: &[usize], roster: &[usize], i: usize, numbered: &mut [usize], at: usize)
+fn put_front(
+    words: &[usize],
+    roster: &[usize],
+    i: usize,
+    numbered: &mut [usize],
+    at: usize,
+    arena: &[u8],
+    form: Form,
+)
     requires { ⌜ Slotted (now words) (now roster) i ⌝ }
     requires { ⌜ at + 4 ≤ length (now numbered) ⌝ }
-    ensures { λ _. ⌜ now (numbered .exit) ≡ putAt (now (numbered .entry)) at (frontWords (now (words .entry)) (now (roster .entry)) i) ⌝ }
+    ensures { λ _. ⌜ now (numbered .exit) ≡ putAt (now (numbered .entry)) at (frontWords (now (words .entry)) (now (roster .entry)) form (now (arena .entry)) i) ⌝ }
 {
-    let hash = item_word(words, i, HASH);
+    let hash = hash_of(words, arena, i, form);
     let parent = parent_word(words, roster, i);
     let skip = skip_of(words, i);
     let start = item_word(words, i, KEY) + skip;
@@ -150,13 +159,15 @@ pub fn put_slot(
     firsts: &[usize],
     i: usize,
     numbered: &mut [usize],
+    arena: &[u8],
+    form: Form,
 )
     requires { ⌜ Slotted (now words) (now roster) i ⌝ }
     requires { ⌜ Firsts (now firsts) ⌝ }
     requires { ⌜ length (now numbered) ≡ numberedSize ⌝ }
-    ensures { λ _. ⌜ now (numbered .exit) ≡ putAt (now (numbered .entry)) (slotsFrom + slotSize * slotOf (now (words .entry)) (now (roster .entry)) i) (slotWords (now (words .entry)) (now (roster .entry)) (now (firsts .entry)) i) ⌝ }
+    ensures { λ _. ⌜ now (numbered .exit) ≡ putAt (now (numbered .entry)) (slotsFrom + slotSize * slotOf (now (words .entry)) (now (roster .entry)) i) (slotWords (now (words .entry)) (now (roster .entry)) (now (firsts .entry)) form (now (arena .entry)) i) ⌝ }
 {
     let at = SLOTS_FROM + SLOT_SIZE * slot_of(words, roster, i);
-    put_front(words, roster, i, numbered, at);
+    put_front(words, roster, i, numbered, at, arena, form);
     put_back(words, roster, firsts, i, numbered, at + 4);
 }

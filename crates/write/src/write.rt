@@ -9,6 +9,7 @@ use layout::refusal::Refusal;
 use layout::sizes::CHUNK_STEP;
 use layout::sizes::HEAD_SIZE;
 use layout::sizes::HEADER_SIZE;
+use words::hash::Form;
 use words::wide::word_size;
 use write_bytes::Measured;
 use write_bytes::numbered::NUMBERED_SIZE;
@@ -21,6 +22,7 @@ ghost use mathlib.Core.Path.{_≡_};
 ghost use mathlib.Core.Bool.{true};
 ghost use Prim.Native.Nat.{_<_, _≤_};
 ghost use lib.ListN.{length};
+ghost use Rattle.words.specs.Hash.{ruleOf};
 ghost use Rattle.words.specs.Store.{putAt};
 ghost use Rattle.layout.specs.Limits.{mostTables, longestFile};
 ghost use Rattle.build_rules.specs.Valid.{fullyValid};
@@ -69,41 +71,48 @@ fn write_unless_empty(
     roster: &[usize],
     table: usize,
     image: &mut [u8],
+    form: Form,
 ) -> Written
     requires { ⌜ fullyValid (now words) (now arena) ≡ true ⌝ }
-    requires { ⌜ Rostered (now words) (now arena) (now roster) ⌝ }
+    requires { ⌜ Rostered (ruleOf form) (now words) (now arena) (now roster) ⌝ }
     requires { ⌜ table < mostTables ⌝ }
-    ensures { λ r. ⌜ r ≡ tableAnswer (now (words .entry)) (now (arena .entry)) table (length (now (image .entry))) ⌝ }
-    ensures { λ _. ⌜ now (image .exit) ≡ laidBy (tableAnswer (now (words .entry)) (now (arena .entry)) table (length (now (image .entry)))) (imageFor (now (words .entry)) (now (arena .entry)) table) (now (image .entry)) ⌝ }
+    ensures { λ r. ⌜ r ≡ tableAnswer (ruleOf form) (now (words .entry)) (now (arena .entry)) table (length (now (image .entry))) ⌝ }
+    ensures { λ _. ⌜ now (image .exit) ≡ laidBy (tableAnswer (ruleOf form) (now (words .entry)) (now (arena .entry)) table (length (now (image .entry)))) (imageFor (ruleOf form) (now (words .entry)) (now (arena .entry)) table) (now (image .entry)) ⌝ }
 {
-    if has_empty(words, arena, roster, table, DEEPEST) {
+    if has_empty(words, arena, roster, table, DEEPEST, form) {
         return Written::Refused(Refusal::EmptyKey);
     }
     let mut numbered = [0usize; NUMBERED_SIZE];
-    fill_numbered(words, arena, roster, &mut numbered);
+    fill_numbered(words, arena, roster, &mut numbered, form);
     write_if_fits(&numbered, arena, table, image)
 }
 
 // gvdb-rs: add_table_builder.
 // Lays a free-standing table: indexes the items of all tables first.
-fn index_and_write(words: &mut [usize], arena: &[u8], table: usize, image: &mut [u8]) -> Written
+fn index_and_write(
+    words: &mut [usize],
+    arena: &[u8],
+    table: usize,
+    image: &mut [u8],
+    form: Form,
+) -> Written
     requires { ⌜ fullyValid (now words) (now arena) ≡ true ⌝ }
     requires { ⌜ table < mostTables ⌝ }
     ensures { λ _. ⌜ now (words .exit) ≡ now (words .entry) ⌝ }
-    ensures { λ r. ⌜ r ≡ tableAnswer (now (words .entry)) (now (arena .entry)) table (length (now (image .entry))) ⌝ }
-    ensures { λ _. ⌜ now (image .exit) ≡ laidBy (tableAnswer (now (words .entry)) (now (arena .entry)) table (length (now (image .entry)))) (imageFor (now (words .entry)) (now (arena .entry)) table) (now (image .entry)) ⌝ }
+    ensures { λ r. ⌜ r ≡ tableAnswer (ruleOf form) (now (words .entry)) (now (arena .entry)) table (length (now (image .entry))) ⌝ }
+    ensures { λ _. ⌜ now (image .exit) ≡ laidBy (tableAnswer (ruleOf form) (now (words .entry)) (now (arena .entry)) table (length (now (image .entry)))) (imageFor (ruleOf form) (now (words .entry)) (now (arena .entry)) table) (now (image .entry)) ⌝ }
 {
     let mut roster = [0usize; ROSTER_SIZE];
-    roster_all(words, arena, &mut roster);
-    write_unless_empty(words, arena, &roster, table, image)
+    roster_all(words, arena, &mut roster, form);
+    write_unless_empty(words, arena, &roster, table, image, form)
 }
 
 // gvdb-rs: write_with_table, write_to_vec_with_table.
-// Writes the image of a table. The builder stays as it was: the links among its words are empty again.
-pub fn write(words: &mut [usize], arena: &[u8], table: u32, image: &mut [u8]) -> Written
+// Writes the image of a table, with hashes under a form. The builder stays as it was: the links among its words are empty again.
+pub fn write(words: &mut [usize], arena: &[u8], table: u32, image: &mut [u8], form: Form) -> Written
     ensures { λ _. ⌜ now (words .exit) ≡ now (words .entry) ⌝ }
-    ensures { λ r. ⌜ r ≡ writeAnswer (now (words .entry)) (now (arena .entry)) table (length (now (image .entry))) ⌝ }
-    ensures { λ _. ⌜ now (image .exit) ≡ imageAfter (now (words .entry)) (now (arena .entry)) table (now (image .entry)) ⌝ }
+    ensures { λ r. ⌜ r ≡ writeAnswer (ruleOf form) (now (words .entry)) (now (arena .entry)) table (length (now (image .entry))) ⌝ }
+    ensures { λ _. ⌜ now (image .exit) ≡ imageAfter (ruleOf form) (now (words .entry)) (now (arena .entry)) table (now (image .entry)) ⌝ }
 {
     if !judge_fully(words, arena) {
         return Written::Refused(Refusal::MemoryBroken);
@@ -112,5 +121,5 @@ pub fn write(words: &mut [usize], arena: &[u8], table: u32, image: &mut [u8]) ->
     if !is_free_standing(words, arena, known) {
         return Written::Refused(Refusal::TableUnknown);
     }
-    index_and_write(words, arena, known, image)
+    index_and_write(words, arena, known, image, form)
 }

@@ -6,7 +6,6 @@ use mathlib.Core.Bool.{Bool, true, false}
 use mathlib.Core.List.{List, [], _∷_}
 use borrow.Author.Tests.{eqb-true, eq-eqb, ne-eqb}
 use lib.ListN.{length}
-use Rattle.words.specs.Hash.{plain}
 use Rattle.words.specs.Below.{someBelow}
 use Rattle.words.specs.Store.{putAt}
 use Rattle.words.proofs.BelowLaws.{some-below, below-some, some-turn}
@@ -69,16 +68,16 @@ module _ (ws ar : List ℕ) (t : ℕ) (none : hasItems ws t ≡ false) where
   no-members : length (stateOf ws ar t .members) ≡ 0
   no-members = ap length (state-members ws ar t ∙ bare-all-of-table ws t none)
 
-  no-indices : byIndex plain (stateOf ws ar t) ≡ []
-  no-indices = no-elements _ (length-by-index plain (stateOf ws ar t) ∙ no-members)
+  no-indices : (rule : ℕ → ℕ) → byIndex rule (stateOf ws ar t) ≡ []
+  no-indices rule = no-elements _ (length-by-index rule (stateOf ws ar t) ∙ no-members)
 
-  no-starts : starts (hashesOf plain (stateOf ws ar t)) ≡ []
-  no-starts = no-elements _ (length-starts (hashesOf plain (stateOf ws ar t)) ∙ length-hashes plain (stateOf ws ar t) ∙ no-members)
+  no-starts : (rule : ℕ → ℕ) → starts (hashesOf rule (stateOf ws ar t)) ≡ []
+  no-starts rule = no-elements _ (length-starts (hashesOf rule (stateOf ws ar t)) ∙ length-hashes rule (stateOf ws ar t) ∙ no-members)
 
-  pub put-bare : (first : ℕ) (slots indices buckets : List ℕ) → Put ws ar t first 0 slots slots indices indices buckets buckets
-  put-bare first slots indices buckets = record {
+  pub put-bare : {rule : ℕ → ℕ} (first : ℕ) (slots indices buckets : List ℕ) → Put rule ws ar t first 0 slots slots indices indices buckets buckets
+  put-bare {rule} first slots indices buckets = record {
     count = sym no-members;
-    slots-are = sym (ap (putAt slots first) no-indices ∙ put-none slots first);
-    buckets-are = sym (ap (putAt buckets first) no-starts ∙ put-none buckets first);
-    indices-are = indices-start indices [] ∙ sym (ap (λ (m : List ℕ). indicesPut indices m (length m)) no-indices);
+    slots-are = sym (ap (putAt slots first) (no-indices rule) ∙ put-none slots first);
+    buckets-are = sym (ap (putAt buckets first) (no-starts rule) ∙ put-none buckets first);
+    indices-are = indices-start indices [] ∙ sym (ap (λ (m : List ℕ). indicesPut indices m (length m)) (no-indices rule));
   }

@@ -5,7 +5,6 @@ use mathlib.Core.Path.{_≡_, ap, _∙_}
 use mathlib.Core.Bool.{true}
 use mathlib.Core.List.{List}
 use lib.ListN.{length, getD}
-use Rattle.words.specs.Hash.{plain}
 use Rattle.words.specs.Store.{putAt}
 use Rattle.words.proofs.StoreLaws.{length-put, get-put, get-before}
 use Rattle.layout.specs.Limits.{mostItems, mostTables}
@@ -67,7 +66,7 @@ module _ (heads slots indices buckets r r1 r2 r3 r4 : List ℕ) (long : length r
   read-bucket s h =
       ap (λ (l : List ℕ). getD l (bucketsFrom + s) 0) e4 ∙ get-put r3 bucketsFrom buckets s (omega (arith, size .of-buckets, long-3)) (omega (arith, size .of-buckets))
 
-  module _ (ws ar : List ℕ) (ok : fullyValid ws ar ≡ true) (f : Filled ws ar mostTables heads slots indices buckets) where
+  module _ {rule : ℕ → ℕ} (ws ar : List ℕ) (ok : fullyValid ws ar ≡ true) (f : Filled rule ws ar mostTables heads slots indices buckets) where
     first-is : (t : ℕ) → t < mostTables → firstSlot r4 t ≡ firstSlotOf ws t
     unfolding firstSlot
     first-is t h = read-head (2 * t) (omega arith) ∙ f .starts-are t h
@@ -79,25 +78,25 @@ module _ (heads slots indices buckets r r1 r2 r3 r4 : List ℕ) (long : length r
     slots-in : (t : ℕ) → firstSlotOf ws t + length (stateOf ws ar t .members) ≤ mostItems
     slots-in t = omega (arith, slot-few ws t, ap length (state-members ws ar t), whole-fit ws ar ok .few)
 
-    item-is : (t k : ℕ) → t < mostTables → k < slotCount r4 t → slotItem r4 (firstSlot r4 t + k) ≡ itemOf plain (stateOf ws ar t) k
+    item-is : (t k : ℕ) → t < mostTables → k < slotCount r4 t → slotItem r4 (firstSlot r4 t + k) ≡ itemOf rule (stateOf ws ar t) k
     unfolding slotItem
     item-is t k h l =
         let few : k < length (stateOf ws ar t .members) = omega (arith, count-is t h) in
         ap (λ (s : ℕ). getD r4 (slotsFrom + (s + k)) 0) (first-is t h) ∙ read-slot (firstSlotOf ws t + k) (omega (arith, slots-in t)) ∙ f .items-are t k h few
 
-    bucket-is : (t b : ℕ) → t < mostTables → b < slotCount r4 t → bucketWord r4 (firstSlot r4 t + b) ≡ bucketStart (hashesOf plain (stateOf ws ar t)) b
+    bucket-is : (t b : ℕ) → t < mostTables → b < slotCount r4 t → bucketWord r4 (firstSlot r4 t + b) ≡ bucketStart (hashesOf rule (stateOf ws ar t)) b
     unfolding bucketWord
     bucket-is t b h l =
         let few : b < length (stateOf ws ar t .members) = omega (arith, count-is t h) in
         ap (λ (s : ℕ). getD r4 (bucketsFrom + (s + b)) 0) (first-is t h) ∙ read-bucket (firstSlotOf ws t + b) (omega (arith, slots-in t)) ∙ f .buckets-are t b h few
 
-    index-is : (i : ℕ) → i < itemTotal ws → itemIndex r4 i ≡ laidIndex plain (stateOf ws ar (itemTable ws i)) i
+    index-is : (i : ℕ) → i < itemTotal ws → itemIndex r4 i ≡ laidIndex rule (stateOf ws ar (itemTable ws i)) i
     unfolding itemIndex
     index-is i l =
         let facts = whole-facts ws ar ok in
         read-index i (omega (arith, facts .facts .items)) ∙ f .indices-are i l (omega (arith, facts .table i l, facts .facts .tables))
 
-    pub rostered : Rostered ws ar r4
+    pub rostered : Rostered rule ws ar r4
     rostered = record {
       long = long-4;
       counts = count-is;

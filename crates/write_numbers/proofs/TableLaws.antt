@@ -5,16 +5,17 @@ use mathlib.Core.Path.{_≡_, sym, ap, _∙_}
 use mathlib.Core.List.{List}
 use lib.ListN.{length, take, drop, length-drop, length-map}
 use lib.Seq.{length-take-le, getD-take, getD-drop}
-use Rattle.words.specs.Hash.{plain}
+use Rattle.words.specs.declared.hash.Form.{Form}
+use Rattle.words.specs.Hash.{ruleOf}
 use Rattle.words.specs.Store.{putAt}
 use Rattle.words.proofs.StoreLaws.{part-put, length-put}
 use Rattle.image.specs.Index.{keyOrder, hashesOf, byBucket, byIndex}
 use Rattle.image.proofs.OrderLaws.{length-order, times-order}
 use Rattle.image.proofs.IndexLaws.{length-hashes, ranks-each, length-by-index}
-use Rattle.build_memory.specs.Memory.{itemHash, linksFrom}
+use Rattle.build_memory.specs.Memory.{linksFrom}
 use Rattle.write_order.specs.Key.{keyed, Known}
 use Rattle.write_order.specs.Chain.{Empty, starts}
-use Rattle.write_order.specs.Items.{AllBelow, hashesIn, itemsAt}
+use Rattle.write_order.specs.Items.{AllBelow, hashFor, hashesIn, itemsAt}
 use Rattle.write_order.proofs.KeyLaws.{order-keyed}
 use Rattle.write_order.proofs.ChainLaws.{length-starts}
 use Rattle.write_order.proofs.ItemLaws.{hashes-order, items-index, indexed-below}
@@ -27,12 +28,12 @@ use Rattle.write_numbers.proofs.StateLaws.{state-members, state-same, s
 pub take-front : (l xs : List ℕ) (n : ℕ) → length xs ≡ n → n ≤ length l → take n (putAt l 0 xs) ≡ xs
 take-front l xs n e h = ap (λ (k : ℕ). take k (putAt l 0 xs)) (sym e) ∙ part-put l 0 xs (omega arith)
 
-pub length-hashes-in : (ws run : List ℕ) → length (hashesIn ws run) ≡ length run
+pub length-hashes-in : (form : Form) (ws ar run : List ℕ) → length (hashesIn form ws ar run) ≡ length run
 unfolding hashesIn
-length-hashes-in ws run = length-map run (itemHash ws)
+length-hashes-in form ws ar run = length-map run (hashFor form ws ar)
 
-pub hashes-front : (ws run h h′ : List ℕ) → length run ≤ length h → h′ ≡ putAt h 0 (hashesIn ws run) → take (length run) h′ ≡ hashesIn ws run
-hashes-front ws run h h′ room e = ap (take (length run)) e ∙ take-front h (hashesIn ws run) (length run) (length-hashes-in ws run) room
+pub hashes-front : (form : Form) (ws ar run h h′ : List ℕ) → length run ≤ length h → h′ ≡ putAt h 0 (hashesIn form ws ar run) → take (length run) h′ ≡ hashesIn form ws ar run
+hashes-front form ws ar run h h′ room e = ap (take (length run)) e ∙ take-front h (hashesIn form ws ar run) (length run) (length-hashes-in form ws ar run) room
 
 -- ---- the links
 
@@ -81,33 +82,33 @@ module _ (ws ar : List ℕ) (t n : ℕ) (run : List ℕ) (judged : Judged ws ar)
   pub ordered-known : Known ws (take n run)
   ordered-known = rw (o .order) order-known
 
-  ordered-hashes : hashesIn ws (take n run) ≡ hashesOf plain (stateOf ws ar t)
-  ordered-hashes = ap (hashesIn ws) (o .order) ∙ hashes-order ws (stateOf ws ar t) (λ i h. state-hash ws ar t i judged h)
+  ordered-hashes : (form : Form) → hashesIn form ws ar (take n run) ≡ hashesOf (ruleOf form) (stateOf ws ar t)
+  ordered-hashes form = ap (hashesIn form ws ar) (o .order) ∙ hashes-order form ws ar (stateOf ws ar t) (λ i h. state-hash ws ar t i judged h) (λ i h. state-same ws ar t i h)
 
-  module _ (order order′ : List ℕ) (room : mostItems ≤ length order) (e : order′ ≡ putAt order 0 (byBucket (hashesIn ws (take n run)))) where
-    pub places-are : take n order′ ≡ byBucket (hashesOf plain (stateOf ws ar t))
+  module _ (form : Form) (order order′ : List ℕ) (room : mostItems ≤ length order) (e : order′ ≡ putAt order 0 (byBucket (hashesIn form ws ar (take n run)))) where
+    pub places-are : take n order′ ≡ byBucket (hashesOf (ruleOf form) (stateOf ws ar t))
     places-are =
-        ap (take n) (e ∙ ap (λ (l : List ℕ). putAt order 0 (byBucket l)) ordered-hashes)
-        ∙ take-front order (byBucket (hashesOf plain (stateOf ws ar t))) n (ranks-each plain (stateOf ws ar t) .size ∙ sym (o .count)) (omega (arith, ordered-few))
+        ap (take n) (e ∙ ap (λ (l : List ℕ). putAt order 0 (byBucket l)) (ordered-hashes form))
+        ∙ take-front order (byBucket (hashesOf (ruleOf form) (stateOf ws ar t))) n (ranks-each (ruleOf form) (stateOf ws ar t) .size ∙ sym (o .count)) (omega (arith, ordered-few))
 
     pub places-long : length (take n order′) ≡ n
-    places-long = ap length places-are ∙ ranks-each plain (stateOf ws ar t) .size ∙ sym (o .count)
+    places-long = ap length places-are ∙ ranks-each (ruleOf form) (stateOf ws ar t) .size ∙ sym (o .count)
 
     pub places-below : AllBelow (length (take n run)) (take n order′)
-    places-below = rw (places-are, o .order) (indexed-below plain (stateOf ws ar t))
+    places-below = rw (places-are, o .order) (indexed-below (ruleOf form) (stateOf ws ar t))
 
-    items-place : itemsAt (take n run) (take n order′) ≡ byIndex plain (stateOf ws ar t)
+    items-place : itemsAt (take n run) (take n order′) ≡ byIndex (ruleOf form) (stateOf ws ar t)
     items-place =
-        ap (λ (l : List ℕ). itemsAt l (take n order′)) (o .order) ∙ ap (itemsAt (keyOrder (stateOf ws ar t))) places-are ∙ items-index plain (stateOf ws ar t)
+        ap (λ (l : List ℕ). itemsAt l (take n order′)) (o .order) ∙ ap (itemsAt (keyOrder (stateOf ws ar t))) places-are ∙ items-index (ruleOf form) (stateOf ws ar t)
 
     pub laid : (items items′ firsts firsts′ : List ℕ) → mostItems ≤ length items → mostItems ≤ length firsts
-        → items′ ≡ putAt items 0 (itemsAt (take n run) (take n order′)) → firsts′ ≡ putAt firsts 0 (starts (hashesIn ws (take n run)))
-        → IndexedAs ws ar t n items′ firsts′
+        → items′ ≡ putAt items 0 (itemsAt (take n run) (take n order′)) → firsts′ ≡ putAt firsts 0 (starts (hashesIn form ws ar (take n run)))
+        → IndexedAs (ruleOf form) ws ar t n items′ firsts′
     laid items items′ firsts firsts′ in-items in-firsts ei ef = record {
       count = o .count;
       items-are = ap (take n) (ei ∙ ap (putAt items 0) items-place)
-          ∙ take-front items (byIndex plain (stateOf ws ar t)) n (length-by-index plain (stateOf ws ar t) ∙ sym (o .count)) (omega (arith, ordered-few));
-      firsts-are = ap (take n) (ef ∙ ap (λ (l : List ℕ). putAt firsts 0 (starts l)) ordered-hashes)
-          ∙ take-front firsts (starts (hashesOf plain (stateOf ws ar t))) n
-          (length-starts (hashesOf plain (stateOf ws ar t)) ∙ length-hashes plain (stateOf ws ar t) ∙ sym (o .count)) (omega (arith, ordered-few));
+          ∙ take-front items (byIndex (ruleOf form) (stateOf ws ar t)) n (length-by-index (ruleOf form) (stateOf ws ar t) ∙ sym (o .count)) (omega (arith, ordered-few));
+      firsts-are = ap (take n) (ef ∙ ap (λ (l : List ℕ). putAt firsts 0 (starts l)) (ordered-hashes form))
+          ∙ take-front firsts (starts (hashesOf (ruleOf form) (stateOf ws ar t))) n
+          (length-starts (hashesOf (ruleOf form) (stateOf ws ar t)) ∙ length-hashes (ruleOf form) (stateOf ws ar t) ∙ sym (o .count)) (omega (arith, ordered-few));
     }

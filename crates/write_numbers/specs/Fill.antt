@@ -7,7 +7,7 @@ use lib.Dec.{eqb}
 use lib.ListN.{length, getD, take}
 use Rattle.words.specs.Choice.{pick}
 use Rattle.words.specs.Below.{someBelow}
-use Rattle.words.specs.Hash.{hashOf, plain}
+use Rattle.words.specs.Hash.{hashOf}
 use Rattle.words.specs.Store.{putAt}
 use Rattle.layout.specs.Limits.{mostItems}
 use Rattle.layout.specs.Item.{noItem}
@@ -66,17 +66,17 @@ pub record Ordered (ws ar : List ℕ) (t n : ℕ) (run : List ℕ) : Type 0 wher
   pub order : take n run ≡ keyOrder (stateOf ws ar t)
 
 -- they have their indices: the item at each index, the word of each bucket
-pub record IndexedAs (ws ar : List ℕ) (t n : ℕ) (items firsts : List ℕ) : Type 0 where
+pub record IndexedAs (rule : ℕ → ℕ) (ws ar : List ℕ) (t n : ℕ) (items firsts : List ℕ) : Type 0 where
   pub count : n ≡ length (stateOf ws ar t .members)
-  pub items-are : take n items ≡ byIndex plain (stateOf ws ar t)
-  pub firsts-are : take n firsts ≡ starts (hashesOf plain (stateOf ws ar t))
+  pub items-are : take n items ≡ byIndex rule (stateOf ws ar t)
+  pub firsts-are : take n firsts ≡ starts (hashesOf rule (stateOf ws ar t))
 
 -- they are put into the slots from `first` on, their indices and the words of their buckets too
-pub record Put (ws ar : List ℕ) (t first n : ℕ) (slots slots′ indices indices′ buckets buckets′ : List ℕ) : Type 0 where
+pub record Put (rule : ℕ → ℕ) (ws ar : List ℕ) (t first n : ℕ) (slots slots′ indices indices′ buckets buckets′ : List ℕ) : Type 0 where
   pub count : n ≡ length (stateOf ws ar t .members)
-  pub slots-are : slots′ ≡ putAt slots first (byIndex plain (stateOf ws ar t))
-  pub buckets-are : buckets′ ≡ putAt buckets first (starts (hashesOf plain (stateOf ws ar t)))
-  pub indices-are : indices′ ≡ indicesPut indices (byIndex plain (stateOf ws ar t)) (length (byIndex plain (stateOf ws ar t)))
+  pub slots-are : slots′ ≡ putAt slots first (byIndex rule (stateOf ws ar t))
+  pub buckets-are : buckets′ ≡ putAt buckets first (starts (hashesOf rule (stateOf ws ar t)))
+  pub indices-are : indices′ ≡ indicesPut indices (byIndex rule (stateOf ws ar t)) (length (byIndex rule (stateOf ws ar t)))
 
 -- there is room for the slots of table t
 abbrev pub Fits : List ℕ → ℕ → ℕ → Type 0
@@ -89,9 +89,9 @@ pub record Sized (slots indices buckets : List ℕ) : Type 0 where
   pub of-buckets : length buckets ≡ mostItems
 
 -- the tables before `most` are filled
-pub record Filled (ws ar : List ℕ) (most : ℕ) (heads slots indices buckets : List ℕ) : Type 0 where
+pub record Filled (rule : ℕ → ℕ) (ws ar : List ℕ) (most : ℕ) (heads slots indices buckets : List ℕ) : Type 0 where
   pub starts-are : (t : ℕ) → t < most → getD heads (headWords * t) 0 ≡ firstSlotOf ws t
   pub counts-are : (t : ℕ) → t < most → getD heads (headWords * t + 1) 0 ≡ length (stateOf ws ar t .members)
-  pub items-are : (t k : ℕ) → t < most → k < length (stateOf ws ar t .members) → getD slots (firstSlotOf ws t + k) 0 ≡ itemOf plain (stateOf ws ar t) k
-  pub buckets-are : (t b : ℕ) → t < most → b < length (stateOf ws ar t .members) → getD buckets (firstSlotOf ws t + b) 0 ≡ bucketStart (hashesOf plain (stateOf ws ar t)) b
-  pub indices-are : (i : ℕ) → i < itemTotal ws → itemTable ws i < most → getD indices i 0 ≡ laidIndex plain (stateOf ws ar (itemTable ws i)) i
+  pub items-are : (t k : ℕ) → t < most → k < length (stateOf ws ar t .members) → getD slots (firstSlotOf ws t + k) 0 ≡ itemOf rule (stateOf ws ar t) k
+  pub buckets-are : (t b : ℕ) → t < most → b < length (stateOf ws ar t .members) → getD buckets (firstSlotOf ws t + b) 0 ≡ bucketStart (hashesOf rule (stateOf ws ar t)) b
+  pub indices-are : (i : ℕ) → i < itemTotal ws → itemTable ws i < most → getD indices i 0 ≡ laidIndex rule (stateOf ws ar (itemTable ws i)) i

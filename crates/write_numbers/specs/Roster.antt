@@ -7,7 +7,6 @@ use Prim.Native.Nat.{ℕ, _+_, _≤_, _<_}
 use mathlib.Core.Path.{_≡_}
 use mathlib.Core.List.{List}
 use lib.ListN.{length, getD}
-use Rattle.words.specs.Hash.{plain}
 use Rattle.model.specs.Table.{State, rowsOf}
 use Rattle.layout.specs.Limits.{mostItems, mostTables}
 use Rattle.build_memory.specs.Memory.{itemTotal, itemTable}
@@ -38,11 +37,11 @@ module _ (roster : List ℕ) where
   unfoldable pub bucketWord : ℕ → ℕ
   bucketWord s = getD roster (bucketsFrom + s) 0
 
--- the roster says what the definitions of `image` say of every table
-pub record Rostered (ws ar roster : List ℕ) : Type 0 where
+-- the roster says, for a rule for a byte of the hash, what the definitions of `image` say of every table
+pub record Rostered (rule : ℕ → ℕ) (ws ar roster : List ℕ) : Type 0 where
   pub long : length roster ≡ rosterSize
   pub counts : (t : ℕ) → t < mostTables → slotCount roster t ≡ length (stateOf ws ar t .members)
   pub inside : (t : ℕ) → t < mostTables → firstSlot roster t + slotCount roster t ≤ mostItems
-  pub items : (t k : ℕ) → t < mostTables → k < slotCount roster t → slotItem roster (firstSlot roster t + k) ≡ itemOf plain (stateOf ws ar t) k
-  pub indices : (i : ℕ) → i < itemTotal ws → itemIndex roster i ≡ laidIndex plain (stateOf ws ar (itemTable ws i)) i
-  pub buckets : (t b : ℕ) → t < mostTables → b < slotCount roster t → bucketWord roster (firstSlot roster t + b) ≡ bucketStart (hashesOf plain (stateOf ws ar t)) b
+  pub items : (t k : ℕ) → t < mostTables → k < slotCount roster t → slotItem roster (firstSlot roster t + k) ≡ itemOf rule (stateOf ws ar t) k
+  pub indices : (i : ℕ) → i < itemTotal ws → itemIndex roster i ≡ laidIndex rule (stateOf ws ar (itemTable ws i)) i
+  pub buckets : (t b : ℕ) → t < mostTables → b < slotCount roster t → bucketWord roster (firstSlot roster t + b) ≡ bucketStart (hashesOf rule (stateOf ws ar t)) b

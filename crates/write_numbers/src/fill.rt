@@ -5,6 +5,7 @@ use crate::roster::INDICES_FROM;
 use crate::table::index_table;
 use layout::limits::MOST_ITEMS;
 use layout::limits::MOST_TABLES;
+use words::hash::Form;
 use words::store::put_words;
 use write_bytes::numbered::HEAD_WORDS;
 use write_bytes::numbered::SLOTS_FROM;
@@ -13,6 +14,7 @@ ghost use mathlib.Core.Path.{_≡_};
 ghost use Prim.Native.Nat.{_+_, _≤_};
 ghost use mathlib.Core.Bool.{true};
 ghost use lib.ListN.{length, take};
+ghost use Rattle.words.specs.Hash.{ruleOf};
 ghost use Rattle.words.specs.Store.{putAt};
 ghost use Rattle.layout.specs.Limits.{mostTables};
 ghost use Rattle.build_rules.specs.Valid.{fullyValid};
@@ -37,15 +39,16 @@ fn put_items(
     slots: &mut [usize],
     indices: &mut [usize],
     buckets: &mut [usize],
+    form: Form,
 ) -> usize
     requires { ⌜ Judged (now words) (now arena) × Fits (now words) t first ⌝ }
     requires { ⌜ Sized (now slots) (now indices) (now buckets) ⌝ }
     ensures { λ _. ⌜ now (words .exit) ≡ now (words .entry) ⌝ }
-    ensures { λ r. ⌜ Put (now (words .entry)) (now (arena .entry)) t first r (now (slots .entry)) (now (slots .exit)) (now (indices .entry)) (now (indices .exit)) (now (buckets .entry)) (now (buckets .exit)) ⌝ }
+    ensures { λ r. ⌜ Put (ruleOf form) (now (words .entry)) (now (arena .entry)) t first r (now (slots .entry)) (now (slots .exit)) (now (indices .entry)) (now (indices .exit)) (now (buckets .entry)) (now (buckets .exit)) ⌝ }
 {
     let mut items = [0usize; MOST_ITEMS];
     let mut firsts = [0usize; MOST_ITEMS];
-    let n = index_table(words, arena, t, &mut items, &mut firsts);
+    let n = index_table(words, arena, t, &mut items, &mut firsts, form);
     copy_first(&items, n, slots, first);
     copy_first(&firsts, n, buckets, first);
     index_items(&items[..n], indices);
@@ -61,16 +64,17 @@ fn put_table(
     slots: &mut [usize],
     indices: &mut [usize],
     buckets: &mut [usize],
+    form: Form,
 ) -> usize
     requires { ⌜ Judged (now words) (now arena) × Fits (now words) t first ⌝ }
     requires { ⌜ Sized (now slots) (now indices) (now buckets) ⌝ }
     ensures { λ _. ⌜ now (words .exit) ≡ now (words .entry) ⌝ }
-    ensures { λ r. ⌜ Put (now (words .entry)) (now (arena .entry)) t first r (now (slots .entry)) (now (slots .exit)) (now (indices .entry)) (now (indices .exit)) (now (buckets .entry)) (now (buckets .exit)) ⌝ }
+    ensures { λ r. ⌜ Put (ruleOf form) (now (words .entry)) (now (arena .entry)) t first r (now (slots .entry)) (now (slots .exit)) (now (indices .entry)) (now (indices .exit)) (now (buckets .entry)) (now (buckets .exit)) ⌝ }
 {
     if !has_items(words, t) {
         return 0;
     }
-    put_items(words, arena, t, first, slots, indices, buckets)
+    put_items(words, arena, t, first, slots, indices, buckets, form)
 }
 
 // Fills the slots of all tables, one behind the other; `heads` gets the first slot and the count of each.
@@ -81,16 +85,17 @@ fn fill(
     slots: &mut [usize],
     indices: &mut [usize],
     buckets: &mut [usize],
+    form: Form,
 )
     requires { ⌜ Judged (now words) (now arena) × (length (now heads) ≡ slotsFrom) ⌝ }
     requires { ⌜ Sized (now slots) (now indices) (now buckets) ⌝ }
     ensures { λ _. ⌜ now (words .exit) ≡ now (words .entry) ⌝ }
-    ensures { λ _. ⌜ Filled (now (words .entry)) (now (arena .entry)) mostTables (now (heads .exit)) (now (slots .exit)) (now (indices .exit)) (now (buckets .exit)) ⌝ }
+    ensures { λ _. ⌜ Filled (ruleOf form) (now (words .entry)) (now (arena .entry)) mostTables (now (heads .exit)) (now (slots .exit)) (now (indices .exit)) (now (buckets .exit)) ⌝ }
 {
     let mut t = 0;
     let mut first = 0;
     while t < MOST_TABLES {
-        let n = put_table(words, arena, t, first, slots, indices, buckets);
+        let n = put_table(words, arena, t, first, slots, indices, buckets, form);
         heads[HEAD_WORDS * t] = first;
         heads[HEAD_WORDS * t + 1] = n;
         first += n;
@@ -99,11 +104,11 @@ fn fill(
 }
 
 // The roster of all tables. The words are used for links, and are as they were.
-pub fn roster_all(words: &mut [usize], arena: &[u8], roster: &mut [usize])
+pub fn roster_all(words: &mut [usize], arena: &[u8], roster: &mut [usize], form: Form)
     requires { ⌜ fullyValid (now words) (now arena) ≡ true ⌝ }
     requires { ⌜ length (now roster) ≡ rosterSize ⌝ }
     ensures { λ _. ⌜ now (words .exit) ≡ now (words .entry) ⌝ }
-    ensures { λ _. ⌜ Rostered (now (words .entry)) (now (arena .entry)) (now (roster .exit)) ⌝ }
+    ensures { λ _. ⌜ Rostered (ruleOf form) (now (words .entry)) (now (arena .entry)) (now (roster .exit)) ⌝ }
 {
     let mut heads = [0usize; SLOTS_FROM];
     let mut slots = [0usize; MOST_ITEMS];
@@ -116,6 +121,7 @@ pub fn roster_all(words: &mut [usize], arena: &[u8], roster: &mut [usize])
         &mut slots,
         &mut indices,
         &mut buckets,
+        form,
     );
     put_words(roster, 0, &heads);
     put_words(roster, SLOTS_FROM, &slots);

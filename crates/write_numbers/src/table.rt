@@ -3,12 +3,14 @@ use crate::collect::in_order;
 use build_memory::fields::LEAST_WORDS;
 use build_memory::fields::LINKS_FROM;
 use layout::limits::MOST_ITEMS;
+use words::hash::Form;
 use write_order::buckets::index_by_bucket;
 use write_order::items::hash_all;
 use write_order::items::items_at;
 ghost use mathlib.Core.Path.{_≡_};
 ghost use Prim.Native.Nat.{_≤_};
 ghost use lib.ListN.{length};
+ghost use Rattle.words.specs.Hash.{ruleOf};
 ghost use Rattle.words.specs.Store.{putAt};
 ghost use Rattle.layout.specs.Limits.{mostItems};
 ghost use Rattle.image.specs.Index.{byBucket};
@@ -29,16 +31,23 @@ fn index_links(words: &mut [usize], hashes: &[usize], order: &mut [usize], first
 }
 
 // Gives the items of `run` their indices: `order` gets the rank at each index, `firsts` the first index of each bucket.
-fn index_run(words: &mut [usize], run: &[usize], order: &mut [usize], firsts: &mut [usize])
+fn index_run(
+    words: &mut [usize],
+    run: &[usize],
+    order: &mut [usize],
+    firsts: &mut [usize],
+    arena: &[u8],
+    form: Form,
+)
     requires { ⌜ Fit (now words) × Known (now words) (now run) × (length (now run) ≤ mostItems) ⌝ }
     requires { ⌜ (mostItems ≤ length (now order)) × (mostItems ≤ length (now firsts)) ⌝ }
     ensures { λ _. ⌜ now (words .exit) ≡ now (words .entry) ⌝ }
-    ensures { λ _. ⌜ now (order .exit) ≡ putAt (now (order .entry)) 0 (byBucket (hashesIn (now (words .entry)) (now (run .entry)))) ⌝ }
-    ensures { λ _. ⌜ now (firsts .exit) ≡ putAt (now (firsts .entry)) 0 (starts (hashesIn (now (words .entry)) (now (run .entry)))) ⌝ }
+    ensures { λ _. ⌜ now (order .exit) ≡ putAt (now (order .entry)) 0 (byBucket (hashesIn form (now (words .entry)) (now (arena .entry)) (now (run .entry)))) ⌝ }
+    ensures { λ _. ⌜ now (firsts .exit) ≡ putAt (now (firsts .entry)) 0 (starts (hashesIn form (now (words .entry)) (now (arena .entry)) (now (run .entry)))) ⌝ }
 {
     let n = run.len();
     let mut hashes = [0usize; MOST_ITEMS];
-    hash_all(words, run, &mut hashes);
+    hash_all(words, run, &mut hashes, arena, form);
     index_links(words, &hashes[..n], order, firsts);
 }
 
@@ -50,15 +59,16 @@ pub fn index_table(
     t: usize,
     items: &mut [usize],
     firsts: &mut [usize],
+    form: Form,
 ) -> usize
     requires { ⌜ Judged (now words) (now arena) × (mostItems ≤ length (now items)) × (mostItems ≤ length (now firsts)) ⌝ }
     ensures { λ _. ⌜ now (words .exit) ≡ now (words .entry) ⌝ }
-    ensures { λ r. ⌜ IndexedAs (now (words .entry)) (now (arena .entry)) t r (now (items .exit)) (now (firsts .exit)) ⌝ }
+    ensures { λ r. ⌜ IndexedAs (ruleOf form) (now (words .entry)) (now (arena .entry)) t r (now (items .exit)) (now (firsts .exit)) ⌝ }
 {
     let mut run = [0usize; MOST_ITEMS];
     let mut order = [0usize; MOST_ITEMS];
     let n = in_order(words, arena, t, &mut run);
-    index_run(words, &run[..n], &mut order, firsts);
+    index_run(words, &run[..n], &mut order, firsts, arena, form);
     items_at(&run[..n], &order[..n], items);
     n
 }

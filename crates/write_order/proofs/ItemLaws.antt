@@ -10,15 +10,16 @@ use native.Mathlib.Omega.{arith}
 use lib.ListN.{length, take, getD, set, length-set, length-map}
 use lib.Seq.{length-take-le, take-all, getD-set-same, getD-set-other}
 use Rattle.words.specs.Store.{putAt}
-use Rattle.words.specs.Hash.{hashOf, hashBy, plain}
+use Rattle.words.specs.declared.hash.Form.{Form}
+use Rattle.words.specs.Hash.{hashOf, hashBy, plain, signed, ruleOf}
 use Rattle.words.proofs.StoreLaws.{put-none, put-snoc}
 use Rattle.model.specs.Table.{Rows, times, Has}
 use Rattle.image.specs.Index.{keyOrder, hashesOf, byBucket, byIndex, indexIn, laidIndex}
 use Rattle.image.proofs.TimesLaws.{times-here, times-cons, index-stands}
 use Rattle.image.proofs.OrderLaws.{length-order, times-order}
 use Rattle.image.proofs.IndexLaws.{ranks-each, numbering}
-use Rattle.build_memory.specs.Memory.{itemHash}
-use Rattle.write_order.specs.Items.{AllBelow, hashesIn, itemsAt, indicesPut}
+use Rattle.build_memory.specs.Memory.{itemHash, keyOf}
+use Rattle.write_order.specs.Items.{AllBelow, hashFor, hashesIn, itemsAt, indicesPut}
 
 -- ---- lists made one by one
 
@@ -50,11 +51,28 @@ module _ (f : ℕ → ℕ) (l out : List ℕ) where
 
 -- ---- hashes and items of the table's definition
 
-pub hashes-order : (words : List ℕ) (table : Rows) → ((i : ℕ) → Has (table .members) i → itemHash words i ≡ hashOf (table .key i))
-    → hashesIn words (keyOrder table) ≡ hashesOf plain table
+-- the hash that is taken, of an item whose hash word is right, is that of its key
+module _ (words arena : List ℕ) (i : ℕ) where
+  pub for-plain : {form : Form} → form ≡ Form.Plain → {hash : ℕ} → hash ≡ itemHash words i → hash ≡ hashFor form words arena i
+  unfolding hashFor
+  for-plain told is = is ∙ sym (ap (λ (f : Form). hashFor f words arena i) told)
+
+  pub for-signed : {form : Form} → form ≡ Form.Signed → {hash : ℕ} {key : List ℕ} → hash ≡ hashBy signed key → key ≡ keyOf words arena i → hash ≡ hashFor form words arena i
+  unfolding hashFor
+  for-signed told is key-is = is ∙ ap (hashBy signed) key-is ∙ sym (ap (λ (f : Form). hashFor f words arena i) told)
+
+  pub hash-for : (form : Form) {key : List ℕ} → itemHash words i ≡ hashOf key → key ≡ keyOf words arena i → hashFor form words arena i ≡ hashBy (ruleOf form) key
+  unfolding hashFor
+  hash-for Form.Plain stored key-is = stored
+  hash-for Form.Signed stored key-is = ap (hashBy signed) (sym key-is)
+
+pub hashes-order : (form : Form) (words arena : List ℕ) (table : Rows) → ((i : ℕ) → Has (table .members) i → itemHash words i ≡ hashOf (table .key i))
+    → ((i : ℕ) → Has (table .members) i → table .key i ≡ keyOf words arena i)
+    → hashesIn form words arena (keyOrder table) ≡ hashesOf (ruleOf form) table
 unfolding hashesIn hashesOf
-hashes-order words table same =
-    map-same (itemHash words) (λ (i : ℕ). hashBy plain (table .key i)) (keyOrder table) (λ x h. same x (rw (times-order table x) at h))
+hashes-order form words arena table stored same =
+    map-same (hashFor form words arena) (λ (i : ℕ). hashBy (ruleOf form) (table .key i)) (keyOrder table)
+    (λ x h. let there : Has (table .members) x = (rw (times-order table x) at h) in hash-for words arena x form (stored x there) (same x there))
 
 pub items-index : (rule : ℕ → ℕ) (table : Rows) → itemsAt (keyOrder table) (byBucket (hashesOf rule table)) ≡ byIndex rule table
 unfolding itemsAt byIndex

@@ -2,15 +2,22 @@
 use Prim.Native.Nat.{ℕ, zero, suc, _<_}
 use mathlib.Core.List.{List, map}
 use lib.ListN.{length, getD, set}
-use Rattle.build_memory.specs.Memory.{itemHash}
+use Rattle.words.specs.declared.hash.Form.{Form}
+use Rattle.words.specs.Hash.{hashBy, signed}
+use Rattle.build_memory.specs.Memory.{itemHash, keyOf}
 
 -- every element is below n
 unfoldable pub AllBelow : ℕ → List ℕ → Type 0
 AllBelow n l = (k : ℕ) → k < length l → getD l k 0 < n
 
+-- the hash of an item under a form: the base form's is the word in its record
+unfoldable pub hashFor : Form → List ℕ → List ℕ → ℕ → ℕ
+hashFor Form.Plain words arena i = itemHash words i
+hashFor Form.Signed words arena i = hashBy signed (keyOf words arena i)
+
 -- the hashes of some items
-unfoldable pub hashesIn : List ℕ → List ℕ → List ℕ
-hashesIn words run = map (itemHash words) run
+unfoldable pub hashesIn : Form → List ℕ → List ℕ → List ℕ → List ℕ
+hashesIn form words arena run = map (hashFor form words arena) run
 
 -- the items of some ranks
 unfoldable pub itemsAt : List ℕ → List ℕ → List ℕ

@@ -1,21 +1,38 @@
 // From ranks to items and indices: the hash of each rank, the item at each index, the index of each item.
 use build_memory::fields::HASH;
 use build_memory::fields::item_word;
+use build_memory::fields::key_of;
+use words::hash::Form;
+use words::hash::hash_key;
+use words::wide::word_size;
 ghost use mathlib.Core.Path.{_≡_};
-ghost use Prim.Native.Nat.{_≤_};
+ghost use Prim.Native.Nat.{_≤_, _<_};
 ghost use lib.ListN.{length};
 ghost use Rattle.words.specs.Store.{putAt};
+ghost use Rattle.layout.specs.Limits.{mostItems};
+ghost use Rattle.build_memory.specs.Memory.{leastWords};
 ghost use Rattle.write_order.specs.Key.{Known};
-ghost use Rattle.write_order.specs.Items.{AllBelow, hashesIn, itemsAt, indicesPut};
+ghost use Rattle.write_order.specs.Items.{AllBelow, hashFor, hashesIn, itemsAt, indicesPut};
 
-// The hashes of the items of `run`, in its order.
-pub fn hash_all(words: &[usize], run: &[usize], hashes: &mut [usize])
+// The hash of item i under a form: the base form's is in its record, the other is made from its key.
+pub fn hash_of(words: &[usize], arena: &[u8], i: usize, form: Form) -> usize
+    requires { ⌜ (leastWords ≤ length (now words)) × (i < mostItems) ⌝ }
+    ensures { λ r. ⌜ r ≡ hashFor form (now (words .entry)) (now (arena .entry)) i ⌝ }
+{
+    match form {
+        Form::Plain => item_word(words, i, HASH),
+        Form::Signed => word_size(hash_key(key_of(words, arena, i), Form::Signed)),
+    }
+}
+
+// The hashes of the items of `run` under a form, in its order.
+pub fn hash_all(words: &[usize], run: &[usize], hashes: &mut [usize], arena: &[u8], form: Form)
     requires { ⌜ Known (now words) (now run) × (length (now run) ≤ length (now hashes)) ⌝ }
-    ensures { λ _. ⌜ now (hashes .exit) ≡ putAt (now (hashes .entry)) 0 (hashesIn (now (words .entry)) (now (run .entry))) ⌝ }
+    ensures { λ _. ⌜ now (hashes .exit) ≡ putAt (now (hashes .entry)) 0 (hashesIn form (now (words .entry)) (now (arena .entry)) (now (run .entry))) ⌝ }
 {
     let mut k = 0;
     while k < run.len() {
-        hashes[k] = item_word(words, run[k], HASH);
+        hashes[k] = hash_of(words, arena, run[k], form);
         k += 1;
     }
 }

@@ -1,6 +1,6 @@
 //! The layout of a table, lookup, listing and the check's six rules.
 
-use super::hash;
+use super::{hash, Form};
 use crate::ffi::MAX_FILE;
 use crate::tally::{Broken, Child, Place, Why};
 
@@ -42,10 +42,11 @@ pub struct Table<'f> {
     pub blooms: usize,
     pub buckets: usize,
     pub count: usize,
+    form: Form,
 }
 
-/// 1, the pointer's errors, 4, 5, 6, 7.
-pub fn open(file: &[u8], start: u32, end: u32) -> Result<Table<'_>, u32> {
+/// 1, the pointer's errors, 4, 5, 6, 7. The form plays no part in that.
+pub fn open(file: &[u8], start: u32, end: u32, form: Form) -> Result<Table<'_>, u32> {
     if file.len() > MAX_FILE {
         return Err(1);
     }
@@ -67,7 +68,7 @@ pub fn open(file: &[u8], start: u32, end: u32) -> Result<Table<'_>, u32> {
     if !rest.is_multiple_of(24) {
         return Err(7);
     }
-    Ok(Table { file, start, blooms, buckets, count: rest / 24 })
+    Ok(Table { file, start, blooms, buckets, count: rest / 24, form })
 }
 
 impl<'f> Table<'f> {
@@ -136,7 +137,7 @@ impl<'f> Table<'f> {
 
     /// The first item of the run with equal hash whose chain names the key.
     pub fn find(&self, key: &[u8]) -> Option<usize> {
-        let hash = hash(key);
+        let hash = hash(key, self.form);
         self.run(hash).find(|index| self.hash(*index) == hash && self.key(*index).is_ok_and(|found| found == key))
     }
 
@@ -160,7 +161,7 @@ impl<'f> Table<'f> {
 
     pub fn get_table(&self, key: &[u8]) -> Place {
         let (start, end) = self.found(key, b'H')?;
-        open(self.file, start, end)?;
+        open(self.file, start, end, self.form)?;
         Ok((start, end))
     }
 
@@ -197,7 +198,7 @@ impl<'f> Table<'f> {
 
     /// Whether gvdb-rs, which follows parents without a count, would never come back from a lookup of this key: a loop of empty fragments.
     pub fn recurses(&self, key: &[u8]) -> bool {
-        let hash = hash(key);
+        let hash = hash(key, self.form);
         for index in self.run(hash) {
             if self.hash(index) == hash {
                 match self.follows(index, key) {
@@ -244,7 +245,7 @@ impl<'f> Table<'f> {
         let (start, end) = self.value(index);
         match self.kind(index) {
             b'v' => pointer(self.file, start as usize, end as usize, 8).is_ok(),
-            b'H' => open(self.file, start, end).is_ok(),
+            b'H' => open(self.file, start, end, self.form).is_ok(),
             _ => pointer(self.file, start as usize, end as usize, 4).is_ok() && (end - start) % 4 == 0,
         }
     }

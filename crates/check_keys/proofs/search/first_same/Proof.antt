@@ -1,9 +1,8 @@
 -- `check_keys::search::first_same` meets its contract: what the search has still to say from here is what it had to say from the start.
 use mathlib.Core.Path.{_≡_}
 use Prim.Native.Nat.{_-_}
-use Rattle.words.specs.Hash.{plain}
 use Rattle.read.specs.Chain.{keyOf}
-use Rattle.read.specs.Find.{firstFrom, firstOf, itemMatches}
+use Rattle.read.specs.Find.{mannerOf, firstFrom, firstOf, itemMatches}
 use Rattle.read.proofs.FindLaws.{first-past, first-hit, first-on, first-over}
 use Rattle.check_keys.specs.Key.{bytesOf}
 use borrow.Author.Needs.{needs}
@@ -11,10 +10,10 @@ use Rattle.check_keys.proofs.search.first_same.Statement.{statement}
 use Rattle.check_keys.proofs.search.first_same.Tie as tie
 
 abbrev Inv-loop : tie.InvT-loop
-Inv-loop file table index size hash last count at₀ at = firstFrom (itemMatches plain file table (bytesOf (keyOf file table (table .count) index))) count (last - at) at ≡ firstFrom (itemMatches plain file table (bytesOf (keyOf file table (table .count) index))) count (last - at₀) at₀
+Inv-loop file table index size hash manner last count at₀ at = firstFrom (itemMatches (mannerOf manner) file table (bytesOf (keyOf file table (table .count) index))) count (last - at) at ≡ firstFrom (itemMatches (mannerOf manner) file table (bytesOf (keyOf file table (table .count) index))) count (last - at₀) at₀
 
 abbrev μ-loop : tie.MeasureT-loop
-μ-loop file table index size hash last count at₀ at = last - at
+μ-loop file table index size hash manner last count at₀ at = last - at
 
 loop-holds : tie.Need-loop-holds Inv-loop μ-loop
 loop-holds c = search needs

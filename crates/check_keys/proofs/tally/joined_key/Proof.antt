@@ -3,7 +3,7 @@ use mathlib.Core.Path.{_≡_, refl, sym, ap, _∙_, subst}
 use native.Mathlib.Omega.{arith}
 use Prim.Native.Nat.{ℕ}
 use mathlib.Core.List.{List}
-use Rattle.words.specs.Hash.{plain}
+use Rattle.words.specs.Hash.{ruleOf}
 use Rattle.read.proofs.ChainLaws.{StepFits, climb-fits, fragment-taken}
 use Rattle.check_keys.specs.Tally.{prepend}
 use Rattle.check_keys.proofs.KeyLaws.{Tallying, joined-start, joined-over, joined-refused, joined-root, joined-up}
@@ -12,13 +12,13 @@ use Rattle.check_keys.proofs.tally.joined_key.Statement.{statement}
 use Rattle.check_keys.proofs.tally.joined_key.Tie as tie
 
 abbrev Inv-loop : tie.InvT-loop
-Inv-loop file table index count at₀ total₀ tally₀ left₀ at total tally left = (count ≡ table .count) × Tallying plain file table index at total tally left
+Inv-loop file table index form count at₀ total₀ tally₀ left₀ at total tally left = (count ≡ table .count) × Tallying (ruleOf form) file table index at total tally left
 
 abbrev μ-loop : tie.MeasureT-loop
-μ-loop file table index count at₀ total₀ tally₀ left₀ at total tally left = left
+μ-loop file table index form count at₀ total₀ tally₀ left₀ at total tally left = left
 
 loop-holds : tie.Need-loop-holds Inv-loop μ-loop
-loop-holds c = (refl, joined-start plain _ _ _ (search needs))
+loop-holds c = (refl, joined-start _ _ _ _ (search needs))
 
 item-at-requires : tie.Need-item-at-requires Inv-loop μ-loop
 item-at-requires c κs = search needs
@@ -42,7 +42,7 @@ enum-told : tie.Need-enum-told Inv-loop μ-loop
 enum-told c = search needs
 
 returns : tie.Need-returns Inv-loop μ-loop
-returns c = joined-refused plain _ _ _ (c .before .before .before .before .before .before .before .loop .inv .1) (c .before .before .before .before .before .before .loop-test .taken) (c .before .before .before .before .before .item-at .ensures) (sym (c .before .before .climb .ensures) ∙ c .enum-told .given .1)
+returns c = joined-refused _ _ _ _ (c .before .before .before .before .before .before .before .loop .inv .1) (c .before .before .before .before .before .before .loop-test .taken) (c .before .before .before .before .before .item-at .ensures) (sym (c .before .before .climb .ensures) ∙ c .enum-told .given .1)
 
 enum-told-2 : tie.Need-enum-told-2 Inv-loop μ-loop
 enum-told-2 c = search needs
@@ -67,8 +67,8 @@ finished-requires c κs = search needs
 
 returns-2 : tie.Need-returns-2 Inv-loop μ-loop
 returns-2 c =
-    joined-root plain _ _ _ (c .before .before .before .before .before .before .before .before .before .before .loop .inv .1) (c .before .before .before .before .before .before .before .before .before .loop-test .taken) (c .before .before .before .before .before .before .before .before .item-at .ensures) (c .before .before .before .before .before .before .half-size .ensures .0)
-    (c .before .prepend-all .ensures ∙ ap (λ (l : List ℕ). prepend plain l (c .before .before .before .before .before .before .before .before .before .before .loop .tally)) (fragment-taken _ _ (c .before .before .before .before .before .before .before .word-size .ensures .0) (c .before .before .before .before .before .before .half-size .ensures .0)))
+    joined-root _ _ _ _ (c .before .before .before .before .before .before .before .before .before .before .loop .inv .1) (c .before .before .before .before .before .before .before .before .before .loop-test .taken) (c .before .before .before .before .before .before .before .before .item-at .ensures) (c .before .before .before .before .before .before .half-size .ensures .0)
+    (c .before .prepend-all .ensures ∙ ap (λ (l : List ℕ). prepend (ruleOf (c .before .before .before .before .before .before .before .before .before .before .before .before .args .form)) l (c .before .before .before .before .before .before .before .before .before .before .loop .tally)) (fragment-taken _ _ (c .before .before .before .before .before .before .before .word-size .ensures .0) (c .before .before .before .before .before .before .half-size .ensures .0)))
     (sym (c .before .before .before .before .before .climb .ensures) ∙ c .before .before .before .enum-told2 .given .1)
     (c .finished .ensures)
 
@@ -99,14 +99,14 @@ loop-less c = search needs
 loop-again : tie.Need-loop-again Inv-loop μ-loop
 loop-again c = (
   refl,
-  joined-up plain _ _ _ (c .before .before .before .before .before .before .before .before .before .before .loop .inv .1) (c .before .before .before .before .before .before .before .before .before .loop-test .taken) (c .before .before .before .before .before .before .before .before .item-at .ensures) (c .before .before .before .before .before .before .half-size .ensures .0)
-      (c .prepend-all2 .ensures ∙ ap (λ (l : List ℕ). prepend plain l (c .before .before .before .before .before .before .before .before .before .before .loop .tally)) (fragment-taken _ _ (c .before .before .before .before .before .before .before .word-size .ensures .0) (c .before .before .before .before .before .before .half-size .ensures .0)))
+  joined-up _ _ _ _ (c .before .before .before .before .before .before .before .before .before .before .loop .inv .1) (c .before .before .before .before .before .before .before .before .before .loop-test .taken) (c .before .before .before .before .before .before .before .before .item-at .ensures) (c .before .before .before .before .before .before .half-size .ensures .0)
+      (c .prepend-all2 .ensures ∙ ap (λ (l : List ℕ). prepend (ruleOf (c .before .before .before .before .before .before .before .before .before .before .before .before .args .form)) l (c .before .before .before .before .before .before .before .before .before .before .loop .tally)) (fragment-taken _ _ (c .before .before .before .before .before .before .before .word-size .ensures .0) (c .before .before .before .before .before .before .half-size .ensures .0)))
       (c .before .before .before .before .before .before .half-size .ensures .1)
       (sym (c .before .before .before .before .before .climb .ensures) ∙ c .before .before .before .parent .given .1),
 )
 
 returns-3 : tie.Need-returns-3 Inv-loop μ-loop
-returns-3 c = joined-over plain _ _ _ (c .before .loop .inv .1) (c .loop-test .left)
+returns-3 c = joined-over _ _ _ _ (c .before .loop .inv .1) (c .loop-test .left)
 
 pub joined-key-spec : {M : Type 1} → statement M
 joined-key-spec =

@@ -3,7 +3,7 @@ use mathlib.Core.Path.{_≡_, _∙_}
 use native.Mathlib.Omega.{arith}
 use Prim.Native.Nat.{_≤_}
 use lib.ListN.{length, drop}
-use Rattle.words.specs.Hash.{plain}
+use Rattle.words.specs.Hash.{ruleOf}
 use Rattle.check_keys.specs.Tally.{prepend}
 use Rattle.check_keys.proofs.TallyLaws.{prepend-turn, prepend-start}
 use borrow.Author.Needs.{needs}
@@ -11,13 +11,13 @@ use Rattle.check_keys.proofs.tally.prepend_all.Statement.{statement}
 use Rattle.check_keys.proofs.tally.prepend_all.Tie as tie
 
 abbrev Inv-loop : tie.InvT-loop
-Inv-loop bytes state₀ i₀ state i = (i ≤ length bytes) × (state ≡ prepend plain (drop i bytes) state₀)
+Inv-loop bytes form state₀ i₀ state i = (i ≤ length bytes) × (state ≡ prepend (ruleOf form) (drop i bytes) state₀)
 
 abbrev μ-loop : tie.MeasureT-loop
-μ-loop bytes state₀ i₀ state i = i
+μ-loop bytes form state₀ i₀ state i = i
 
 loop-holds : tie.Need-loop-holds Inv-loop μ-loop
-loop-holds c = (search needs, prepend-start plain (c .before .args .bytes .now) (c .before .args .tally))
+loop-holds c = (search needs, prepend-start _ (c .before .args .bytes .now) (c .before .args .tally))
 
 sub-i : tie.Need-sub-i Inv-loop μ-loop
 sub-i c = search needs
@@ -34,7 +34,7 @@ loop-less c = search needs
 loop-again : tie.Need-loop-again Inv-loop μ-loop
 loop-again c = (
   omega arith,
-  c .prepend-byte .ensures ∙ rw (c .before .before .before .loop .inv .1) (prepend-turn plain _ _ _ (c .before .before .loop-test .taken) (c .before .before .before .loop .inv .0)),
+  c .prepend-byte .ensures ∙ rw (c .before .before .before .loop .inv .1) (prepend-turn _ _ _ _ (c .before .before .loop-test .taken) (c .before .before .before .loop .inv .0)),
 )
 
 returns : tie.Need-returns Inv-loop μ-loop

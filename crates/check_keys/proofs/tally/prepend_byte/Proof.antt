@@ -1,12 +1,11 @@
 -- `check_keys::tally::prepend_byte` meets its contract: the remainder of the product has no bearing.
-use Rattle.words.specs.Hash.{plain}
 use Rattle.check_keys.proofs.TallyLaws.{before-is}
 use borrow.Author.Needs.{needs}
 use Rattle.check_keys.proofs.tally.prepend_byte.Statement.{statement}
 use Rattle.check_keys.proofs.tally.prepend_byte.Tie as tie
 
-byte-word-requires : tie.Need-byte-word-requires
-byte-word-requires c κs = search needs
+byte-counts-requires : tie.Need-byte-counts-requires
+byte-counts-requires c κs = search needs
 
 wrapping-mul-requires : tie.Need-wrapping-mul-requires
 wrapping-mul-requires c κs = search needs
@@ -18,13 +17,13 @@ wrapping-add-u32-requires : tie.Need-wrapping-add-u32-requires
 wrapping-add-u32-requires c κs = search needs
 
 returns : tie.Need-returns
-returns c = before-is plain (c .before .before .before .before .args .tally) (c .before .wrapping-mul2 .ensures) (c .before .before .before .byte-word .ensures .0) (c .before .before .wrapping-mul .ensures) (c .wrapping-add-u32 .ensures)
+returns c = before-is _ (c .before .before .before .before .args .tally) (c .before .wrapping-mul2 .ensures) (c .before .before .before .byte-counts .ensures .0) (c .before .before .wrapping-mul .ensures) (c .wrapping-add-u32 .ensures)
 
 pub prepend-byte-spec : {M : Type 1} → statement M
 prepend-byte-spec =
     tie.close
     (tie.spec
-    byte-word-requires
+    byte-counts-requires
     wrapping-mul-requires
     wrapping-mul-requires-2
     wrapping-add-u32-requires

@@ -1,7 +1,6 @@
 -- `check_table::check::check_table` meets its contract: each arm is a case of the definition.
 use mathlib.Core.Path.{sym, ap, _∙_}
 use Rattle.layout.proofs.OpenLaws.{opened-in-file}
-use Rattle.words.specs.Hash.{plain}
 use Rattle.check_table.specs.Rules.{checkTable, checkOpened}
 use borrow.Author.Needs.{needs}
 use Rattle.check_table.proofs.check.check_table.Statement.{statement}
@@ -21,11 +20,11 @@ check-open-requires c κs = opened-in-file _ _ _ (sym (c .before .before .before
 
 returns : tie.Need-returns
 unfolding checkTable checkOpened
-returns c = ap (checkOpened plain _) (sym (sym (c .before .before .before .open-table .ensures) ∙ c .before .why .given .1))
+returns c = ap (checkOpened _ _) (sym (sym (c .before .before .before .open-table .ensures) ∙ c .before .why .given .1))
 
 returns-2 : tie.Need-returns-2
 unfolding checkTable checkOpened
-returns-2 c = c .check-open .ensures ∙ ap (checkOpened plain _) (sym (sym (c .before .before .before .before .open-table .ensures) ∙ c .before .before .table .given .1))
+returns-2 c = c .check-open .ensures ∙ ap (checkOpened _ _) (sym (sym (c .before .before .before .before .open-table .ensures) ∙ c .before .before .table .given .1))
 
 pub check-table-spec : {M : Type 1} → statement M
 check-table-spec =

@@ -6,6 +6,9 @@ use borrow.Author.Needs.{needs}
 use Rattle.gvdb.proofs.checking.gvdb_check.Statement.{statement}
 use Rattle.gvdb.proofs.checking.gvdb_check.Tie as tie
 
+manner-of-requires : tie.Need-manner-of-requires
+manner-of-requires c κs = search needs
+
 number-of-requires : tie.Need-number-of-requires
 number-of-requires c κs = search needs
 
@@ -35,26 +38,27 @@ number-of-requires-3 c κs = search needs
 
 returns : tie.Need-returns
 unfolding checkedAnswer checkedNumber checkedRule checkedItem checkedWhy checkedAt
-returns c = ap checkedAnswer (sym (c .enum-told .given .1) ∙ c .before .before .check-table .ensures)
+returns c = rw (← (c .before .before .before .before .manner-of .ensures)) (ap checkedAnswer (sym (c .enum-told .given .1) ∙ c .before .before .check-table .ensures))
 
 returns-2 : tie.Need-returns-2
 unfolding checkedAnswer checkedNumber checkedRule checkedItem checkedWhy checkedAt
-returns-2 c = rw (c .before .before .before .before .number-of .ensures) (ap checkedAnswer (sym (c .before .rule .given .1) ∙ c .before .before .before .check-table .ensures))
+returns-2 c = rw (← (c .before .before .before .before .before .manner-of .ensures), c .before .before .before .before .number-of .ensures) (ap checkedAnswer (sym (c .before .rule .given .1) ∙ c .before .before .before .check-table .ensures))
 
 returns-3 : tie.Need-returns-3
 unfolding checkedAnswer checkedNumber checkedRule checkedItem checkedWhy checkedAt
 returns-3 c =
-    rw (c .before .before .before .before .before .before .number-of .ensures, c .before .number-of2 .ensures, c .bad-at .ensures)
+    rw (← (c .before .before .before .before .before .before .before .manner-of .ensures), c .before .before .before .before .before .before .number-of .ensures, c .before .number-of2 .ensures, c .bad-at .ensures)
     (ap checkedAnswer (sym (c .before .before .before .why .given .1) ∙ c .before .before .before .before .before .check-table .ensures))
 
 returns-4 : tie.Need-returns-4
 unfolding checkedAnswer checkedNumber checkedRule checkedItem checkedWhy checkedAt
-returns-4 c = rw (c .number-of3 .ensures) (ap checkedAnswer (sym (c .before .before .why2 .given .1) ∙ c .before .before .before .before .check-table .ensures))
+returns-4 c = rw (← (c .before .before .before .before .before .before .manner-of .ensures), c .number-of3 .ensures) (ap checkedAnswer (sym (c .before .before .why2 .given .1) ∙ c .before .before .before .before .check-table .ensures))
 
 pub gvdb-check-spec : {M : Type 1} → statement M
 gvdb-check-spec =
     tie.close
     (tie.spec
+    manner-of-requires
     number-of-requires
     check-table-requires
     enum-told

@@ -5,6 +5,9 @@ use borrow.Author.Needs.{needs}
 use Rattle.gvdb.proofs.reading.gvdb_get.Statement.{statement}
 use Rattle.gvdb.proofs.reading.gvdb_get.Tie as tie
 
+manner-of-requires : tie.Need-manner-of-requires
+manner-of-requires c κs = search needs
+
 lookup-value-requires : tie.Need-lookup-value-requires
 lookup-value-requires c κs = search needs
 
@@ -12,7 +15,7 @@ place-of-requires : tie.Need-place-of-requires
 place-of-requires c κs = search needs
 
 returns : tie.Need-returns
-returns c = c .place-of .ensures ∙ ap lookedAnswer (c .before .lookup-value .ensures)
+returns c = rw (← (c .before .before .manner-of .ensures)) (c .place-of .ensures ∙ ap lookedAnswer (c .before .lookup-value .ensures))
 
 pub gvdb-get-spec : {M : Type 1} → statement M
-gvdb-get-spec = tie.close (tie.spec lookup-value-requires place-of-requires returns)
+gvdb-get-spec = tie.close (tie.spec manner-of-requires lookup-value-requires place-of-requires returns)

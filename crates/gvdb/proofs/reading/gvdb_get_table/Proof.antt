@@ -5,6 +5,9 @@ use borrow.Author.Needs.{needs}
 use Rattle.gvdb.proofs.reading.gvdb_get_table.Statement.{statement}
 use Rattle.gvdb.proofs.reading.gvdb_get_table.Tie as tie
 
+manner-of-requires : tie.Need-manner-of-requires
+manner-of-requires c κs = search needs
+
 lookup-table-requires : tie.Need-lookup-table-requires
 lookup-table-requires c κs = search needs
 
@@ -12,7 +15,7 @@ place-of-requires : tie.Need-place-of-requires
 place-of-requires c κs = search needs
 
 returns : tie.Need-returns
-returns c = c .place-of .ensures ∙ ap lookedAnswer (c .before .lookup-table .ensures)
+returns c = rw (← (c .before .before .manner-of .ensures)) (c .place-of .ensures ∙ ap lookedAnswer (c .before .lookup-table .ensures))
 
 pub gvdb-get-table-spec : {M : Type 1} → statement M
-gvdb-get-table-spec = tie.close (tie.spec lookup-table-requires place-of-requires returns)
+gvdb-get-table-spec = tie.close (tie.spec manner-of-requires lookup-table-requires place-of-requires returns)

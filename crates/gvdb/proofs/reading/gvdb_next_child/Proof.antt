@@ -6,6 +6,9 @@ use borrow.Author.Needs.{needs}
 use Rattle.gvdb.proofs.reading.gvdb_next_child.Statement.{statement}
 use Rattle.gvdb.proofs.reading.gvdb_next_child.Tie as tie
 
+manner-of-requires : tie.Need-manner-of-requires
+manner-of-requires c κs = search needs
+
 next-child-requires : tie.Need-next-child-requires
 next-child-requires c κs = search needs
 
@@ -26,18 +29,21 @@ bad-at-requires c κs = search needs
 
 returns : tie.Need-returns
 unfolding childedAnswer childedNumber childedKind childedPointer childedChild childedAt
-returns c = rw (c .byte-word .ensures .0) (ap childedAnswer (sym (c .before .before .index .given .1) ∙ c .before .before .before .before .next-child .ensures))
+returns c =
+    rw (c .byte-word .ensures .0, ← (c .before .before .before .before .before .manner-of .ensures))
+    (ap childedAnswer (sym (c .before .before .index .given .1) ∙ c .before .before .before .before .next-child .ensures))
 
 returns-2 : tie.Need-returns-2
 unfolding childedAnswer childedNumber childedKind childedPointer childedChild childedAt
 returns-2 c =
-    rw (c .before .number-of .ensures, c .bad-at .ensures)
+    rw (c .before .number-of .ensures, c .bad-at .ensures, ← (c .before .before .before .before .before .before .manner-of .ensures))
     (ap childedAnswer (sym (c .before .before .before .why .given .1) ∙ c .before .before .before .before .before .next-child .ensures))
 
 pub gvdb-next-child-spec : {M : Type 1} → statement M
 gvdb-next-child-spec =
     tie.close
     (tie.spec
+    manner-of-requires
     next-child-requires
     enum-known-index
     byte-word-requires

@@ -4,19 +4,18 @@ use mathlib.Core.Path.{sym, _∙_}
 use native.Mathlib.Omega.{arith}
 use native.Mathlib.Nat.{mod-lt}
 use borrow.Author.Needs.{needs}
-use Rattle.words.specs.Hash.{plain}
 use Rattle.read.proofs.FindLaws.{find-no-buckets, find-no-items, find-filtered, find-in-run}
 use Rattle.read.proofs.lookup.find_item.Statement.{statement}
 use Rattle.read.proofs.lookup.find_item.Tie as tie
 
 returns : tie.Need-returns
-returns c = find-no-buckets plain _ _ _ (c .if1 .taken)
+returns c = find-no-buckets _ _ _ _ (c .if1 .taken)
 
 returns-2 : tie.Need-returns-2
-returns-2 c = find-no-items plain _ _ _ (c .before .before .if1 .left) (c .if2 .taken)
+returns-2 c = find-no-items _ _ _ _ (c .before .before .if1 .left) (c .if2 .taken)
 
-djb-hash-requires : tie.Need-djb-hash-requires
-djb-hash-requires c κs = search needs
+hash-key-requires : tie.Need-hash-key-requires
+hash-key-requires c κs = search needs
 
 bloom-passes-requires : tie.Need-bloom-passes-requires
 bloom-passes-requires c κs = search needs
@@ -34,17 +33,17 @@ run-of-requires c κs =
     (start .pre, mod-lt (c .word-size .result) some)
 
 first-of-requires : tie.Need-first-of-requires
-first-of-requires c κs = (c .before .before .before .before .before .before .before .before .before .before .pre, c .before .before .before .before .djb-hash .ensures)
+first-of-requires c κs = (c .before .before .before .before .before .before .before .before .before .before .pre, c .before .before .before .before .hash-key .ensures)
 
 returns-3 : tie.Need-returns-3
 returns-3 c =
     let at-hash = c .before .before .before .before .before in
-    find-in-run plain _ _ _ (at-hash .before .before .before .if1 .left) (at-hash .before .if2 .left) (at-hash .djb-hash .ensures) (sym (c .before .before .before .before .bloom-passes .ensures) ∙ c .before .before .before .if3 .taken) (c .before .before .word-size .ensures .0) (c .before .run-of .ensures) (c .first-of .ensures)
+    find-in-run _ _ _ _ (at-hash .before .before .before .if1 .left) (at-hash .before .if2 .left) (at-hash .hash-key .ensures) (sym (c .before .before .before .before .bloom-passes .ensures) ∙ c .before .before .before .if3 .taken) (c .before .before .word-size .ensures .0) (c .before .run-of .ensures) (c .first-of .ensures)
 
 returns-4 : tie.Need-returns-4
 returns-4 c =
     let at-hash = c .before .before in
-    find-filtered plain _ _ _ (at-hash .before .before .before .if1 .left) (at-hash .before .if2 .left) (at-hash .djb-hash .ensures) (sym (c .before .bloom-passes .ensures) ∙ c .if3 .left)
+    find-filtered _ _ _ _ (at-hash .before .before .before .if1 .left) (at-hash .before .if2 .left) (at-hash .hash-key .ensures) (sym (c .before .bloom-passes .ensures) ∙ c .if3 .left)
 
 pub find-item-spec : {M : Type 1} → statement M
 find-item-spec =
@@ -52,7 +51,7 @@ find-item-spec =
     (tie.spec
     returns
     returns-2
-    djb-hash-requires
+    hash-key-requires
     bloom-passes-requires
     word-size-requires
     rem-run-of

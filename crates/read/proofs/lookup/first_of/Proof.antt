@@ -2,17 +2,16 @@
 use Prim.Native.Nat.{_-_}
 use mathlib.Core.Path.{_≡_}
 use borrow.Author.Needs.{needs}
-use Rattle.words.specs.Hash.{plain}
-use Rattle.read.specs.Find.{firstFrom, firstOf, itemMatches}
+use Rattle.read.specs.Find.{mannerOf, firstFrom, firstOf, itemMatches}
 use Rattle.read.proofs.FindLaws.{first-past, first-hit, first-on, first-over}
 use Rattle.read.proofs.lookup.first_of.Statement.{statement}
 use Rattle.read.proofs.lookup.first_of.Tie as tie
 
 abbrev Inv-loop : tie.InvT-loop
-Inv-loop file table hash key last count at₀ at = firstFrom (itemMatches plain file table key) count (last - at) at ≡ firstFrom (itemMatches plain file table key) count (last - at₀) at₀
+Inv-loop file table hash key manner last count at₀ at = firstFrom (itemMatches (mannerOf manner) file table key) count (last - at) at ≡ firstFrom (itemMatches (mannerOf manner) file table key) count (last - at₀) at₀
 
 abbrev μ-loop : tie.MeasureT-loop
-μ-loop file table hash key last count at₀ at = last - at
+μ-loop file table hash key manner last count at₀ at = last - at
 
 loop-holds : tie.Need-loop-holds Inv-loop μ-loop
 loop-holds c = search needs

@@ -3,7 +3,6 @@ use mathlib.Core.Path.{sym, ap, _∙_, subst}
 use Prim.Native.Nat.{ℕ}
 use borrow.Author.Needs.{needs}
 use Rattle.words.specs.Choice.{pick}
-use Rattle.words.specs.Hash.{plain}
 use Rattle.layout.specs.declared.refusal.Refusal.the-variants.{KeyNotUtf8}
 use Rattle.read.specs.declared.lookup.Looked.{Looked}
 use Rattle.read.specs.Lookup.{lookupIn, atFound, atItem, nestedOf}
@@ -25,7 +24,7 @@ enum-known-index c = search needs
 
 item-at-requires : tie.Need-item-at-requires
 unfolding FoundBelow
-item-at-requires c κs = (c .before .before .before .before .before .before .before .before .pre, subst (FoundBelow _) (sym (c .before .before .before .find-item .ensures) ∙ c .before .index .given .1) (found-below plain _ _ _))
+item-at-requires c κs = (c .before .before .before .before .before .before .before .before .pre, subst (FoundBelow _) (sym (c .before .before .before .find-item .ensures) ∙ c .before .index .given .1) (found-below _ _ _ _))
 
 nested-of-requires : tie.Need-nested-of-requires
 nested-of-requires c κs = search needs

@@ -4,6 +4,7 @@ use mathlib.Core.Path.{_≡_, sym, _∙_}
 use mathlib.Core.Bool.{false}
 use native.Mathlib.Omega.{arith}
 use borrow.Author.Needs.{needs}
+use Rattle.words.specs.Hash.{ruleOf}
 use Rattle.write.proofs.StateLaws.{fully-valid}
 use Rattle.write.proofs.EmptyLaws.{foundBelow, empty-own, empty-plain, empty-held, slot-at, slot-in, slots-few, found-none, found-turn, empty-end, empty-hit, empty-nowhere}
 use Prim.Native.Nat.{ℕ, _+_, _-_, _≤_, _<_}
@@ -48,10 +49,10 @@ abbrev item-empty-claims : ℕ → item-empty-lts.Claims
 item-empty-claims t = (item-word-reads.Asked, item-word-reads.Learnt, has-empty-below t, has-empty.Post)
 
 abbrev has-empty-Inv-loop : has-empty-lts.InvT-loop
-has-empty-Inv-loop words arena roster table depth first count k₀ k = (k ≤ count) × (foundBelow words arena table (depth - 1) k ≡ false)
+has-empty-Inv-loop words arena roster table depth form first count k₀ k = (k ≤ count) × (foundBelow (ruleOf form) words arena table (depth - 1) k ≡ false)
 
 abbrev has-empty-μ-loop : has-empty-lts.MeasureT-loop
-has-empty-μ-loop words arena roster table depth first count k₀ k = count - k
+has-empty-μ-loop words arena roster table depth form first count k₀ k = count - k
 
 has-empty-returns : (t : ℕ) → has-empty-lts.Need-returns (has-empty-claims t) (has-empty-at t) has-empty.Post has-empty-Inv-loop has-empty-μ-loop
 has-empty-returns t c = let a = c .before .before .before .before .args in empty-nowhere (a .words .now) (a .arena .now) (a .depth) (a .table) (c .if1 .taken)

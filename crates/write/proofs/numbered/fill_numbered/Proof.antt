@@ -58,7 +58,7 @@ returns : tie.Need-returns
 returns c =
     let a = c .before .before .before .before .before .before .before .before .before .before .before .before .before .before .before .before .before .before .before .before .before .before .before .before .args in
     let p = c .before .before .before .before .before .before .before .before .before .before .before .before .before .before .before .before .before .before .before .before .before .before .before .before .pre in
-    numbered-as (a .words .now) (a .arena .now) (a .roster .now) _ _ _ _ _ (fully-valid _ _ (p .0)) (p .1 .0) (c .before .before .before .before .before .before .before .before .before .before .before .before .before .before .before .before .order-siblings .ensures) (c .before .before .before .before .before .before .before .before .before .before .before .before .start-numbered .ensures) (c .before .before .before .before .before .before .before .put-children .ensures) (c .before .before .put-slots .ensures)
+    numbered-as (a .form) (a .words .now) (a .arena .now) (a .roster .now) _ _ _ _ _ (fully-valid _ _ (p .0)) (p .1 .0) (c .before .before .before .before .before .before .before .before .before .before .before .before .before .before .before .before .order-siblings .ensures) (c .before .before .before .before .before .before .before .before .before .before .before .before .start-numbered .ensures) (c .before .before .before .before .before .before .before .put-children .ensures) (c .before .before .put-slots .ensures)
 
 pub fill-numbered-spec : {M : Type 1} → statement M
 fill-numbered-spec =

@@ -12,10 +12,10 @@ use Rattle.write.proofs.numbered.put_slots.Statement.{statement}
 use Rattle.write.proofs.numbered.put_slots.Tie as tie
 
 abbrev Inv-loop : tie.InvT-loop
-Inv-loop words arena roster firsts numbered₀ n i₀ numbered i = (i ≤ itemTotal words) × NumberedSlots words arena roster firsts numbered₀ numbered i
+Inv-loop words arena roster firsts numbered₀ form n i₀ numbered i = (i ≤ itemTotal words) × NumberedSlots form words arena roster firsts numbered₀ numbered i
 
 abbrev μ-loop : tie.MeasureT-loop
-μ-loop words arena roster firsts numbered₀ n i₀ numbered i = n - i
+μ-loop words arena roster firsts numbered₀ form n i₀ numbered i = n - i
 
 shared-slice-read-n : tie.Need-shared-slice-read-n Inv-loop μ-loop
 shared-slice-read-n c = omega (arith, fully-valid _ _ (c .before .before .before .before .before .before .pre .0) .valid .long)
@@ -24,7 +24,7 @@ loop-holds : tie.Need-loop-holds Inv-loop μ-loop
 loop-holds c =
     let a = c .before .before .before .before .before .before .args in
     let p = c .before .before .before .before .before .before .pre in
-    (omega arith, slots-none (a .words .now) (a .arena .now) (a .roster .now) (a .firsts .now) (fully-valid _ _ (p .0)) (p .1 .0) (p .1 .1 .0) (a .numbered .now) (p .1 .1 .1 .1))
+    (omega arith, slots-none (a .form) (a .words .now) (a .arena .now) (a .roster .now) (a .firsts .now) (fully-valid _ _ (p .0)) (p .1 .0) (p .1 .1 .0) (a .numbered .now) (p .1 .1 .1 .1))
 
 put-slot-requires : tie.Need-put-slot-requires Inv-loop μ-loop
 put-slot-requires c κs =
@@ -42,7 +42,7 @@ loop-again : tie.Need-loop-again Inv-loop μ-loop
 loop-again c =
     let a = c .before .before .before .before .before .before .before .before .before .before .before .before .args in
     let p = c .before .before .before .before .before .before .before .before .before .before .before .before .pre in
-    (omega arith, rw (c .before .before .put-slot .ensures) (slots-more (a .words .now) (a .arena .now) (a .roster .now) (a .firsts .now) (fully-valid _ _ (p .0)) (p .1 .0) (p .1 .1 .0) (a .numbered .now) (c .before .before .before .before .before .loop .numbered) (c .before .before .before .before .before .loop .i) (p .1 .1 .1 .0) (c .before .before .before .before .loop-test .taken) (c .before .before .before .before .before .loop .inv .1)))
+    (omega arith, rw (c .before .before .put-slot .ensures) (slots-more (a .form) (a .words .now) (a .arena .now) (a .roster .now) (a .firsts .now) (fully-valid _ _ (p .0)) (p .1 .0) (p .1 .1 .0) (a .numbered .now) (c .before .before .before .before .before .loop .numbered) (c .before .before .before .before .before .loop .i) (p .1 .1 .1 .0) (c .before .before .before .before .loop-test .taken) (c .before .before .before .before .before .loop .inv .1)))
 
 same-length : tie.Need-same-length Inv-loop μ-loop
 same-length c = search needs

@@ -21,15 +21,15 @@ add-put-back : tie.Need-add-put-back
 add-put-back c = search needs
 
 put-back-requires : tie.Need-put-back-requires
-put-back-requires c κs = let p = c .before .before .before .before .before .before .before .before .before .before .pre in (p .0, (p .1 .0, omega (arith, p .1 .1, c .before .before .before .put-front .kept, c .before .before .before .before .before .slot-of .ensures .1)))
+put-back-requires c κs = let p = c .before .before .before .before .before .before .before .before .before .before .before .pre in (p .0, (p .1 .0, omega (arith, p .1 .1, c .before .before .before .put-front .kept, c .before .before .before .before .before .slot-of .ensures .1)))
 
 same-length : tie.Need-same-length
 same-length c = search needs
 
 returns : tie.Need-returns
 returns c =
-    let a = c .before .before .before .before .before .before .before .before .before .before .before .before .before .args in
-    halves-put (a .words .now) (a .roster .now) (a .firsts .now) (a .numbered .now) (a .i) (c .before .before .before .before .before .before .before .before .slot-of .ensures .0) (c .before .before .before .before .before .before .put-front .ensures) (c .before .before .put-back .ensures)
+    let a = c .before .before .before .before .before .before .before .before .before .before .before .before .before .before .args in
+    halves-put (a .form) (a .words .now) (a .arena .now) (a .roster .now) (a .firsts .now) (a .numbered .now) (a .i) (c .before .before .before .before .before .before .before .before .slot-of .ensures .0) (c .before .before .before .before .before .before .put-front .ensures) (c .before .before .put-back .ensures)
 
 pub put-slot-spec : {M : Type 1} → statement M
 put-slot-spec =

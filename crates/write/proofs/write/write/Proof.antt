@@ -3,6 +3,7 @@ use Rattle.build_tables.specs.Table.{freeStanding}
 use mathlib.Core.Path.{refl, ap, _∙_}
 use Prim.Native.Nat.{_<_}
 use native.Mathlib.Omega.{arith}
+use Rattle.words.specs.Hash.{ruleOf}
 use Rattle.build_memory.specs.Memory.{tableTotal}
 use Rattle.write.proofs.StateLaws.{fully-valid}
 use Rattle.write.proofs.SlotLaws.{turned-on, turned-off}
@@ -21,8 +22,8 @@ same-length c = search needs
 returns : tie.Need-returns
 returns c =
     let a = c .before .before .before .before .before .before .args in
-    let g = write-broken (a .words .now) (a .arena .now) (a .image .now) (a .table) (turned-off _ _ (c .before .judge-fully .ensures) (c .if1 .taken)) in
-    (refl, (g .answers, g .lays ∙ image-after (a .words .now) (a .arena .now) (a .image .now) (a .table)))
+    let g = write-broken (ruleOf (a .form)) (a .words .now) (a .arena .now) (a .image .now) (a .table) (turned-off _ _ (c .before .judge-fully .ensures) (c .if1 .taken)) in
+    (refl, (g .answers, g .lays ∙ image-after (ruleOf (a .form)) (a .words .now) (a .arena .now) (a .image .now) (a .table)))
 
 word-size-requires : tie.Need-word-size-requires
 word-size-requires c κs = search needs
@@ -36,8 +37,8 @@ same-length-2 c = search needs
 returns-2 : tie.Need-returns-2
 returns-2 c =
     let a = c .before .before .before .before .before .before .before .before .before .before .args in
-    let g = write-unknown (a .words .now) (a .arena .now) (a .image .now) (a .table) (turned-on _ _ (c .before .before .before .before .before .judge-fully .ensures) (c .before .before .before .before .if1 .left)) (turned-off _ _ (c .before .is-free-standing .ensures ∙ ap (freeStanding (a .words .now)) (c .before .before .before .word-size .ensures .0)) (c .if2 .taken)) in
-    (refl, (g .answers, g .lays ∙ image-after (a .words .now) (a .arena .now) (a .image .now) (a .table)))
+    let g = write-unknown (ruleOf (a .form)) (a .words .now) (a .arena .now) (a .image .now) (a .table) (turned-on _ _ (c .before .before .before .before .before .judge-fully .ensures) (c .before .before .before .before .if1 .left)) (turned-off _ _ (c .before .is-free-standing .ensures ∙ ap (freeStanding (a .words .now)) (c .before .before .before .word-size .ensures .0)) (c .if2 .taken)) in
+    (refl, (g .answers, g .lays ∙ image-after (ruleOf (a .form)) (a .words .now) (a .arena .now) (a .image .now) (a .table)))
 
 index-and-write-requires : tie.Need-index-and-write-requires
 index-and-write-requires c κs =
@@ -59,8 +60,8 @@ returns-3 c =
     let ok = turned-on _ _ (c .before .before .before .before .before .before .before .before .before .before .before .before .judge-fully .ensures) (c .before .before .before .before .before .before .before .before .before .before .before .if1 .left) in
     let known = c .before .before .before .before .before .before .before .before .before .before .word-size .ensures .0 in
     let w = c .before .before .before .before .index-and-write .ensures in
-    let g = index-and-write (a .words .now) (a .arena .now) (a .image .now) (a .table) ok (turned-on _ _ (c .before .before .before .before .before .before .before .before .is-free-standing .ensures ∙ ap (freeStanding (a .words .now)) known) (c .before .before .before .before .before .before .before .if2 .left)) _ _ (rw known at (w .1 .0)) (rw known at (w .1 .1)) in
-    (w .0, (g .answers, g .lays ∙ image-after (a .words .now) (a .arena .now) (a .image .now) (a .table)))
+    let g = index-and-write (ruleOf (a .form)) (a .words .now) (a .arena .now) (a .image .now) (a .table) ok (turned-on _ _ (c .before .before .before .before .before .before .before .before .is-free-standing .ensures ∙ ap (freeStanding (a .words .now)) known) (c .before .before .before .before .before .before .before .if2 .left)) _ _ (rw known at (w .1 .0)) (rw known at (w .1 .1)) in
+    (w .0, (g .answers, g .lays ∙ image-after (ruleOf (a .form)) (a .words .now) (a .arena .now) (a .image .now) (a .table)))
 
 pub write-spec : {M : Type 1} → statement M
 write-spec =

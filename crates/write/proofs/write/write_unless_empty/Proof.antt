@@ -1,6 +1,7 @@
 -- `write::write::write_unless_empty` meets its contract: the numbered table's image is the one that the memory means.
 use Prim.Native.Nat.{ℕ}
 use lib.ListN.{length-replicate, getD-replicate}
+use Rattle.words.specs.Hash.{ruleOf}
 use Rattle.write_bytes.specs.Numbered.{numberedSize}
 use Rattle.write.proofs.AnswerLaws.{table-empty, table-indexed}
 use borrow.Author.Needs.{needs}
@@ -14,7 +15,7 @@ returns : tie.Need-returns
 returns c =
     let a = c .before .before .before .before .before .before .args in
     let p = c .before .before .before .before .before .before .pre in
-    let g = table-empty (a .words .now) (a .arena .now) (a .image .now) (a .table) (c .before .has-empty .ensures) (c .if1 .taken) in
+    let g = table-empty (ruleOf (a .form)) (a .words .now) (a .arena .now) (a .image .now) (a .table) (c .before .has-empty .ensures) (c .if1 .taken) in
     (g .answers, g .lays)
 
 slice-aggregate-fill-numbered : tie.Need-slice-aggregate-fill-numbered
@@ -36,7 +37,7 @@ returns-2 : tie.Need-returns-2
 returns-2 c =
     let a = c .before .before .before .before .before .before .before .before .before .before .before .before .before .before .args in
     let p = c .before .before .before .before .before .before .before .before .before .before .before .before .before .before .pre in
-    let g = table-indexed (a .words .now) (a .arena .now) (a .image .now) (a .table) (c .before .before .before .before .before .before .before .before .before .has-empty .ensures) (c .before .before .before .before .before .before .before .before .if1 .left) _ _ _ (c .before .before .before .before .before .before .fill-numbered .ensures) (p .1 .1) (c .before .before .write-if-fits .ensures .0) (c .before .before .write-if-fits .ensures .1) in
+    let g = table-indexed (ruleOf (a .form)) (a .words .now) (a .arena .now) (a .image .now) (a .table) (c .before .before .before .before .before .before .before .before .before .has-empty .ensures) (c .before .before .before .before .before .before .before .before .if1 .left) _ _ _ (c .before .before .before .before .before .before .fill-numbered .ensures) (p .1 .1) (c .before .before .write-if-fits .ensures .0) (c .before .before .write-if-fits .ensures .1) in
     (g .answers, g .lays)
 
 pub write-unless-empty-spec : {M : Type 1} → statement M

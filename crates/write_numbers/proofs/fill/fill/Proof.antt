@@ -3,6 +3,7 @@ use mathlib.Core.Path.{_≡_, refl, sym, ap, _∙_}
 use Prim.Native.Nat.{_-_, _≤_}
 use native.Mathlib.Omega.{arith}
 use lib.ListN.{length, length-set}
+use Rattle.words.specs.Hash.{ruleOf}
 use Rattle.layout.specs.Limits.{mostTables}
 use Rattle.write_numbers.specs.Fill.{firstSlotOf, Fits, Sized, Filled}
 use Rattle.write_numbers.proofs.OfTableLaws.{slot-start, slot-few}
@@ -11,11 +12,11 @@ use Rattle.write_numbers.proofs.fill.fill.Statement.{statement}
 use Rattle.write_numbers.proofs.fill.fill.Tie as tie
 
 abbrev Inv-loop : tie.InvT-loop
-Inv-loop words₀ arena heads₀ slots₀ indices₀ buckets₀ t₀ first₀ words heads slots indices buckets t first =
-    (t ≤ mostTables) × (first ≡ firstSlotOf words₀ t) × (length heads ≡ length heads₀) × Sized slots indices buckets × Filled words₀ arena t heads slots indices buckets × (words ≡ words₀)
+Inv-loop words₀ arena heads₀ slots₀ indices₀ buckets₀ form t₀ first₀ words heads slots indices buckets t first =
+    (t ≤ mostTables) × (first ≡ firstSlotOf words₀ t) × (length heads ≡ length heads₀) × Sized slots indices buckets × Filled (ruleOf form) words₀ arena t heads slots indices buckets × (words ≡ words₀)
 
 abbrev μ-loop : tie.MeasureT-loop
-μ-loop words₀ arena heads₀ slots₀ indices₀ buckets₀ t₀ first₀ words heads slots indices buckets t first = mostTables - t
+μ-loop words₀ arena heads₀ slots₀ indices₀ buckets₀ form t₀ first₀ words heads slots indices buckets t first = mostTables - t
 
 loop-holds : tie.Need-loop-holds Inv-loop μ-loop
 loop-holds c =

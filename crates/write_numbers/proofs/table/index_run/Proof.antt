@@ -25,13 +25,13 @@ array-share-prefix-hashes c = search needs
 
 slice-aggregate-index-links : tie.Need-slice-aggregate-index-links
 slice-aggregate-index-links c =
-    let s = c .before .before .before .before .before .before .before .before .before .before in
+    let s = c .before .before .before .before .before .before .before .before .before .before .before in
     let call = c .before .before .before .hash-all in
     sym (length-take-le (length (s .args .run .now)) (call .last .1 .1 .0) (omega (arith, s .pre .0 .2, call .kept .1 .1 .0)))
 
 index-links-requires : tie.Need-index-links-requires
 index-links-requires c κs =
-    let s = c .before .before .before .before .before .before .before .before .before .before .before .before in
+    let s = c .before .before .before .before .before .before .before .before .before .before .before .before .before in
     let call = c .before .before .before .before .before .hash-all in
     let long = length-take-le (length (s .args .run .now)) (call .last .1 .1 .0) (omega (arith, s .pre .0 .2, call .kept .1 .1 .0)) in
     ((s .pre .0 .0, omega (arith, long, s .pre .0 .2)), s .pre .1)
@@ -47,10 +47,10 @@ same-length-3 c = search needs
 
 returns : tie.Need-returns
 returns c =
-    let s = c .before .before .before .before .before .before .before .before .before .before .before .before .before .before .before .before .before .before .before in
+    let s = c .before .before .before .before .before .before .before .before .before .before .before .before .before .before .before .before .before .before .before .before in
     let call = c .before .before .before .before .before .before .index-links in
     let hashed = c .before .before .before .before .before .before .before .before .before .before .before .before .hash-all in
-    let front = hashes-front (s .args .words .now) (s .args .run .now) (replicate mostItems 0) (hashed .last .1 .1 .0) (omega (arith, s .pre .0 .2)) (hashed .ensures) in (
+    let front = hashes-front (s .args .form) (s .args .words .now) (s .args .arena .now) (s .args .run .now) (replicate mostItems 0) (hashed .last .1 .1 .0) (omega (arith, s .pre .0 .2)) (hashed .ensures) in (
       call .ensures .0,
       (
         call .ensures .1 .0 ∙ ap (λ (l : List ℕ). putAt (s .args .order .now) 0 (byBucket l)) front,

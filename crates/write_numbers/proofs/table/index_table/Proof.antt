@@ -67,7 +67,7 @@ slice-aggregate-items-at-2 c =
     let a = s .args in
     let o = c .before .before .before .before .before .before .before .before .before .before .before .before .before .in-order in
     let r = c .before .before .before .before .before .before .before .index-run in
-    sym (places-long (a .words .now) (a .arena .now) (a .t) (o .result) (o .last .1 .1 .1 .0) (s .pre .0) (o .ensures) (replicate mostItems 0) (r .last .1 .1 .0) (omega arith) (r .ensures .1 .0))
+    sym (places-long (a .words .now) (a .arena .now) (a .t) (o .result) (o .last .1 .1 .1 .0) (s .pre .0) (o .ensures) (a .form) (replicate mostItems 0) (r .last .1 .1 .0) (omega arith) (r .ensures .1 .0))
 
 items-at-requires : tie.Need-items-at-requires
 items-at-requires c κs =
@@ -75,7 +75,7 @@ items-at-requires c κs =
     let a = s .args in
     let o = c .before .before .before .before .before .before .before .before .before .before .before .before .before .before .in-order in
     let r = c .before .before .before .before .before .before .before .before .index-run in
-    (places-below (a .words .now) (a .arena .now) (a .t) (o .result) (o .last .1 .1 .1 .0) (s .pre .0) (o .ensures) (replicate mostItems 0) (r .last .1 .1 .0) (omega arith) (r .ensures .1 .0), omega (arith, places-long (a .words .now) (a .arena .now) (a .t) (o .result) (o .last .1 .1 .1 .0) (s .pre .0) (o .ensures) (replicate mostItems 0) (r .last .1 .1 .0) (omega arith) (r .ensures .1 .0), ordered-few (a .words .now) (a .arena .now) (a .t) (o .result) (o .last .1 .1 .1 .0) (s .pre .0) (o .ensures), s .pre .1))
+    (places-below (a .words .now) (a .arena .now) (a .t) (o .result) (o .last .1 .1 .1 .0) (s .pre .0) (o .ensures) (a .form) (replicate mostItems 0) (r .last .1 .1 .0) (omega arith) (r .ensures .1 .0), omega (arith, places-long (a .words .now) (a .arena .now) (a .t) (o .result) (o .last .1 .1 .1 .0) (s .pre .0) (o .ensures) (a .form) (replicate mostItems 0) (r .last .1 .1 .0) (omega arith) (r .ensures .1 .0), ordered-few (a .words .now) (a .arena .now) (a .t) (o .result) (o .last .1 .1 .1 .0) (s .pre .0) (o .ensures), s .pre .1))
 
 same-length : tie.Need-same-length
 same-length c = search needs
@@ -93,7 +93,7 @@ returns c =
     let o = c .before .before .before .before .before .before .before .before .before .before .before .before .before .before .before .before .before .in-order in
     let r = c .before .before .before .before .before .before .before .before .before .before .before .index-run in
     let i = c .before .before .items-at in
-    (r .ensures .0, laid (a .words .now) (a .arena .now) (a .t) (o .result) (o .last .1 .1 .1 .0) (s .pre .0) (o .ensures) (replicate mostItems 0) (r .last .1 .1 .0) (omega arith) (r .ensures .1 .0) (a .items .now) (i .last .1 .1 .0) (a .firsts .now) (r .last .1 .1 .1 .0) (s .pre .1) (s .pre .2) (i .ensures) (r .ensures .1 .1))
+    (r .ensures .0, laid (a .words .now) (a .arena .now) (a .t) (o .result) (o .last .1 .1 .1 .0) (s .pre .0) (o .ensures) (a .form) (replicate mostItems 0) (r .last .1 .1 .0) (omega arith) (r .ensures .1 .0) (a .items .now) (i .last .1 .1 .0) (a .firsts .now) (r .last .1 .1 .1 .0) (s .pre .1) (s .pre .2) (i .ensures) (r .ensures .1 .1))
 
 pub index-table-spec : {M : Type 1} → statement M
 index-table-spec =

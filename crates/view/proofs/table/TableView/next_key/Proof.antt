@@ -70,7 +70,7 @@ module _ {M : Type 1} (𝓤 : URA M) (H : Heap 𝓤) (A : Atoms 𝓤) (mem : Mem
 
 module _ {M : Type 1} (𝓤 : URA M) (H : Heap 𝓤) (A : Atoms 𝓤) (W : Given 𝓤 H A) (mem : Memory → SProp 𝓤) (run : Routine → Fun 𝓤) (κ₀ : Lft) (κ₁ : Lft) (q₀ : Share) (q₁ : Share) (self : TableView) (cursor : Cursor) (out : RefT (List ℕ)) where
   abbrev at : Vals it.signature (κ₀, (κ₁, tt))
-  at = ((DTableView′.lowered self) ∷ [], ((DCursor′.lowered cursor) ∷ [], ((sliceVal (out .ptr) (length (out .now))) ∷ [], tt)))
+  at = ((LL.val (DTableView.the-type (namedLft 2 0 tt (κ₀, (κ₁, tt)))) (DTableView′.the-laws (namedLft 2 0 tt (κ₀, (κ₁, tt)))) self) ∷ [], ((DCursor′.lowered cursor) ∷ [], ((sliceVal (out .ptr) (length (out .now))) ∷ [], tt)))
 
   abbrev Post : Val → SProp 𝓤
   Post = walkOf 𝓤 H A it.ended stayed (it.clauses 𝓤 H A mem run) .post (((κ₀, (κ₁, tt)), (q₀, (q₁, tt)), tt, (self, (cursor, (out, tt))), at), tt)
@@ -83,24 +83,24 @@ module _ {M : Type 1} (𝓤 : URA M) (H : Heap 𝓤) (A : Atoms 𝓤) (W : Given
   asked-1 = qed W ((‵ (flft κ₀ q₀) ⊛ ‵ (flft κ₁ q₁) ⊛ ‵ ftrue) ∷ ‵ (owns (DCursor.the-row ∷ (ShrSlice (named 0) κ₀ u8) ∷ u32 ∷ u32 ∷ (MutSlice (named 1) κ₁ u8) ∷ []) (cursor, ((self .file), ((self .start), ((self .end), (out, tt))))) ((DCursor′.lowered cursor) ∷ [], ((sliceVal ((self .file) .ptr) (length ((self .file) .now))) ∷ [], ((vint w32 (self .start)) ∷ [], ((vint w32 (self .end)) ∷ [], ((sliceVal (out .ptr) (length (out .now))) ∷ [], tt)))))) ∷ []) ∵ join ! $ frame ! $ done !
 
   -- a field of a view, from one copy of what the view owns; the other stays
-  out-self-0 : ent 𝓤 (sem 𝓤 H A ((DTableView.the-row (namedLft 2 0 tt (κ₀, (κ₁, tt)))) .own self ((DTableView′.lowered self) ∷ []))) (sep 𝓤 (sem 𝓤 H A ((ShrSlice (named 0) κ₀ u8) .own (self .file) ((sliceVal ((self .file) .ptr) (length ((self .file) .now))) ∷ []))) (sem 𝓤 H A ((DTableView.the-row (namedLft 2 0 tt (κ₀, (κ₁, tt)))) .own self ((DTableView′.lowered self) ∷ []))))
+  out-self-0 : ent 𝓤 (sem 𝓤 H A ((DTableView.the-row (namedLft 2 0 tt (κ₀, (κ₁, tt)))) .own self ((LL.val (DTableView.the-type (namedLft 2 0 tt (κ₀, (κ₁, tt)))) (DTableView′.the-laws (namedLft 2 0 tt (κ₀, (κ₁, tt)))) self) ∷ []))) (sep 𝓤 (sem 𝓤 H A ((ShrSlice (named 0) κ₀ u8) .own (self .file) ((sliceVal ((self .file) .ptr) (length ((self .file) .now))) ∷ []))) (sem 𝓤 H A ((DTableView.the-row (namedLft 2 0 tt (κ₀, (κ₁, tt)))) .own self ((LL.val (DTableView.the-type (namedLft 2 0 tt (κ₀, (κ₁, tt)))) (DTableView′.the-laws (namedLft 2 0 tt (κ₀, (κ₁, tt)))) self) ∷ []))))
   out-self-0 =
-      qed W (‵ ((DTableView.the-row (namedLft 2 0 tt (κ₀, (κ₁, tt)))) .own self ((DTableView′.lowered self) ∷ [])) ∷ []) ∵
-      use1 W (‵ ((DTableView.the-row (namedLft 2 0 tt (κ₀, (κ₁, tt)))) .own self ((DTableView′.lowered self) ∷ [])) ⊛ ‵ ((DTableView.the-row (namedLft 2 0 tt (κ₀, (κ₁, tt)))) .own self ((DTableView′.lowered self) ∷ []))) (LL.copy (DTableView.the-type (namedLft 2 0 tt (κ₀, (κ₁, tt)))) (DTableView′.the-copy (namedLft 2 0 tt (κ₀, (κ₁, tt)))) 𝓤 H A W .twice self ((DTableView′.lowered self) ∷ [])) $ split ! $
-      use1 W (given ((DTableView′.lowered self) ∷ [] ≡ (DTableView′.lowered self) ∷ []) (‵ (all-own ((DTableView.the-type (namedLft 2 0 tt (κ₀, (κ₁, tt)))) .parts) (DTableView′.the-laws (namedLft 2 0 tt (κ₀, (κ₁, tt)))) (self .file, (self .start, (self .end, tt)))))) (own-open 𝓤 H A W (DTableView.the-type (namedLft 2 0 tt (κ₀, (κ₁, tt)))) (DTableView′.the-laws (namedLft 2 0 tt (κ₀, (κ₁, tt)))) (self .file, (self .start, (self .end, tt))) (DTableView′.lowered self)) $ learn ! (λ _.
-      use1 W (‵ (ownAt ((DTableView.the-type (namedLft 2 0 tt (κ₀, (κ₁, tt)))) .parts) (DTableView′.the-laws (namedLft 2 0 tt (κ₀, (κ₁, tt)))) 0 ((self .file))) ⊛ ‵ (rest ((DTableView.the-type (namedLft 2 0 tt (κ₀, (κ₁, tt)))) .parts) (DTableView′.the-laws (namedLft 2 0 tt (κ₀, (κ₁, tt)))) 0 (self .file, (self .start, (self .end, tt))))) (own-out 𝓤 H A W ((DTableView.the-type (namedLft 2 0 tt (κ₀, (κ₁, tt)))) .parts) (DTableView′.the-laws (namedLft 2 0 tt (κ₀, (κ₁, tt)))) 0 (self .file, (self .start, (self .end, tt)))) $ split ! $ move ! (1 ∷ []) $ drop ! $ done !)
+      qed W (‵ ((DTableView.the-row (namedLft 2 0 tt (κ₀, (κ₁, tt)))) .own self ((LL.val (DTableView.the-type (namedLft 2 0 tt (κ₀, (κ₁, tt)))) (DTableView′.the-laws (namedLft 2 0 tt (κ₀, (κ₁, tt)))) self) ∷ [])) ∷ []) ∵
+      use1 W (‵ ((DTableView.the-row (namedLft 2 0 tt (κ₀, (κ₁, tt)))) .own self ((LL.val (DTableView.the-type (namedLft 2 0 tt (κ₀, (κ₁, tt)))) (DTableView′.the-laws (namedLft 2 0 tt (κ₀, (κ₁, tt)))) self) ∷ [])) ⊛ ‵ ((DTableView.the-row (namedLft 2 0 tt (κ₀, (κ₁, tt)))) .own self ((LL.val (DTableView.the-type (namedLft 2 0 tt (κ₀, (κ₁, tt)))) (DTableView′.the-laws (namedLft 2 0 tt (κ₀, (κ₁, tt)))) self) ∷ []))) (LL.copy (DTableView.the-type (namedLft 2 0 tt (κ₀, (κ₁, tt)))) (DTableView′.the-copy (namedLft 2 0 tt (κ₀, (κ₁, tt)))) 𝓤 H A W .twice self ((LL.val (DTableView.the-type (namedLft 2 0 tt (κ₀, (κ₁, tt)))) (DTableView′.the-laws (namedLft 2 0 tt (κ₀, (κ₁, tt)))) self) ∷ [])) $ split ! $
+      use1 W (given ((LL.val (DTableView.the-type (namedLft 2 0 tt (κ₀, (κ₁, tt)))) (DTableView′.the-laws (namedLft 2 0 tt (κ₀, (κ₁, tt)))) self) ∷ [] ≡ (LL.val (DTableView.the-type (namedLft 2 0 tt (κ₀, (κ₁, tt)))) (DTableView′.the-laws (namedLft 2 0 tt (κ₀, (κ₁, tt)))) self) ∷ []) (‵ (all-own ((DTableView.the-type (namedLft 2 0 tt (κ₀, (κ₁, tt)))) .parts) (DTableView′.the-laws (namedLft 2 0 tt (κ₀, (κ₁, tt)))) (self .file, (self .start, (self .end, (self .manner, tt))))))) (own-open 𝓤 H A W (DTableView.the-type (namedLft 2 0 tt (κ₀, (κ₁, tt)))) (DTableView′.the-laws (namedLft 2 0 tt (κ₀, (κ₁, tt)))) (self .file, (self .start, (self .end, (self .manner, tt)))) (LL.val (DTableView.the-type (namedLft 2 0 tt (κ₀, (κ₁, tt)))) (DTableView′.the-laws (namedLft 2 0 tt (κ₀, (κ₁, tt)))) self)) $ learn ! (λ _.
+      use1 W (‵ (ownAt ((DTableView.the-type (namedLft 2 0 tt (κ₀, (κ₁, tt)))) .parts) (DTableView′.the-laws (namedLft 2 0 tt (κ₀, (κ₁, tt)))) 0 ((self .file))) ⊛ ‵ (rest ((DTableView.the-type (namedLft 2 0 tt (κ₀, (κ₁, tt)))) .parts) (DTableView′.the-laws (namedLft 2 0 tt (κ₀, (κ₁, tt)))) 0 (self .file, (self .start, (self .end, (self .manner, tt)))))) (own-out 𝓤 H A W ((DTableView.the-type (namedLft 2 0 tt (κ₀, (κ₁, tt)))) .parts) (DTableView′.the-laws (namedLft 2 0 tt (κ₀, (κ₁, tt)))) 0 (self .file, (self .start, (self .end, (self .manner, tt))))) $ split ! $ move ! (1 ∷ []) $ drop ! $ done !)
 
-  module _ (wt0 : Holds (hasTy (DTableView′.mir (named 0)) (DTableView′.lowered self)) × WT (DTableView′.lowered self)) (wt1 : Holds (hasTy DCursor′.mir (DCursor′.lowered cursor)) × WT (DCursor′.lowered cursor)) (is1 : Is DCursor.the-row cursor ((DCursor′.lowered cursor) ∷ [])) (is2 : Is (MutSlice (named 1) κ₁ u8) out ((sliceVal (out .ptr) (length (out .now))) ∷ [])) where
-    exits : (x : Listed) (w : Val) (zs : List ℕ) → length zs ≡ length (out .now) → KeyOf self (cursor .at) (now out) x zs → ent 𝓤 (⋆ 𝓤 H A (‵ (DListed.the-row .own x (w ∷ [])) ∷ ‵ (flft κ₀ q₀) ∷ ‵ (flft κ₁ q₁) ∷ ‵ ((DTableView.the-row (namedLft 2 0 tt (κ₀, (κ₁, tt)))) .own self ((DTableView′.lowered self) ∷ [])) ∷ ‵ (finally u8 (out .name) zs) ∷ [])) (Post w)
+  module _ (wt0 : Holds (hasTy (DTableView′.mir (named 0)) (LL.val (DTableView.the-type (namedLft 2 0 tt (κ₀, (κ₁, tt)))) (DTableView′.the-laws (namedLft 2 0 tt (κ₀, (κ₁, tt)))) self)) × WT (LL.val (DTableView.the-type (namedLft 2 0 tt (κ₀, (κ₁, tt)))) (DTableView′.the-laws (namedLft 2 0 tt (κ₀, (κ₁, tt)))) self)) (wt1 : Holds (hasTy DCursor′.mir (DCursor′.lowered cursor)) × WT (DCursor′.lowered cursor)) (is1 : Is DCursor.the-row cursor ((DCursor′.lowered cursor) ∷ [])) (is2 : Is (MutSlice (named 1) κ₁ u8) out ((sliceVal (out .ptr) (length (out .now))) ∷ [])) where
+    exits : (x : Listed) (w : Val) (zs : List ℕ) → length zs ≡ length (out .now) → KeyOf self (cursor .at) (now out) x zs → ent 𝓤 (⋆ 𝓤 H A (‵ (DListed.the-row .own x (w ∷ [])) ∷ ‵ (flft κ₀ q₀) ∷ ‵ (flft κ₁ q₁) ∷ ‵ ((DTableView.the-row (namedLft 2 0 tt (κ₀, (κ₁, tt)))) .own self ((LL.val (DTableView.the-type (namedLft 2 0 tt (κ₀, (κ₁, tt)))) (DTableView′.the-laws (namedLft 2 0 tt (κ₀, (κ₁, tt)))) self) ∷ [])) ∷ ‵ (finally u8 (out .name) zs) ∷ [])) (Post w)
     exits x w zs l e =
-        qed W (‵ (DListed.the-row .own x (w ∷ [])) ∷ ‵ (flft κ₀ q₀) ∷ ‵ (flft κ₁ q₁) ∷ ‵ ((DTableView.the-row (namedLft 2 0 tt (κ₀, (κ₁, tt)))) .own self ((DTableView′.lowered self) ∷ [])) ∷ ‵ (finally u8 (out .name) zs) ∷ []) ∵
+        qed W (‵ (DListed.the-row .own x (w ∷ [])) ∷ ‵ (flft κ₀ q₀) ∷ ‵ (flft κ₁ q₁) ∷ ‵ ((DTableView.the-row (namedLft 2 0 tt (κ₀, (κ₁, tt)))) .own self ((LL.val (DTableView.the-type (namedLft 2 0 tt (κ₀, (κ₁, tt)))) (DTableView′.the-laws (namedLft 2 0 tt (κ₀, (κ₁, tt)))) self) ∷ [])) ∷ ‵ (finally u8 (out .name) zs) ∷ []) ∵
         suffices ! _ (ends-at 𝓤 H A it.ended stayed (it.clauses 𝓤 H A mem run) W (((κ₀, (κ₁, tt)), (q₀, (q₁, tt)), tt, (self, (cursor, (out, tt))), at), tt) w x (tt, (tt, (zs, tt))) (tt, (tt, (l, tt)))) $ says ! e $
         nothing ! $ move ! (3 ∷ 0 ∷ []) $ join ! $ move ! (2 ∷ 0 ∷ []) $ join ! $ frame ! $ nothing ! $ move ! (3 ∷ 0 ∷ []) $ fjoin ! $ owned ! DCursor.the-row (Is DCursor.the-row) (LL.makes DCursor.the-type DCursor′.the-plain 𝓤 H A) cursor ((DCursor′.lowered cursor) ∷ []) is1 $ fjoin ! $ move ! (2 ∷ 0 ∷ []) $ fjoin ! $ frame ! $ done !
 
     module _ (C : Calls 𝓤 H) (Λ : Loops 𝓤 H) (fm : FmC 𝓤 H (W .laws) C) (known-next-key : Triple 𝓤 (C #next-key) (Contract-next-key 𝓤 H A mem run)) where
-      walk : ent 𝓤 (onEntry 𝓤 H A it.signature (κ₀, (κ₁, tt)) (q₀, (q₁, tt)) (self, (cursor, (out, tt))) at) (WpFn 𝓤 H C Λ code.function ((DTableView′.lowered self) ∷ (DCursor′.lowered cursor) ∷ (sliceVal (out .ptr) (length (out .now))) ∷ []) Post)
+      walk : ent 𝓤 (onEntry 𝓤 H A it.signature (κ₀, (κ₁, tt)) (q₀, (q₁, tt)) (self, (cursor, (out, tt))) at) (WpFn 𝓤 H C Λ code.function ((LL.val (DTableView.the-type (namedLft 2 0 tt (κ₀, (κ₁, tt)))) (DTableView′.the-laws (namedLft 2 0 tt (κ₀, (κ₁, tt)))) self) ∷ (DCursor′.lowered cursor) ∷ (sliceVal (out .ptr) (length (out .now))) ∷ []) Post)
       walk =
-          qed W (raw (onEntry 𝓤 H A it.signature (κ₀, (κ₁, tt)) (q₀, (q₁, tt)) (self, (cursor, (out, tt))) at) ∷ []) ∵ enter ! C Λ code.function ((DTableView′.lowered self) ∷ (DCursor′.lowered cursor) ∷ (sliceVal (out .ptr) (length (out .now))) ∷ []) _ $
+          qed W (raw (onEntry 𝓤 H A it.signature (κ₀, (κ₁, tt)) (q₀, (q₁, tt)) (self, (cursor, (out, tt))) at) ∷ []) ∵ enter ! C Λ code.function ((LL.val (DTableView.the-type (namedLft 2 0 tt (κ₀, (κ₁, tt)))) (DTableView′.the-laws (namedLft 2 0 tt (κ₀, (κ₁, tt)))) self) ∷ (DCursor′.lowered cursor) ∷ (sliceVal (out .ptr) (length (out .now))) ∷ []) _ $
           alloc1 ! (λ l0. alloc1 ! (λ l1. alloc1 ! (λ l2. alloc1 ! (λ l3. alloc1 ! (λ l4. alloc1 ! (λ l5. alloc1 ! (λ l6. alloc1 ! (λ l7. alloc1 ! (λ l8. alloc0 ! $
           params1 ! $ pass1 ! (init ! 14 refl wt0) $ pass1 ! (init ! 12 refl wt1) $ pass1 ! (init ! 10 refl (mut-slice-lawful 𝓤 H A W (named 1) κ₁ u8 .typed out (sliceVal (out .ptr) (length (out .now)) ∷ []) is2 .0)) $ pass0 ! $
           move ! (18 ∷ []) $ use1 W ((‵ (flft κ₀ q₀) ⊛ ‵ (flft κ₁ q₁) ⊛ ‵ ftrue) ⊛ ‵ (owns ((DTableView.the-row (namedLft 2 0 tt (κ₀, (κ₁, tt)))) ∷ DCursor.the-row ∷ (MutSlice (named 1) κ₁ u8) ∷ []) (self, (cursor, (out, tt))) at)) (id⊢ 𝓤 _) $ split ! $ split ! $ move ! (1 ∷ []) $ split ! $ move ! (1 ∷ []) $ drop ! $ move ! (2 ∷ []) $ fsplit ! $ move ! (1 ∷ []) $ fsplit ! $ drop ! $ fsplit ! $ move ! (1 ∷ []) $ drop ! $
@@ -110,7 +110,7 @@ module _ {M : Type 1} (𝓤 : URA M) (H : Heap 𝓤) (A : Atoms 𝓤) (W : Given
           assigns ! (addr ! (from ! (fld ! refl (hop ! (look-in ! 14 (sub ! 0 refl (whole !))) (stop !))))) (from ! (stop !)) (init ! 6 refl (tt, tt)) $
           assigns ! (agg ! (and-then ! (load ! (from ! (stop !)) (look ! 6 refl)) (and-then ! (load ! (from ! (fld ! refl (stop !))) (look-in ! 14 (sub ! 1 refl (whole !)))) (no-more !)))) (from ! (stop !)) (init ! 4 refl (tt, (mut-slice-lawful 𝓤 H A W (named 1) κ₁ u8 .typed out (sliceVal (out .ptr) (length (out .now)) ∷ []) is2 .0) .1)) $
           -- call 1, of `read_listing::listing::Cursor::next_key`
-          nothing ! $ move ! (1 ∷ 0 ∷ []) $ fjoin ! $ owned ! u32 (Is u32) (uint-makes 𝓤 H A W w32) (self .end) ((vint w32 (self .end)) ∷ []) (refl, wt0 .1 .1 .1 .0 .fits) $ fjoin ! $ owned ! u32 (Is u32) (uint-makes 𝓤 H A W w32) (self .start) ((vint w32 (self .start)) ∷ []) (refl, wt0 .1 .1 .0 .fits) $ fjoin ! $ move ! (1 ∷ []) $ use1 W (‵ ((ShrSlice (named 0) κ₀ u8) .own (self .file) ((sliceVal ((self .file) .ptr) (length ((self .file) .now))) ∷ [])) ⊛ ‵ ((DTableView.the-row (namedLft 2 0 tt (κ₀, (κ₁, tt)))) .own self ((DTableView′.lowered self) ∷ []))) out-self-0 $ split ! $ move ! (0 ∷ 2 ∷ []) $ fjoin ! $ owned ! DCursor.the-row (Is DCursor.the-row) (LL.makes DCursor.the-type DCursor′.the-plain 𝓤 H A) cursor ((DCursor′.lowered cursor) ∷ []) is1 $ fjoin ! $ nothing ! $ move ! (3 ∷ 0 ∷ []) $ join ! $ move ! (3 ∷ 0 ∷ []) $ join ! $ use2 W (raw (Contract-next-key 𝓤 H A mem run .pre (to-1))) (asked-1) $
+          nothing ! $ move ! (1 ∷ 0 ∷ []) $ fjoin ! $ owned ! u32 (Is u32) (uint-makes 𝓤 H A W w32) (self .end) ((vint w32 (self .end)) ∷ []) (refl, wt0 .1 .1 .1 .0 .fits) $ fjoin ! $ owned ! u32 (Is u32) (uint-makes 𝓤 H A W w32) (self .start) ((vint w32 (self .start)) ∷ []) (refl, wt0 .1 .1 .0 .fits) $ fjoin ! $ move ! (1 ∷ []) $ use1 W (‵ ((ShrSlice (named 0) κ₀ u8) .own (self .file) ((sliceVal ((self .file) .ptr) (length ((self .file) .now))) ∷ [])) ⊛ ‵ ((DTableView.the-row (namedLft 2 0 tt (κ₀, (κ₁, tt)))) .own self ((LL.val (DTableView.the-type (namedLft 2 0 tt (κ₀, (κ₁, tt)))) (DTableView′.the-laws (namedLft 2 0 tt (κ₀, (κ₁, tt)))) self) ∷ []))) out-self-0 $ split ! $ move ! (0 ∷ 2 ∷ []) $ fjoin ! $ owned ! DCursor.the-row (Is DCursor.the-row) (LL.makes DCursor.the-type DCursor′.the-plain 𝓤 H A) cursor ((DCursor′.lowered cursor) ∷ []) is1 $ fjoin ! $ nothing ! $ move ! (3 ∷ 0 ∷ []) $ join ! $ move ! (3 ∷ 0 ∷ []) $ join ! $ use2 W (raw (Contract-next-key 𝓤 H A mem run .pre (to-1))) (asked-1) $
           calls-at ! fm (Contract-next-key 𝓤 H A mem run) known-next-key (to-1) (and-then ! (load ! (from ! (stop !)) (look ! 14 refl)) (and-then ! (load ! (from ! (stop !)) (look ! 10 refl)) (and-then ! (load ! (from ! (stop !)) (look ! 8 refl)) (and-then ! (load ! (from ! (stop !)) (look ! 6 refl)) (and-then ! (load ! (from ! (stop !)) (look ! 2 refl)) (no-more !)))))) (λ u1.
           use1 W (later (some (λ (r1 : Listed). ((‵ (flft κ₀ q₀) ⊛ ‵ (flft κ₁ q₁) ⊛ ‵ ftrue) ⊛ ‵ (DListed.the-row .own r1 (u1 ∷ []))) ⊛ raw (ensured 𝓤 H A of-next-key.ended (of-next-key.clauses 𝓤 H A mem run) (κ₀, (κ₁, tt)) (cursor, ((self .file), ((self .start), ((self .end), (out, tt))))) tt r1)))) (id⊢ 𝓤 _) $ await ! tt $ pick ! (λ r1.
           split ! $ move ! (1 ∷ []) $ use1 W (some (λ (zs1 : (Unit {0} × (Unit {0} × (Unit {0} × (Unit {0} × (List ℕ × Unit {0})))))). ‵ (lasts of-next-key.ended (κ₀, (κ₁, tt)) (cursor, ((self .file), ((self .start), ((self .end), (out, tt))))) zs1) ⊛ (raw (fact 𝓤 (r1 ≡ listed (keyAt (now (self .file)) (self .start) (self .end) (cursor .at)) (length (now out)) (cursor .at))) ⊛ raw (fact 𝓤 ((zs1 .1 .1 .1 .1 .0) ≡ written (keyAt (now (self .file)) (self .start) (self .end) (cursor .at)) (now out)))))) (id⊢ 𝓤 _) $ pick ! (λ zs1. split ! $ move ! (1 ∷ []) $ split ! $ heard ! (r1 ≡ listed (keyAt (now (self .file)) (self .start) (self .end) (cursor .at)) (length (now out)) (cursor .at)) (λ e1. heard ! ((zs1 .1 .1 .1 .1 .0) ≡ written (keyAt (now (self .file)) (self .start) (self .end) (cursor .at)) (now out)) (λ f1.

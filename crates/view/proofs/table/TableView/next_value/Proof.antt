@@ -25,7 +25,7 @@ use denote.Laws.{Is, shows}
 use denote.Plain.{uint-makes}
 use denote.Builtin.{u8, u32}
 use denote.Ref.{RefT, now}
-use denote.Signature.{plain, namedLft}
+use denote.Signature.{namedLft}
 use denote.Signature.Struct.{makes}
 use denote.Slice.{sliceVal, ShrSlice, shr-slice-lawful, shr-slice-copy}
 use denote.Steps.{owned, peeks, facts, heard, nothing}
@@ -82,28 +82,28 @@ module _ {M : Type 1} (𝓤 : URA M) (H : Heap 𝓤) (A : Atoms 𝓤) (mem : Mem
 
 module _ {M : Type 1} (𝓤 : URA M) (H : Heap 𝓤) (A : Atoms 𝓤) (W : Given 𝓤 H A) (mem : Memory → SProp 𝓤) (run : Routine → Fun 𝓤) (κ₀ : Lft) (q₀ : Share) (self : TableView) (cursor : Cursor) where
   abbrev at : Vals it.signature (κ₀, tt)
-  at = ((DTableView′.lowered self) ∷ [], ((DCursor′.lowered cursor) ∷ [], tt))
+  at = ((LL.val (DTableView.the-type (namedLft 1 0 tt (κ₀, tt))) (DTableView′.the-laws (namedLft 1 0 tt (κ₀, tt))) self) ∷ [], ((LL.val DCursor.the-type DCursor′.the-laws cursor) ∷ [], tt))
 
   abbrev Post : Val → SProp 𝓤
   Post = walkOf 𝓤 H A it.ended stayed (it.clauses 𝓤 H A mem run) .post (((κ₀, tt), (q₀, tt), tt, (self, (cursor, tt)), at), tt)
 
   -- call 1, of `read_listing::listing::Cursor::next_value`: what it is passed, what it asks, and what it says of its result
   abbrev to-1 : Contract-next-value 𝓤 H A mem run .Ghost
-  to-1 = (((κ₀, tt), (q₀, tt), tt, (cursor, ((self .file), ((self .start), ((self .end), tt)))), ((DCursor′.lowered cursor) ∷ [], ((sliceVal ((self .file) .ptr) (length ((self .file) .now))) ∷ [], ((vint w32 (self .start)) ∷ [], ((vint w32 (self .end)) ∷ [], tt))))), tt)
+  to-1 = (((κ₀, tt), (q₀, tt), tt, (cursor, ((self .file), ((self .start), ((self .end), tt)))), ((LL.val DCursor.the-type DCursor′.the-laws cursor) ∷ [], ((sliceVal ((self .file) .ptr) (length ((self .file) .now))) ∷ [], ((vint w32 (self .start)) ∷ [], ((vint w32 (self .end)) ∷ [], tt))))), tt)
 
-  asked-1 : ent 𝓤 (onEntry 𝓤 H A of-next-value.signature (κ₀, tt) (q₀, tt) (cursor, ((self .file), ((self .start), ((self .end), tt)))) ((DCursor′.lowered cursor) ∷ [], ((sliceVal ((self .file) .ptr) (length ((self .file) .now))) ∷ [], ((vint w32 (self .start)) ∷ [], ((vint w32 (self .end)) ∷ [], tt))))) (Contract-next-value 𝓤 H A mem run .pre (to-1))
-  asked-1 = qed W ((‵ (flft κ₀ q₀) ⊛ ‵ ftrue) ∷ ‵ (owns (DCursor.the-row ∷ (ShrSlice (named 0) κ₀ u8) ∷ u32 ∷ u32 ∷ []) (cursor, ((self .file), ((self .start), ((self .end), tt)))) ((DCursor′.lowered cursor) ∷ [], ((sliceVal ((self .file) .ptr) (length ((self .file) .now))) ∷ [], ((vint w32 (self .start)) ∷ [], ((vint w32 (self .end)) ∷ [], tt))))) ∷ []) ∵ join ! $ frame ! $ done !
+  asked-1 : ent 𝓤 (onEntry 𝓤 H A of-next-value.signature (κ₀, tt) (q₀, tt) (cursor, ((self .file), ((self .start), ((self .end), tt)))) ((LL.val DCursor.the-type DCursor′.the-laws cursor) ∷ [], ((sliceVal ((self .file) .ptr) (length ((self .file) .now))) ∷ [], ((vint w32 (self .start)) ∷ [], ((vint w32 (self .end)) ∷ [], tt))))) (Contract-next-value 𝓤 H A mem run .pre (to-1))
+  asked-1 = qed W ((‵ (flft κ₀ q₀) ⊛ ‵ ftrue) ∷ ‵ (owns (DCursor.the-row ∷ (ShrSlice (named 0) κ₀ u8) ∷ u32 ∷ u32 ∷ []) (cursor, ((self .file), ((self .start), ((self .end), tt)))) ((LL.val DCursor.the-type DCursor′.the-laws cursor) ∷ [], ((sliceVal ((self .file) .ptr) (length ((self .file) .now))) ∷ [], ((vint w32 (self .start)) ∷ [], ((vint w32 (self .end)) ∷ [], tt))))) ∷ []) ∵ join ! $ frame ! $ done !
 
   said-1 : (r1 : Valued) → ent 𝓤 (ensured 𝓤 H A of-next-value.ended (of-next-value.clauses 𝓤 H A mem run) (κ₀, tt) (cursor, ((self .file), ((self .start), ((self .end), tt)))) tt r1) (fact 𝓤 (r1 ≡ valueAt (now (self .file)) (self .start) (self .end) (cursor .at)))
   said-1 r1 = exE 𝓤 _ (λ ws. snd∗ 𝓤 (sem 𝓤 H A (lasts of-next-value.ended (κ₀, tt) (cursor, ((self .file), ((self .start), ((self .end), tt)))) ws)) (fact 𝓤 (r1 ≡ valueAt (now (self .file)) (self .start) (self .end) (cursor .at))))
 
   -- a field of a view, from one copy of what the view owns; the other stays
-  out-self-0 : ent 𝓤 (sem 𝓤 H A ((DTableView.the-row (namedLft 1 0 tt (κ₀, tt))) .own self ((DTableView′.lowered self) ∷ []))) (sep 𝓤 (sem 𝓤 H A ((ShrSlice (named 0) κ₀ u8) .own (self .file) ((sliceVal ((self .file) .ptr) (length ((self .file) .now))) ∷ []))) (sem 𝓤 H A ((DTableView.the-row (namedLft 1 0 tt (κ₀, tt))) .own self ((DTableView′.lowered self) ∷ []))))
+  out-self-0 : ent 𝓤 (sem 𝓤 H A ((DTableView.the-row (namedLft 1 0 tt (κ₀, tt))) .own self ((LL.val (DTableView.the-type (namedLft 1 0 tt (κ₀, tt))) (DTableView′.the-laws (namedLft 1 0 tt (κ₀, tt))) self) ∷ []))) (sep 𝓤 (sem 𝓤 H A ((ShrSlice (named 0) κ₀ u8) .own (self .file) ((sliceVal ((self .file) .ptr) (length ((self .file) .now))) ∷ []))) (sem 𝓤 H A ((DTableView.the-row (namedLft 1 0 tt (κ₀, tt))) .own self ((LL.val (DTableView.the-type (namedLft 1 0 tt (κ₀, tt))) (DTableView′.the-laws (namedLft 1 0 tt (κ₀, tt))) self) ∷ []))))
   out-self-0 =
-      qed W (‵ ((DTableView.the-row (namedLft 1 0 tt (κ₀, tt))) .own self ((DTableView′.lowered self) ∷ [])) ∷ []) ∵
-      use1 W (‵ ((DTableView.the-row (namedLft 1 0 tt (κ₀, tt))) .own self ((DTableView′.lowered self) ∷ [])) ⊛ ‵ ((DTableView.the-row (namedLft 1 0 tt (κ₀, tt))) .own self ((DTableView′.lowered self) ∷ []))) (LL.copy (DTableView.the-type (namedLft 1 0 tt (κ₀, tt))) (DTableView′.the-copy (namedLft 1 0 tt (κ₀, tt))) 𝓤 H A W .twice self ((DTableView′.lowered self) ∷ [])) $ split ! $
-      use1 W (given ((DTableView′.lowered self) ∷ [] ≡ (DTableView′.lowered self) ∷ []) (‵ (all-own ((DTableView.the-type (namedLft 1 0 tt (κ₀, tt))) .parts) (DTableView′.the-laws (namedLft 1 0 tt (κ₀, tt))) (self .file, (self .start, (self .end, tt)))))) (own-open 𝓤 H A W (DTableView.the-type (namedLft 1 0 tt (κ₀, tt))) (DTableView′.the-laws (namedLft 1 0 tt (κ₀, tt))) (self .file, (self .start, (self .end, tt))) (DTableView′.lowered self)) $ learn ! (λ _.
-      use1 W (‵ (ownAt ((DTableView.the-type (namedLft 1 0 tt (κ₀, tt))) .parts) (DTableView′.the-laws (namedLft 1 0 tt (κ₀, tt))) 0 ((self .file))) ⊛ ‵ (rest ((DTableView.the-type (namedLft 1 0 tt (κ₀, tt))) .parts) (DTableView′.the-laws (namedLft 1 0 tt (κ₀, tt))) 0 (self .file, (self .start, (self .end, tt))))) (own-out 𝓤 H A W ((DTableView.the-type (namedLft 1 0 tt (κ₀, tt))) .parts) (DTableView′.the-laws (namedLft 1 0 tt (κ₀, tt))) 0 (self .file, (self .start, (self .end, tt)))) $ split ! $ move ! (1 ∷ []) $ drop ! $ done !)
+      qed W (‵ ((DTableView.the-row (namedLft 1 0 tt (κ₀, tt))) .own self ((LL.val (DTableView.the-type (namedLft 1 0 tt (κ₀, tt))) (DTableView′.the-laws (namedLft 1 0 tt (κ₀, tt))) self) ∷ [])) ∷ []) ∵
+      use1 W (‵ ((DTableView.the-row (namedLft 1 0 tt (κ₀, tt))) .own self ((LL.val (DTableView.the-type (namedLft 1 0 tt (κ₀, tt))) (DTableView′.the-laws (namedLft 1 0 tt (κ₀, tt))) self) ∷ [])) ⊛ ‵ ((DTableView.the-row (namedLft 1 0 tt (κ₀, tt))) .own self ((LL.val (DTableView.the-type (namedLft 1 0 tt (κ₀, tt))) (DTableView′.the-laws (namedLft 1 0 tt (κ₀, tt))) self) ∷ []))) (LL.copy (DTableView.the-type (namedLft 1 0 tt (κ₀, tt))) (DTableView′.the-copy (namedLft 1 0 tt (κ₀, tt))) 𝓤 H A W .twice self ((LL.val (DTableView.the-type (namedLft 1 0 tt (κ₀, tt))) (DTableView′.the-laws (namedLft 1 0 tt (κ₀, tt))) self) ∷ [])) $ split ! $
+      use1 W (given ((LL.val (DTableView.the-type (namedLft 1 0 tt (κ₀, tt))) (DTableView′.the-laws (namedLft 1 0 tt (κ₀, tt))) self) ∷ [] ≡ (LL.val (DTableView.the-type (namedLft 1 0 tt (κ₀, tt))) (DTableView′.the-laws (namedLft 1 0 tt (κ₀, tt))) self) ∷ []) (‵ (all-own ((DTableView.the-type (namedLft 1 0 tt (κ₀, tt))) .parts) (DTableView′.the-laws (namedLft 1 0 tt (κ₀, tt))) (self .file, (self .start, (self .end, (self .manner, tt))))))) (own-open 𝓤 H A W (DTableView.the-type (namedLft 1 0 tt (κ₀, tt))) (DTableView′.the-laws (namedLft 1 0 tt (κ₀, tt))) (self .file, (self .start, (self .end, (self .manner, tt)))) (LL.val (DTableView.the-type (namedLft 1 0 tt (κ₀, tt))) (DTableView′.the-laws (namedLft 1 0 tt (κ₀, tt))) self)) $ learn ! (λ _.
+      use1 W (‵ (ownAt ((DTableView.the-type (namedLft 1 0 tt (κ₀, tt))) .parts) (DTableView′.the-laws (namedLft 1 0 tt (κ₀, tt))) 0 ((self .file))) ⊛ ‵ (rest ((DTableView.the-type (namedLft 1 0 tt (κ₀, tt))) .parts) (DTableView′.the-laws (namedLft 1 0 tt (κ₀, tt))) 0 (self .file, (self .start, (self .end, (self .manner, tt)))))) (own-out 𝓤 H A W ((DTableView.the-type (namedLft 1 0 tt (κ₀, tt))) .parts) (DTableView′.the-laws (namedLft 1 0 tt (κ₀, tt))) 0 (self .file, (self .start, (self .end, (self .manner, tt))))) $ split ! $ move ! (1 ∷ []) $ drop ! $ done !)
 
   -- call 2, of `view::part::listed_part`: what it is passed, what it asks, and what it says of its result
   abbrev to-2 : (r1 : Valued) (u1 : Val) → Contract-listed-part 𝓤 H A mem run .Ghost
@@ -115,17 +115,17 @@ module _ {M : Type 1} (𝓤 : URA M) (H : Heap 𝓤) (A : Atoms 𝓤) (W : Given
   said-2 : (r1 : Valued) (u1 : Val) (r2 : RefT (List ℕ)) → ent 𝓤 (ensured 𝓤 H A of-listed-part.ended (of-listed-part.clauses 𝓤 H A mem run) (κ₀, tt) ((self .file), (r1, tt)) tt r2) (fact 𝓤 (ListedIn (self .file) r1 r2))
   said-2 r1 u1 r2 = exE 𝓤 _ (λ ws. snd∗ 𝓤 (sem 𝓤 H A (lasts of-listed-part.ended (κ₀, tt) ((self .file), (r1, tt)) ws)) (fact 𝓤 (ListedIn (self .file) r1 r2)))
 
-  module _ (wt0 : Holds (hasTy (DTableView′.mir (named 0)) (DTableView′.lowered self)) × WT (DTableView′.lowered self)) (wt1 : Holds (hasTy DCursor′.mir (DCursor′.lowered cursor)) × WT (DCursor′.lowered cursor)) (is1 : Is DCursor.the-row cursor ((DCursor′.lowered cursor) ∷ [])) where
-    exits : (x : ListedView) (w : Val) → ListedOf self (cursor .at) x → ent 𝓤 (⋆ 𝓤 H A (‵ ((DListedView.the-row (namedLft 1 0 tt (κ₀, tt))) .own x (w ∷ [])) ∷ ‵ (flft κ₀ q₀) ∷ ‵ ((DTableView.the-row (namedLft 1 0 tt (κ₀, tt))) .own self ((DTableView′.lowered self) ∷ [])) ∷ [])) (Post w)
+  module _ (wt0 : Holds (hasTy (DTableView′.mir (named 0)) (LL.val (DTableView.the-type (namedLft 1 0 tt (κ₀, tt))) (DTableView′.the-laws (namedLft 1 0 tt (κ₀, tt))) self)) × WT (LL.val (DTableView.the-type (namedLft 1 0 tt (κ₀, tt))) (DTableView′.the-laws (namedLft 1 0 tt (κ₀, tt))) self)) (wt1 : Holds (hasTy DCursor′.mir (LL.val DCursor.the-type DCursor′.the-laws cursor)) × WT (LL.val DCursor.the-type DCursor′.the-laws cursor)) (is1 : Is DCursor.the-row cursor ((LL.val DCursor.the-type DCursor′.the-laws cursor) ∷ [])) where
+    exits : (x : ListedView) (w : Val) → ListedOf self (cursor .at) x → ent 𝓤 (⋆ 𝓤 H A (‵ ((DListedView.the-row (namedLft 1 0 tt (κ₀, tt))) .own x (w ∷ [])) ∷ ‵ (flft κ₀ q₀) ∷ ‵ ((DTableView.the-row (namedLft 1 0 tt (κ₀, tt))) .own self ((LL.val (DTableView.the-type (namedLft 1 0 tt (κ₀, tt))) (DTableView′.the-laws (namedLft 1 0 tt (κ₀, tt))) self) ∷ [])) ∷ [])) (Post w)
     exits x w e =
-        qed W (‵ ((DListedView.the-row (namedLft 1 0 tt (κ₀, tt))) .own x (w ∷ [])) ∷ ‵ (flft κ₀ q₀) ∷ ‵ ((DTableView.the-row (namedLft 1 0 tt (κ₀, tt))) .own self ((DTableView′.lowered self) ∷ [])) ∷ []) ∵
+        qed W (‵ ((DListedView.the-row (namedLft 1 0 tt (κ₀, tt))) .own x (w ∷ [])) ∷ ‵ (flft κ₀ q₀) ∷ ‵ ((DTableView.the-row (namedLft 1 0 tt (κ₀, tt))) .own self ((LL.val (DTableView.the-type (namedLft 1 0 tt (κ₀, tt))) (DTableView′.the-laws (namedLft 1 0 tt (κ₀, tt))) self) ∷ [])) ∷ []) ∵
         suffices ! _ (ends-at 𝓤 H A it.ended stayed (it.clauses 𝓤 H A mem run) W (((κ₀, tt), (q₀, tt), tt, (self, (cursor, tt)), at), tt) w x (tt, (tt, tt)) (tt, (tt, tt))) $ says ! e $
-        nothing ! $ move ! (2 ∷ 0 ∷ []) $ join ! $ frame ! $ nothing ! $ owned ! DCursor.the-row (Is DCursor.the-row) (LL.makes DCursor.the-type DCursor′.the-plain 𝓤 H A) cursor ((DCursor′.lowered cursor) ∷ []) is1 $ fjoin ! $ move ! (2 ∷ 0 ∷ []) $ fjoin ! $ frame ! $ done !
+        nothing ! $ move ! (2 ∷ 0 ∷ []) $ join ! $ frame ! $ nothing ! $ owned ! DCursor.the-row (Is DCursor.the-row) (LL.makes DCursor.the-type DCursor′.the-plain 𝓤 H A) cursor ((LL.val DCursor.the-type DCursor′.the-laws cursor) ∷ []) is1 $ fjoin ! $ move ! (2 ∷ 0 ∷ []) $ fjoin ! $ frame ! $ done !
 
     module _ (C : Calls 𝓤 H) (Λ : Loops 𝓤 H) (fm : FmC 𝓤 H (W .laws) C) (known-next-value : Triple 𝓤 (C #next-value) (Contract-next-value 𝓤 H A mem run)) (known-listed-part : Triple 𝓤 (C #listed-part) (Contract-listed-part 𝓤 H A mem run)) where
-      walk : ent 𝓤 (onEntry 𝓤 H A it.signature (κ₀, tt) (q₀, tt) (self, (cursor, tt)) at) (WpFn 𝓤 H C Λ code.function ((DTableView′.lowered self) ∷ (DCursor′.lowered cursor) ∷ []) Post)
+      walk : ent 𝓤 (onEntry 𝓤 H A it.signature (κ₀, tt) (q₀, tt) (self, (cursor, tt)) at) (WpFn 𝓤 H C Λ code.function ((LL.val (DTableView.the-type (namedLft 1 0 tt (κ₀, tt))) (DTableView′.the-laws (namedLft 1 0 tt (κ₀, tt))) self) ∷ (LL.val DCursor.the-type DCursor′.the-laws cursor) ∷ []) Post)
       walk =
-          qed W (raw (onEntry 𝓤 H A it.signature (κ₀, tt) (q₀, tt) (self, (cursor, tt)) at) ∷ []) ∵ enter ! C Λ code.function ((DTableView′.lowered self) ∷ (DCursor′.lowered cursor) ∷ []) _ $
+          qed W (raw (onEntry 𝓤 H A it.signature (κ₀, tt) (q₀, tt) (self, (cursor, tt)) at) ∷ []) ∵ enter ! C Λ code.function ((LL.val (DTableView.the-type (namedLft 1 0 tt (κ₀, tt))) (DTableView′.the-laws (namedLft 1 0 tt (κ₀, tt))) self) ∷ (LL.val DCursor.the-type DCursor′.the-laws cursor) ∷ []) _ $
           alloc1 ! (λ l0. alloc1 ! (λ l1. alloc1 ! (λ l2. alloc1 ! (λ l3. alloc1 ! (λ l4. alloc1 ! (λ l5. alloc1 ! (λ l6. alloc1 ! (λ l7. alloc1 ! (λ l8. alloc0 ! $
           params1 ! $ pass1 ! (init ! 14 refl wt0) $ pass1 ! (init ! 12 refl wt1) $ pass0 ! $
           move ! (18 ∷ []) $ use1 W ((‵ (flft κ₀ q₀) ⊛ ‵ ftrue) ⊛ ‵ (owns ((DTableView.the-row (namedLft 1 0 tt (κ₀, tt))) ∷ DCursor.the-row ∷ []) (self, (cursor, tt)) at)) (id⊢ 𝓤 _) $ split ! $ split ! $ move ! (1 ∷ []) $ drop ! $ move ! (1 ∷ []) $ fsplit ! $ move ! (1 ∷ []) $ fsplit ! $ drop ! $ drop ! $
@@ -133,14 +133,14 @@ module _ {M : Type 1} (𝓤 : URA M) (H : Heap 𝓤) (A : Atoms 𝓤) (W : Given
           assigns ! (of-opd ! (load ! (from ! (fld ! refl (stop !))) (look-in ! 16 (sub ! 1 refl (whole !))))) (from ! (stop !)) (init ! 6 refl (tt, wt0 .1 .1 .0)) $
           assigns ! (of-opd ! (load ! (from ! (fld ! refl (stop !))) (look-in ! 16 (sub ! 2 refl (whole !))))) (from ! (stop !)) (init ! 4 refl (tt, wt0 .1 .1 .1 .0)) $
           -- call 1, of `read_listing::listing::Cursor::next_value`
-          nothing ! $ owned ! u32 (Is u32) (uint-makes 𝓤 H A W w32) (self .end) ((vint w32 (self .end)) ∷ []) (refl, wt0 .1 .1 .1 .0 .fits) $ fjoin ! $ owned ! u32 (Is u32) (uint-makes 𝓤 H A W w32) (self .start) ((vint w32 (self .start)) ∷ []) (refl, wt0 .1 .1 .0 .fits) $ fjoin ! $ move ! (1 ∷ []) $ use1 W (‵ ((ShrSlice (named 0) κ₀ u8) .own (self .file) ((sliceVal ((self .file) .ptr) (length ((self .file) .now))) ∷ [])) ⊛ ‵ ((DTableView.the-row (namedLft 1 0 tt (κ₀, tt))) .own self ((DTableView′.lowered self) ∷ []))) out-self-0 $ split ! $ move ! (0 ∷ 2 ∷ []) $ fjoin ! $ owned ! DCursor.the-row (Is DCursor.the-row) (LL.makes DCursor.the-type DCursor′.the-plain 𝓤 H A) cursor ((DCursor′.lowered cursor) ∷ []) is1 $ fjoin ! $ nothing ! $ move ! (3 ∷ 0 ∷ []) $ join ! $ use2 W (raw (Contract-next-value 𝓤 H A mem run .pre (to-1))) (asked-1) $
+          nothing ! $ owned ! u32 (Is u32) (uint-makes 𝓤 H A W w32) (self .end) ((vint w32 (self .end)) ∷ []) (refl, wt0 .1 .1 .1 .0 .fits) $ fjoin ! $ owned ! u32 (Is u32) (uint-makes 𝓤 H A W w32) (self .start) ((vint w32 (self .start)) ∷ []) (refl, wt0 .1 .1 .0 .fits) $ fjoin ! $ move ! (1 ∷ []) $ use1 W (‵ ((ShrSlice (named 0) κ₀ u8) .own (self .file) ((sliceVal ((self .file) .ptr) (length ((self .file) .now))) ∷ [])) ⊛ ‵ ((DTableView.the-row (namedLft 1 0 tt (κ₀, tt))) .own self ((LL.val (DTableView.the-type (namedLft 1 0 tt (κ₀, tt))) (DTableView′.the-laws (namedLft 1 0 tt (κ₀, tt))) self) ∷ []))) out-self-0 $ split ! $ move ! (0 ∷ 2 ∷ []) $ fjoin ! $ owned ! DCursor.the-row (Is DCursor.the-row) (LL.makes DCursor.the-type DCursor′.the-plain 𝓤 H A) cursor ((LL.val DCursor.the-type DCursor′.the-laws cursor) ∷ []) is1 $ fjoin ! $ nothing ! $ move ! (3 ∷ 0 ∷ []) $ join ! $ use2 W (raw (Contract-next-value 𝓤 H A mem run .pre (to-1))) (asked-1) $
           calls-at ! fm (Contract-next-value 𝓤 H A mem run) known-next-value (to-1) (and-then ! (load ! (from ! (stop !)) (look ! 14 refl)) (and-then ! (load ! (from ! (stop !)) (look ! 8 refl)) (and-then ! (load ! (from ! (stop !)) (look ! 6 refl)) (and-then ! (load ! (from ! (stop !)) (look ! 4 refl)) (no-more !))))) (λ u1.
           use1 W (later (some (λ (r1 : Valued). ((‵ (flft κ₀ q₀) ⊛ ‵ ftrue) ⊛ ‵ (DValued.the-row .own r1 (u1 ∷ []))) ⊛ raw (ensured 𝓤 H A of-next-value.ended (of-next-value.clauses 𝓤 H A mem run) (κ₀, tt) (cursor, ((self .file), ((self .start), ((self .end), tt)))) tt r1)))) (id⊢ 𝓤 _) $ await ! tt $ pick ! (λ r1.
           split ! $ move ! (1 ∷ []) $ use1 W (raw (fact 𝓤 (r1 ≡ valueAt (now (self .file)) (self .start) (self .end) (cursor .at)))) (said-1 r1) $ heard ! (r1 ≡ valueAt (now (self .file)) (self .start) (self .end) (cursor .at)) (λ e1. split ! $ split ! $ move ! (1 ∷ []) $ drop ! $ move ! (1 ∷ []) $ facts ! DValued.the-row (Is DValued.the-row) (shows 𝓤 H A DValued.the-row) r1 (u1 ∷ []) (λ i1.
           land ! (from ! (stop !)) (init ! 12 refl (EL.lawful DValued.the-type DValued′.the-laws 𝓤 H A W tt .typed r1 _ i1 .0)) $
           assigns ! (of-opd ! (load ! (from ! (fld ! refl (stop !))) (look-in ! 16 (sub ! 0 refl (whole !))))) (from ! (stop !)) (init ! 2 refl (tt, wt0 .1 .0)) $
           -- call 2, of `view::part::listed_part`
-          nothing ! $ owned ! DValued.the-row (Is DValued.the-row) (EL.makes DValued.the-type DValued′.the-plain 𝓤 H A) r1 (u1 ∷ []) i1 $ fjoin ! $ move ! (2 ∷ []) $ use1 W (‵ ((ShrSlice (named 0) κ₀ u8) .own (self .file) ((sliceVal ((self .file) .ptr) (length ((self .file) .now))) ∷ [])) ⊛ ‵ ((DTableView.the-row (namedLft 1 0 tt (κ₀, tt))) .own self ((DTableView′.lowered self) ∷ []))) out-self-0 $ split ! $ move ! (0 ∷ 2 ∷ []) $ fjoin ! $ nothing ! $ move ! (3 ∷ 0 ∷ []) $ join ! $ use2 W (raw (Contract-listed-part 𝓤 H A mem run .pre (to-2 r1 u1))) (asked-2 r1 u1) $
+          nothing ! $ owned ! DValued.the-row (Is DValued.the-row) (EL.makes DValued.the-type DValued′.the-plain 𝓤 H A) r1 (u1 ∷ []) i1 $ fjoin ! $ move ! (2 ∷ []) $ use1 W (‵ ((ShrSlice (named 0) κ₀ u8) .own (self .file) ((sliceVal ((self .file) .ptr) (length ((self .file) .now))) ∷ [])) ⊛ ‵ ((DTableView.the-row (namedLft 1 0 tt (κ₀, tt))) .own self ((LL.val (DTableView.the-type (namedLft 1 0 tt (κ₀, tt))) (DTableView′.the-laws (namedLft 1 0 tt (κ₀, tt))) self) ∷ []))) out-self-0 $ split ! $ move ! (0 ∷ 2 ∷ []) $ fjoin ! $ nothing ! $ move ! (3 ∷ 0 ∷ []) $ join ! $ use2 W (raw (Contract-listed-part 𝓤 H A mem run .pre (to-2 r1 u1))) (asked-2 r1 u1) $
           calls-at ! fm (Contract-listed-part 𝓤 H A mem run) known-listed-part (to-2 r1 u1) (and-then ! (load ! (from ! (stop !)) (look ! 2 refl)) (and-then ! (load ! (from ! (stop !)) (look ! 12 refl)) (no-more !))) (λ u2.
           use1 W (later (some (λ (r2 : RefT (List ℕ)). ((‵ (flft κ₀ q₀) ⊛ ‵ ftrue) ⊛ ‵ ((ShrSlice (named 0) κ₀ u8) .own r2 (u2 ∷ []))) ⊛ raw (ensured 𝓤 H A of-listed-part.ended (of-listed-part.clauses 𝓤 H A mem run) (κ₀, tt) ((self .file), (r1, tt)) tt r2)))) (id⊢ 𝓤 _) $ await ! tt $ pick ! (λ r2.
           split ! $ move ! (1 ∷ []) $ use1 W (raw (fact 𝓤 (ListedIn (self .file) r1 r2))) (said-2 r1 u1 r2) $ heard ! (ListedIn (self .file) r1 r2) (λ e2. split ! $ split ! $ move ! (1 ∷ []) $ drop ! $ move ! (1 ∷ []) $ peeks ! (ShrSlice (named 0) κ₀ u8) (Is (ShrSlice (named 0) κ₀ u8)) (shows 𝓤 H A (ShrSlice (named 0) κ₀ u8)) r2 (u2 ∷ []) (λ i2.
