@@ -1,9 +1,11 @@
-//! Nanoseconds of processor time per operation of this library and of gvdb-rs, measured in turns in one run. Use: bench [--rounds N]
-//! Each call is measured whole, as a user makes it: gvdb-rs takes its own copies of keys and values, and has its table open; ours is lent
-//! its memory, and opens the table and tests the key at each call.
+//! Nanoseconds of processor time per operation of this library, of gvdb-rs and of GLib's reader, measured in turns in one run.
+//! Use: bench [--glib LIBRARY] [--rounds N], with the library that bench/run makes of GLib's reader.
+//! Each call is measured whole, as a user makes it: gvdb-rs takes its own copies of keys and values, and has its table open; so has GLib, which lists
+//! all keys in one call. Ours is lent its memory, and opens the table and tests the key at each call.
 
 #[path = "../../tests/outside/ffi.rs"]
 mod ffi;
+mod glib;
 
 use ffi::Builder;
 use gvdb::read::{oracle as raw, File, HashTable};
@@ -285,68 +287,108 @@ fn median(mut times: Vec<f64>) -> f64 {
     times[times.len() / 2]
 }
 
-/// The medians of both sides, whose turns alternate so that noise meets both; the first turn of each warms up.
-fn measure(rounds: usize, (mut ours, mut theirs): (Turn, Turn)) -> (f64, f64) {
-    let per = |(time, operations): (Duration, usize)| time.as_nanos() as f64 / operations as f64;
-    ours();
-    theirs();
-    let (mut a, mut b) = (Vec::new(), Vec::new());
-    for _ in 0..rounds {
-        a.push(per(ours()));
-        b.push(per(theirs()));
+/// The medians of all sides, whose turns alternate so that noise meets each; the first turn of each warms up.
+fn medians<const SIDES: usize>(rounds: usize, mut sides: [Turn; SIDES]) -> [f64; SIDES] {
+    let mut times = [const { Vec::new() }; SIDES];
+    for round in 0..=rounds {
+        for (side, times) in sides.iter_mut().zip(&mut times) {
+            let (time, operations) = side();
+            if round > 0 {
+                times.push(time.as_nanos() as f64 / operations as f64);
+            }
+        }
     }
-    (median(a), median(b))
+    times.map(median)
 }
 
-/// What is measured, with the ratio that is wanted.
-const GOALS: [(&str, f64); 7] = [
-    ("insert", 0.2),
-    ("write", 0.3),
-    ("insert and write", 0.3),
-    ("lookup, there", 0.6),
-    ("lookup, not there", 0.6),
-    ("key listing", 0.5),
-    ("check / key listing", 1.0),
+fn measure(rounds: usize, (ours, theirs): (Turn, Turn)) -> (f64, f64) {
+    let [ours, theirs] = medians(rounds, [ours, theirs]);
+    (ours, theirs)
+}
+
+/// One operation: ours, gvdb-rs's, and GLib's where it has the like and its reader is there.
+struct Times {
+    ours: f64,
+    theirs: f64,
+    glib: Option<f64>,
+}
+
+fn times(rounds: usize, (ours, theirs): (Turn, Turn), glib: Option<Turn>) -> Times {
+    if let Some(glib) = glib {
+        let [ours, theirs, glib] = medians(rounds, [ours, theirs, glib]);
+        return Times { ours, theirs, glib: Some(glib) };
+    }
+    let (ours, theirs) = measure(rounds, (ours, theirs));
+    Times { ours, theirs, glib: None }
+}
+
+/// What is measured, with the ratios that are wanted to gvdb-rs and to GLib.
+const GOALS: [(&str, f64, Option<f64>); 7] = [
+    ("insert", 0.2, None),
+    ("write", 0.3, None),
+    ("insert and write", 0.3, None),
+    ("lookup, there", 0.5, Some(0.75)),
+    ("lookup, not there", 0.6, Some(0.6)),
+    ("key listing", 0.35, Some(1.3)),
+    ("check / key listing", 1.0, None),
 ];
 
-/// The pairs of times at one number of keys, in the order of GOALS.
-fn column(rounds: usize, count: usize) -> Vec<(f64, f64)> {
+/// The times at one number of keys, in the order of GOALS.
+fn column(rounds: usize, count: usize, reader: Option<glib::Reader>) -> Vec<Times> {
     let ground = Ground::new(count);
     let file = File::from_bytes(Cow::Borrowed(&ground.theirs)).expect("a file");
     let table = file.hash_table().expect("a table");
+    let glib = reader.map(|reader| reader.table(&ground.theirs));
     let items = ground.items();
     let listing = || turn(items, || list_theirs(&table));
     vec![
-        measure(rounds, inserts(&ground)),
-        measure(rounds, writes(&ground)),
-        measure(rounds, both(&ground)),
-        measure(rounds, lookups(&ground, &table, &ground.keys, true)),
-        measure(rounds, lookups(&ground, &table, &ground.absent, false)),
-        measure(rounds, (turn(items, || list_ours(&ground, items)), listing())),
-        measure(rounds, (turn(items, || timed(|| assert_eq!(ffi::check(black_box(&ground.image), 24, ground.end, 0).number, 0)).0), listing())),
+        times(rounds, inserts(&ground), None),
+        times(rounds, writes(&ground), None),
+        times(rounds, both(&ground), None),
+        times(rounds, lookups(&ground, &table, &ground.keys, true), glib.map(|glib| glib.lookups(&ground.keys, true))),
+        times(rounds, lookups(&ground, &table, &ground.absent, false), glib.map(|glib| glib.lookups(&ground.absent, false))),
+        times(rounds, (turn(items, || list_ours(&ground, items)), listing()), glib.map(|glib| glib.listing(&ground))),
+        times(rounds, (turn(items, || timed(|| assert_eq!(ffi::check(black_box(&ground.image), 24, ground.end, 0).number, 0)).0), listing()), None),
     ]
 }
 
+/// A row of ratios, one for each number of keys, with the goal.
+fn print_ratios(name: &str, ratios: &[f64], goal: f64) {
+    let cells: Vec<String> = ratios.iter().map(|ratio| format!("{ratio:.2}")).collect();
+    let verdict = if ratios.iter().all(|ratio| *ratio <= goal) { "met" } else { "missed" };
+    println!("| {name} | {} | at most {goal}: {verdict} |", cells.join(" | "));
+}
+
 fn main() {
-    let arguments: Vec<String> = std::env::args().skip(1).collect();
-    let rounds = match &arguments[..] {
-        [] => 151,
-        [flag, number] if flag == "--rounds" => number.parse().expect("a number of rounds"),
-        _ => panic!("use: bench [--rounds N]"),
-    };
-    let counts = [100, 300, 1000];
-    let columns: Vec<_> = counts.iter().map(|count| column(rounds, *count)).collect();
-    println!("nanoseconds for each key (listing and check: each item), here / gvdb-rs, medians of {rounds} rounds");
-    println!("| operation | {} keys | {} keys | {} keys |\n|---|---|---|---|", counts[0], counts[1], counts[2]);
-    for (row, (name, _)) in GOALS.iter().enumerate() {
-        let cells: Vec<String> = columns.iter().map(|c| format!("{:.0} / {:.0}", c[row].0, c[row].1)).collect();
-        println!("| {name} | {} |", cells.join(" | "));
+    let (mut rounds, mut reader) = (151, None);
+    let mut arguments = std::env::args().skip(1);
+    while let Some(flag) = arguments.next() {
+        match (flag.as_str(), arguments.next()) {
+            ("--rounds", Some(number)) => rounds = number.parse().expect("a number of rounds"),
+            ("--glib", Some(path)) => reader = Some(glib::Reader::load(&path)),
+            _ => panic!("use: bench [--glib LIBRARY] [--rounds N]"),
+        }
     }
-    println!("ratios");
-    for (row, (name, goal)) in GOALS.iter().enumerate() {
-        let ratios: Vec<f64> = columns.iter().map(|c| c[row].0 / c[row].1).collect();
-        let verdict = if ratios.iter().all(|r| r <= goal) { "met" } else { "missed" };
-        println!("| {name} | {:.2} | {:.2} | {:.2} | at most {goal}: {verdict} |", ratios[0], ratios[1], ratios[2]);
+    let counts = [100, 300, 1000];
+    let columns: Vec<_> = counts.iter().map(|count| column(rounds, *count, reader)).collect();
+    println!("nanoseconds for each key (listing and check: each item), here / gvdb-rs / GLib, medians of {rounds} rounds");
+    println!("| operation | {} keys | {} keys | {} keys |\n|---|---|---|---|", counts[0], counts[1], counts[2]);
+    for (row, (name, ..)) in GOALS.iter().enumerate() {
+        let cell = |t: &Times| format!("{:.0} / {:.0}", t.ours, t.theirs) + &t.glib.map_or(String::new(), |glib| format!(" / {glib:.0}"));
+        println!("| {name} | {} |", columns.iter().map(|c| cell(&c[row])).collect::<Vec<_>>().join(" | "));
+    }
+    println!("ratios to gvdb-rs");
+    for (row, (name, goal, _)) in GOALS.iter().enumerate() {
+        print_ratios(name, &columns.iter().map(|c| c[row].ours / c[row].theirs).collect::<Vec<_>>(), *goal);
+    }
+    if reader.is_some() {
+        println!("ratios to GLib's reader");
+    }
+    for (row, (name, _, goal)) in GOALS.iter().enumerate() {
+        let ratios: Option<Vec<f64>> = columns.iter().map(|c| c[row].glib.map(|glib| c[row].ours / glib)).collect();
+        if let (Some(ratios), Some(goal)) = (ratios, goal) {
+            print_ratios(name, &ratios, *goal);
+        }
     }
     print_headers(rounds);
     print_children(rounds);

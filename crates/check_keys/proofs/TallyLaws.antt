@@ -6,7 +6,8 @@ use native.Mathlib.Omega.{arith}
 use native.Mathlib.Nat.{mod-add-div, add-mul-mod-self-left, mod-lt, mod-eq-of-lt, mul-comm, mul-assoc, add-assoc, add-mul, mul-one, add-zero, add-mod-mod, mod-add-mod}
 use lib.ListN.{length, drop, getD}
 use lib.Seq.{drop-cons, drop-length}
-use Rattle.words.specs.Hash.{hashStep, hashFrom, hashBy}
+use Rattle.words.specs.declared.hash.Form.{Form}
+use Rattle.words.specs.Hash.{hashStep, hashFrom, hashBy, ruleOf}
 use Rattle.check_keys.specs.declared.tally.Tally.{Tally}
 use Rattle.check_keys.specs.Tally.{before, prepend, finish, none}
 
@@ -73,3 +74,7 @@ before-is rule s {byte} {wide} {product} {weight} {sum} w b p e =
 pub finish-is : (s : Tally) {front hash : ℕ} → front ≡ (5381 * s .weight) % 2 ^ 32 → hash ≡ (front + s .sum) % 2 ^ 32 → hash ≡ finish s
 unfolding finish
 finish-is s f e = e ∙ ap (λ (n : ℕ). (n + s .sum) % 2 ^ 32) f ∙ sum-mod (5381 * s .weight) (s .sum)
+
+-- a form that is known is that form
+pub form-named : {form known : Form} (bytes : List ℕ) (tally : Tally) {r : Tally} → form ≡ known → r ≡ prepend (ruleOf known) bytes tally → r ≡ prepend (ruleOf form) bytes tally
+form-named bytes tally is e = rw is e

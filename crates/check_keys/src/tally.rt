@@ -40,8 +40,8 @@ fn prepend_byte(byte: u8, tally: Tally, form: Form) -> Tally
     }
 }
 
-// The tally with all of a slice in front.
-fn prepend_all(bytes: &[u8], tally: Tally, form: Form) -> Tally
+// The tally with all of a slice in front, byte by byte.
+fn prepend_each(bytes: &[u8], tally: Tally, form: Form) -> Tally
     ensures { λ r. ⌜ r ≡ prepend (ruleOf form) (now (bytes .entry)) tally ⌝ }
 {
     let mut state = tally;
@@ -51,6 +51,16 @@ fn prepend_all(bytes: &[u8], tally: Tally, form: Form) -> Tally
         state = prepend_byte(bytes[i], state, form);
     }
     state
+}
+
+// The same: the form is chosen once for all bytes, and not at each of them.
+fn prepend_all(bytes: &[u8], tally: Tally, form: Form) -> Tally
+    ensures { λ r. ⌜ r ≡ prepend (ruleOf form) (now (bytes .entry)) tally ⌝ }
+{
+    match form {
+        Form::Plain => prepend_each(bytes, tally, Form::Plain),
+        Form::Signed => prepend_each(bytes, tally, Form::Signed),
+    }
 }
 
 // The hash of a whole key: the front before it is empty, and has the hash 5381.

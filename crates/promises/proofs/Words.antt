@@ -42,6 +42,8 @@ use Rattle.text.proofs.utf8.first_bad.Kinds as first-bad-kinds
 use Rattle.text.proofs.utf8.first_bad.Reads as first-bad-reads
 use Rattle.text.proofs.utf8.is_utf8.Kinds as is-utf8-kinds
 use Rattle.text.proofs.utf8.is_utf8.Reads as is-utf8-reads
+use Rattle.text.proofs.utf8.starts_whole.Kinds as starts-whole-kinds
+use Rattle.text.proofs.utf8.starts_whole.Reads as starts-whole-reads
 use Rattle.layout.proofs.header.read_header.Kinds as read-header-kinds
 use Rattle.layout.proofs.header.read_header.Reads as read-header-reads
 use Rattle.layout.proofs.header.lay_header.Kinds as lay-header-kinds
@@ -124,6 +126,9 @@ first-bad-unique κs a s t x y p q = p ∙ sym q
 
 pub is-utf8-unique : OneAnswer is-utf8-kinds.ps is-utf8-kinds.r is-utf8-reads.Post
 is-utf8-unique κs a s t x y p q = p ∙ sym q
+
+pub starts-whole-unique : OneAnswer starts-whole-kinds.ps starts-whole-kinds.r starts-whole-reads.Post
+starts-whole-unique κs a s t x y p q = p ∙ sym q
 
 -- ---- layout
 

@@ -6,19 +6,20 @@ use mathlib.Core.Bool.{true, false}
 use native.Mathlib.Omega.{arith}
 use native.Mathlib.Nat.{add-sub-cancel-left}
 use lib.ListN.{length, take, drop}
-use borrow.Author.Tests.{ltb-true}
+use lib.Dec.{eqb}
+use borrow.Author.Tests.{ltb-true, lt-ltb, le-ltb, eq-eqb, ne-eqb}
 use Rattle.words.specs.Choice.{pick}
 use Rattle.words.proofs.ChoiceLaws.{pick-with}
 use Rattle.words.proofs.StoreLaws.{length-part}
 use Rattle.text.specs.Utf8.{firstBad, isUtf8}
 use Rattle.text.proofs.CompareLaws.{same-equal, same-refl}
 use Rattle.layout.specs.declared.refusal.Refusal.{Refusal}
-use Rattle.layout.specs.declared.refusal.Refusal.the-variants.{FragmentNotUtf8, ParentsEndless}
+use Rattle.layout.specs.declared.refusal.Refusal.the-variants.{FragmentNotUtf8, ParentOutside, ParentsEndless}
 use Rattle.layout.specs.declared.pointer.Pointed.{Pointed}
 use Rattle.layout.specs.declared.table.Table.{Table}
 use Rattle.layout.specs.declared.item.Item.{Item}
 use Rattle.layout.specs.Pointer.{openPointer}
-use Rattle.layout.specs.Item.{itemAt}
+use Rattle.layout.specs.Item.{itemAt, noItem}
 use Rattle.layout.proofs.OpenLaws.{pointer-inside}
 use Rattle.read.specs.declared.chain.Step.{Step}
 use Rattle.read.specs.Chain.{fragmentOf, parentOf, afterPointer, climbFrom, Joined, joinStep, keyOf, names}
@@ -41,6 +42,21 @@ unfolding fragmentOf
 fragment-size file item l = length-part file (item .key) (item .size) l
 
 -- ---- a step
+
+-- the parent that an item names, test by test
+module _ (count parent : ℕ) where
+  pub parent-root : parent ≡ noItem → parentOf count parent ≡ Step.Root
+  unfolding parentOf pick
+  parent-root root = rw (eq-eqb parent noItem root)
+
+  module _ (some : parent ≡ noItem → ⊥) {at : ℕ} (is : at ≡ parent) where
+    pub parent-up : at < count → parentOf count parent ≡ Step.Up at
+    unfolding parentOf pick
+    parent-up below = rw (ne-eqb parent noItem some, ← is, lt-ltb at count below)
+
+    pub parent-outside : count ≤ at → parentOf count parent ≡ Step.Refused ParentOutside
+    unfolding parentOf pick
+    parent-outside past = rw (ne-eqb parent noItem some, ← is, le-ltb at count past)
 
 -- what a step of an item tells: its fragment lies in the file, and its parent is an item
 unfoldable pub StepFits : List ℕ → ℕ → Item → Step → Type 0
@@ -84,6 +100,14 @@ climb-or file count item = by-pointer (openPointer (length file) (item .key) (it
         pick-with P _ _ _ (λ good n. record { is = refl; inside = pointer-inside _ _ _ _ e .1; text = good }) (λ _ n. absurd (n (FragmentNotUtf8 (firstBad (fragmentOf file item))) refl))
     by-pointer (Pointed.Refused why) e = λ n. absurd (n why refl)
 
+-- the fragment of an item that goes on to its parent is a text
+pub up-text : (file : List ℕ) (count : ℕ) (item : Item) {parent : ℕ} → climbFrom file count item ≡ Step.Up parent → isUtf8 (fragmentOf file item) ≡ true
+up-text file count item {parent} e =
+    climb-or file count item (λ why r.
+    let z : Step.Up parent ≡ Step.Refused why = sym e ∙ r in
+    let y : _≡_ {A = ℕ} 0 1 = cc in
+    omega arith) .text
+
 -- an item whose fragment opens and is UTF-8 goes on to its parent
 pub climb-on : (file : List ℕ) (count : ℕ) (item : Item) → openPointer (length file) (item .key) (item .key + item .size) 1 ≡ Pointed.Inside
     → isUtf8 (fragmentOf file item) ≡ true → climbFrom file count item ≡ parentOf count (item .parent)
@@ -101,16 +125,22 @@ module _ (file : List ℕ) (count : ℕ) (item : Item) {start size : ℕ} (s : s
     unfolding climbFrom afterPointer
     climb-inside = rw (same-place file item s z ∙ inside)
 
-    pub climb-text : isUtf8 (take (start + size - start) (drop start file)) ≡ true → climbFrom file count item ≡ parentOf count (item .parent)
-    unfolding climbFrom afterPointer pick
-    climb-text good = rw (same-place file item s z ∙ inside, sym (ap isUtf8 (fragment-taken file item s z)) ∙ good)
+    -- the fragment is good to its end, or not
+    module _ {bad : ℕ} (e : bad ≡ firstBad (take (start + size - start) (drop start file))) where
+      is-text : isUtf8 (fragmentOf file item) ≡ eqb bad size
+      unfolding isUtf8
+      is-text =
+          let fits : item .key + item .size ≤ length file = omega (arith, pointer-inside _ _ _ _ inside .1, s, z) in
+          ap (λ (n : ℕ). eqb n (length (fragmentOf file item))) (sym (e ∙ ap firstBad (fragment-taken file item s z))) ∙ ap (eqb bad) (fragment-size file item fits ∙ sym z)
 
-    pub climb-no-text : isUtf8 (take (start + size - start) (drop start file)) ≡ false → {at : ℕ} → at ≡ firstBad (take (start + size - start) (drop start file))
-        → Step.Refused (FragmentNotUtf8 at) ≡ climbFrom file count item
-    unfolding climbFrom afterPointer pick
-    climb-no-text bad e =
-        let same = fragment-taken file item s z in
-        rw (same-place file item s z ∙ inside, sym (ap isUtf8 same) ∙ bad) (ap (λ (n : ℕ). Step.Refused (FragmentNotUtf8 n)) (e ∙ ap firstBad same))
+      pub climb-text : bad ≡ size → climbFrom file count item ≡ parentOf count (item .parent)
+      unfolding pick
+      climb-text whole = climb-inside ∙ rw (is-text ∙ eq-eqb bad size whole)
+
+      pub climb-no-text : (bad ≡ size → ⊥) → Step.Refused (FragmentNotUtf8 bad) ≡ climbFrom file count item
+      unfolding pick
+      climb-no-text cut =
+          ap (λ (n : ℕ). Step.Refused (FragmentNotUtf8 n)) (e ∙ ap firstBad (fragment-taken file item s z)) ∙ sym (climb-inside ∙ rw (is-text ∙ ne-eqb bad size cut))
 
 -- ---- a key
 

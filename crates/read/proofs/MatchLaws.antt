@@ -11,10 +11,9 @@ use lib.Dec.{eqb}
 use borrow.Author.Tests.{le-leb, eqb-true, eqb-false}
 use Rattle.words.specs.Choice.{pick}
 use Rattle.words.proofs.ChoiceLaws.{pick-with, pick-same, both}
-use Rattle.text.specs.Ascii.{isAscii}
-use Rattle.text.specs.Utf8.{firstBad, isUtf8}
+use Rattle.text.specs.Utf8.{firstBad, isUtf8, startsWhole}
 use Rattle.text.specs.Compare.{sameBytes, endsAt}
-use Rattle.text.proofs.AsciiLaws.{ascii-append}
+use Rattle.text.proofs.Utf8Parts.{front-text, end-text}
 use Rattle.text.proofs.CompareLaws.{same-equal, same-refl, equal-same, same-lengths, ends-split}
 use Rattle.layout.specs.declared.refusal.Refusal.{Refusal}
 use Rattle.layout.specs.declared.refusal.Refusal.the-variants.{FragmentNotUtf8}
@@ -26,7 +25,7 @@ use Rattle.layout.specs.Item.{itemAt}
 use Rattle.read.specs.declared.chain.Step.{Step}
 use Rattle.read.specs.declared.chain.Matched.{Matched}
 use Rattle.read.specs.Chain.{parentOf, Joined, append, joinStep, keyOf, names, matchTail, matchStep, matchText, matchItem}
-use Rattle.read.proofs.ChainLaws.{fragment-taken, climb-refused, climb-inside, StepFits, climb-fits}
+use Rattle.read.proofs.ChainLaws.{fragment-taken, climb-refused, climb-inside, up-text, StepFits, climb-fits}
 
 -- ---- two keys with one tail
 
@@ -106,17 +105,10 @@ module _ (f key : List ℕ) where
   unfolding matchText
   match-other step other = step-other other (pick (isUtf8 f) step (Step.Refused (FragmentNotUtf8 (firstBad f))))
 
-  pub match-no-text : (step : Step) → isUtf8 f ≡ false → Matched.Ended false ≡ matchText step f key
-  unfolding matchText matchStep pick
-  match-no-text step bad = rw bad
-
-  -- the key ends in the fragment, which is a text
+  -- the key ends in the fragment
   module _ (ends : endsAt key (length key) f ≡ true) where
-    -- as ASCII as the key
-    pub ends-ascii : isAscii key ≡ true → isAscii f ≡ true
-    ends-ascii e =
-        let split : key ≡ take (length key - length f) key ++ f = sym (take-length key) ∙ ends-split key (length key) f ends .1 in
-        both (isAscii (take (length key - length f) key)) (isAscii f) (sym (ascii-append (take (length key - length f) key) f) ∙ sym (ap isAscii split) ∙ e) .1
+    joins : key ≡ take (length key - length f) key ++ f
+    joins = sym (take-length key) ∙ ends-split key (length key) f ends .1
 
     root-length : eqb (length f) (length key) ≡ sameBytes f key
     root-length = go (eqb (length f) (length key)) refl
@@ -124,22 +116,37 @@ module _ (f key : List ℕ) where
         go : (q : Bool) → eqb (length f) (length key) ≡ q → q ≡ sameBytes f key
         go true e =
             let none : length key - length f ≡ 0 = omega (arith, eqb-true (length f) (length key) e) in
-            let whole : key ≡ f = sym (take-length key) ∙ ends-split key (length key) f ends .1 ∙ ap (λ (n : ℕ). take n key ++ f) none in
+            let whole : key ≡ f = joins ∙ ap (λ (n : ℕ). take n key ++ f) none in
             sym (equal-same f key (sym whole))
         go false e = sym (same-lengths f key (eqb-false _ _ e))
 
-    module _ (good : isUtf8 f ≡ true) where
-      pub text-refused : {step : Step} {why : Refusal} → step ≡ Step.Refused why → Matched.Ended false ≡ matchText step f key
-      unfolding matchText matchStep pick
-      text-refused e = rw (good, e)
+    -- at the end of a key that is a text, it is one just where it cuts no character, and so is the front
+    module _ (text : isUtf8 key ≡ true) where
+      ends-text : startsWhole f ≡ isUtf8 f
+      ends-text = end-text (take (length key - length f) key) f (sym (ap isUtf8 joins) ∙ text)
 
-      pub text-root : {step : Step} → step ≡ Step.Root → Matched.Ended (eqb (length f) (length key)) ≡ matchText step f key
-      unfolding matchText matchStep pick
-      text-root e = rw (good, e, root-length)
+      ends-front : isUtf8 f ≡ true → isUtf8 (take (length key - length f) key) ≡ true
+      ends-front good = front-text (take (length key - length f) key) f (sym (ap isUtf8 joins) ∙ text) (ends-text ∙ good)
 
-      pub text-up : {step : Step} {parent : ℕ} → step ≡ Step.Up parent → Matched.Rest parent (length key - length f) ≡ matchText step f key
-      unfolding matchText matchStep matchTail pick
-      text-up e = rw (good, e, ends)
+      pub match-cut : (step : Step) → startsWhole f ≡ false → Matched.Ended false ≡ matchText step f key
+      unfolding matchText matchStep pick
+      match-cut step cuts = rw (sym ends-text ∙ cuts)
+
+      module _ (whole : startsWhole f ≡ true) where
+        good : isUtf8 f ≡ true
+        good = sym ends-text ∙ whole
+
+        pub text-refused : {step : Step} {why : Refusal} → step ≡ Step.Refused why → Matched.Ended false ≡ matchText step f key
+        unfolding matchText matchStep pick
+        text-refused e = rw (good, e)
+
+        pub text-root : {step : Step} → step ≡ Step.Root → Matched.Ended (eqb (length f) (length key)) ≡ matchText step f key
+        unfolding matchText matchStep pick
+        text-root e = rw (good, e, root-length)
+
+        pub text-up : {step : Step} {parent : ℕ} → step ≡ Step.Up parent → Matched.Rest parent (length key - length f) ≡ matchText step f key
+        unfolding matchText matchStep matchTail pick
+        text-up e = rw (good, e, ends)
 
 -- what the item at hand says, with its fragment's offset and size as the code has them
 module _ (file : List ℕ) (t : Table) (index : ℕ) (key : List ℕ) {item : Item} (is : item ≡ itemAt file t index) {start size : ℕ} (s : start ≡ item .key) (z : size ≡ item .size) where
@@ -147,37 +154,40 @@ module _ (file : List ℕ) (t : Table) (index : ℕ) (key : List ℕ) {item : It
   unfolding matchItem matchStep
   match-refused e = rw (← is, ← climb-refused file (t .count) item s z e)
 
-  pub match-inside : {step : Step} → step ≡ parentOf (t .count) (item .parent) → openPointer (length file) start (start + size) 1 ≡ Pointed.Inside
-      → matchText step (take (start + size - start) (drop start file)) key ≡ matchItem file t index key
+  pub match-inside : openPointer (length file) start (start + size) 1 ≡ Pointed.Inside
+      → matchText (parentOf (t .count) (item .parent)) (take (start + size - start) (drop start file)) key ≡ matchItem file t index key
   unfolding matchItem matchText
-  match-inside up e = rw (up, ← is, climb-inside file (t .count) item s z e, fragment-taken file item s z)
+  match-inside e = rw (← is, climb-inside file (t .count) item s z e, fragment-taken file item s z)
 
 -- what a match that goes on tells
-unfoldable pub MatchFits : ℕ → ℕ → Matched → Type 0
-MatchFits count size (Matched.Ended answer) = Unit
-MatchFits count size (Matched.Rest parent rest) = (parent < count) × (rest ≤ size)
+unfoldable pub MatchFits : ℕ → List ℕ → Matched → Type 0
+MatchFits count key (Matched.Ended answer) = Unit
+MatchFits count key (Matched.Rest parent rest) = (parent < count) × (rest ≤ length key) × (isUtf8 key ≡ true → isUtf8 (take rest key) ≡ true)
 
-match-step-fits : (file : List ℕ) (count : ℕ) (item : Item) (s : Step) (f key : List ℕ) → StepFits file count item s → MatchFits count (length key) (matchStep s f key)
+match-step-fits : (file : List ℕ) (count : ℕ) (item : Item) (s : Step) (f key : List ℕ) → StepFits file count item s → ((parent : ℕ) → s ≡ Step.Up parent → isUtf8 f ≡ true)
+    → MatchFits count key (matchStep s f key)
 unfolding matchStep matchTail StepFits MatchFits
-match-step-fits file count item Step.Root f key h = tt
-match-step-fits file count item (Step.Refused why) f key h = tt
-match-step-fits file count item (Step.Up parent) f key h =
-    pick-with (MatchFits count (length key)) _ _ _ (λ _. (h .1, omega arith)) (λ _. tt)
+match-step-fits file count item Step.Root f key h text = tt
+match-step-fits file count item (Step.Refused why) f key h text = tt
+match-step-fits file count item (Step.Up parent) f key h text =
+    pick-with (MatchFits count key) _ _ _ (λ ends. (h .1, omega arith, λ good. ends-front f key ends good (text parent refl))) (λ _. tt)
 
-match-fits : (file : List ℕ) (t : Table) (index : ℕ) (key : List ℕ) → MatchFits (t .count) (length key) (matchItem file t index key)
+match-fits : (file : List ℕ) (t : Table) (index : ℕ) (key : List ℕ) → MatchFits (t .count) key (matchItem file t index key)
 unfolding matchItem
-match-fits file t index key = match-step-fits file (t .count) (itemAt file t index) _ _ key (climb-fits file (t .count) (itemAt file t index))
+match-fits file t index key =
+    match-step-fits file (t .count) (itemAt file t index) _ _ key (climb-fits file (t .count) (itemAt file t index)) (λ parent e. up-text file (t .count) (itemAt file t index) e)
 
 -- ---- the loop: what the chain of the present item says of the front of the key that is left is what the whole chain says of the whole key
 
 pub record Climbing (file : List ℕ) (t : Table) (index : ℕ) (key : List ℕ) (at end left : ℕ) : Type 0 where
   pub below : at < t .count
   pub within : end ≤ length key
+  pub text : isUtf8 (take end key) ≡ true
   pub same : names (keyOf file t left at) (take end key) ≡ names (keyOf file t (t .count) index) key
 
 module _ (file : List ℕ) (t : Table) (index : ℕ) (key : List ℕ) where
-  pub start : index < t .count → Climbing file t index key index (length key) (t .count)
-  start h = record { below = h; within = omega arith; same = rw take-length }
+  pub start : index < t .count → isUtf8 key ≡ true → Climbing file t index key index (length key) (t .count)
+  start h good = record { below = h; within = omega arith; text = ap isUtf8 (take-length key) ∙ good; same = rw take-length }
 
   module _ {at end left : ℕ} (i : Climbing file t index key at end left) where
     turn : 0 < left → {m : Matched} → m ≡ matchItem file t at (take end key) → afterMatch file t (left - 1) (take end key) m ≡ names (keyOf file t (t .count) index) key
@@ -197,12 +207,13 @@ module _ (file : List ℕ) (t : Table) (index : ℕ) (key : List ℕ) where
     unfolding afterMatch MatchFits
     up h is {parent} {size} told =
         let e : matchItem file t at (take end key) ≡ Matched.Rest parent size = sym is ∙ told in
-        let fits : (parent < t .count) × (size ≤ length (take end key)) = subst (MatchFits (t .count) (length (take end key))) e (match-fits file t at (take end key)) in
+        let fits = subst (MatchFits (t .count) (take end key)) e (match-fits file t at (take end key)) in
         let shorter : length (take end key) ≡ end = length-take-le end key (i .within) in
-        let le : size ≤ end = omega arith in
+        let le : size ≤ end = omega (arith, fits .1) in
         record {
           below = fits .0;
           within = omega (arith, i .within);
+          text = sym (ap isUtf8 (take-take size end key le)) ∙ fits .2 (i .text);
           same = ap (names (keyOf file t (left - 1) parent)) (sym (take-take size end key le)) ∙ turn h (sym e);
         }
 

@@ -11,7 +11,6 @@ use layout::refusal::Refusal;
 use layout::table::Opened;
 use layout::table::Table;
 use layout::table::open_table;
-use text::ascii::is_ascii;
 use text::utf8::first_bad;
 use text::utf8::is_utf8;
 use words::align::Alignment;
@@ -20,6 +19,7 @@ use words::field::word_at;
 use words::hash::hash_key;
 use words::wide::word_size;
 ghost use mathlib.Core.Path.{_≡_};
+ghost use mathlib.Core.Bool.{true};
 ghost use Prim.Native.Nat.{_<_};
 ghost use Rattle.words.specs.Hash.{hashBy, ruleOf};
 ghost use Rattle.text.specs.Utf8.{isUtf8};
@@ -95,7 +95,7 @@ fn item_matches(
     key: &[u8],
     manner: Manner,
 ) -> bool
-    requires { ⌜ InFile (now file) table × (index < table .count) × (hash ≡ hashBy (ruleOf (manner .form)) (now key)) ⌝ }
+    requires { ⌜ InFile (now file) table × (index < table .count) × (hash ≡ hashBy (ruleOf (manner .form)) (now key)) × (isUtf8 (now key) ≡ true) ⌝ }
     ensures { λ r. ⌜ r ≡ itemMatches (mannerOf manner) (now (file .entry)) table (now (key .entry)) index ⌝ }
 {
     let item = item_at(file, table, index);
@@ -108,7 +108,7 @@ fn item_matches(
 
 // The first item of a run that matches.
 fn first_of(file: &[u8], table: Table, hash: u32, run: Run, key: &[u8], manner: Manner) -> Found
-    requires { ⌜ InFile (now file) table × (hash ≡ hashBy (ruleOf (manner .form)) (now key)) ⌝ }
+    requires { ⌜ InFile (now file) table × (hash ≡ hashBy (ruleOf (manner .form)) (now key)) × (isUtf8 (now key) ≡ true) ⌝ }
     ensures { λ r. ⌜ r ≡ firstOf (mannerOf manner) (now (file .entry)) table (now (key .entry)) run ⌝ }
 {
     let last = run.last;
@@ -127,9 +127,9 @@ fn first_of(file: &[u8], table: Table, hash: u32, run: Run, key: &[u8], manner: 
 }
 
 // gvdb-rs: get_hash_item.
-// The item that a key names.
+// The item that a key names, which is UTF-8.
 pub fn find_item(file: &[u8], table: Table, key: &[u8], manner: Manner) -> Found
-    requires { ⌜ InFile (now file) table ⌝ }
+    requires { ⌜ InFile (now file) table × (isUtf8 (now key) ≡ true) ⌝ }
     ensures { λ r. ⌜ r ≡ findItem (mannerOf manner) (now (file .entry)) table (now (key .entry)) ⌝ }
 {
     let buckets = table.buckets;
@@ -149,22 +149,12 @@ pub fn find_item(file: &[u8], table: Table, key: &[u8], manner: Manner) -> Found
     }
 }
 
-// Whether a key is UTF-8. An ASCII key is, and most are: told here it costs no call, which is a third of looking up a key that is not there.
-fn is_key(key: &[u8]) -> bool
-    ensures { λ r. ⌜ r ≡ isUtf8 (now (key .entry)) ⌝ }
-{
-    if is_ascii(key) {
-        return true;
-    }
-    is_utf8(key)
-}
-
 // The item of a key in an open table: 8 with the offset in the key, 12, or the item.
 pub fn lookup_in(file: &[u8], table: Table, key: &[u8], manner: Manner) -> Sought
     requires { ⌜ InFile (now file) table ⌝ }
     ensures { λ r. ⌜ r ≡ lookupIn (mannerOf manner) (now (file .entry)) (now (key .entry)) table ⌝ }
 {
-    if is_key(key) {
+    if is_utf8(key) {
         match find_item(file, table, key, manner) {
             Found::Nothing => Sought::Refused(Refusal::KeyNotFound),
             Found::At(index) => Sought::Item(item_at(file, table, index)),
@@ -212,7 +202,7 @@ fn value_in(file: &[u8], table: Table, key: &[u8], manner: Manner) -> Looked
     requires { ⌜ InFile (now file) table ⌝ }
     ensures { λ r. ⌜ r ≡ atItem (lookupIn (mannerOf manner) (now (file .entry)) (now (key .entry)) table) (λ item. valueOf (now (file .entry)) item) ⌝ }
 {
-    if is_key(key) {
+    if is_utf8(key) {
         match find_item(file, table, key, manner) {
             Found::Nothing => Looked::Refused(Refusal::KeyNotFound),
             Found::At(index) => value_of(file, item_at(file, table, index)),
@@ -238,7 +228,7 @@ fn nested_in(file: &[u8], table: Table, key: &[u8], manner: Manner) -> Looked
     requires { ⌜ InFile (now file) table ⌝ }
     ensures { λ r. ⌜ r ≡ atItem (lookupIn (mannerOf manner) (now (file .entry)) (now (key .entry)) table) (λ item. nestedOf (now (file .entry)) item) ⌝ }
 {
-    if is_key(key) {
+    if is_utf8(key) {
         match find_item(file, table, key, manner) {
             Found::Nothing => Looked::Refused(Refusal::KeyNotFound),
             Found::At(index) => nested_of(file, item_at(file, table, index)),

@@ -1,6 +1,6 @@
 -- UTF-8, from the grammar of RFC 3629, section 4.
 use Prim.Native.Nat.{ℕ, zero, suc}
-use mathlib.Core.Bool.{Bool, true, false, _&&_, _||_}
+use mathlib.Core.Bool.{Bool, true, false, _&&_, _||_, not}
 use mathlib.Core.List.{List, [], _∷_}
 use lib.ListN.{length, getD}
 use lib.Dec.{leb, eqb}
@@ -64,3 +64,7 @@ firstBad s = goodFrom 0 s
 -- a text is UTF-8 where no sequence is bad
 unfoldable pub isUtf8 : List ℕ → Bool
 isUtf8 s = eqb (firstBad s) (length s)
+
+-- whether no character is cut where the bytes start: there are none, or the first is no tail byte
+unfoldable pub startsWhole : List ℕ → Bool
+startsWhole s = not (tail (getD s 0 0))

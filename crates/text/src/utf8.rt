@@ -3,7 +3,7 @@ use crate::ascii::is_ascii;
 ghost use mathlib.Core.Path.{_≡_};
 ghost use Prim.Native.Nat.{_<_};
 ghost use lib.ListN.{length, getD, drop};
-ghost use Rattle.text.specs.Utf8.{between, tail, startsThree, startsFour, sequenceLen, stepLen, firstBad, isUtf8};
+ghost use Rattle.text.specs.Utf8.{between, tail, startsThree, startsFour, sequenceLen, stepLen, firstBad, isUtf8, startsWhole};
 
 fn is_between(low: u8, high: u8, b: u8) -> bool
     ensures { λ r. ⌜ r ≡ between low high b ⌝ }
@@ -79,7 +79,7 @@ fn step_len(s: &[u8], at: usize) -> usize
     sequence_len(b0, b1, b2, b3)
 }
 
-// The same where it is not known to be ASCII: sequence by sequence.
+// Where the first sequence that RFC 3629 does not allow starts, or the length of a valid text: sequence by sequence.
 fn scan(s: &[u8]) -> usize
     ensures { λ r. ⌜ r ≡ firstBad (now (s .entry)) ⌝ }
 {
@@ -94,7 +94,7 @@ fn scan(s: &[u8]) -> usize
     at
 }
 
-// Where the first sequence that RFC 3629 does not allow starts, or the length of a valid text. Most texts are ASCII, which takes less time to tell.
+// The same; most texts are ASCII, which takes less time to tell.
 pub fn first_bad(s: &[u8]) -> usize
     ensures { λ r. ⌜ r ≡ firstBad (now (s .entry)) ⌝ }
 {
@@ -108,5 +108,15 @@ pub fn first_bad(s: &[u8]) -> usize
 pub fn is_utf8(s: &[u8]) -> bool
     ensures { λ r. ⌜ r ≡ isUtf8 (now (s .entry)) ⌝ }
 {
-    first_bad(s) == s.len()
+    if is_ascii(s) {
+        return true;
+    }
+    scan(s) == s.len()
+}
+
+// Whether no character is cut where a slice starts: it is empty, or its first byte is no tail byte.
+pub fn starts_whole(s: &[u8]) -> bool
+    ensures { λ r. ⌜ r ≡ startsWhole (now (s .entry)) ⌝ }
+{
+    !is_tail(byte_or_zero(s, 0))
 }

@@ -1,10 +1,10 @@
 -- Laws about the hash, for every rule for a byte.
 use mathlib.Core.Path.{_≡_, refl, sym, ap, _∙_}
 use mathlib.Core.List.{List, [], _∷_, _++_}
-use Prim.Native.Nat.{ℕ, _+_, _-_, _*_, _^_, _≤_, _<_}
+use Prim.Native.Nat.{ℕ, _+_, _-_, _*_, _/_, _%_, _^_, _≤_, _<_}
 use native.Mathlib.Numerals.{add-one}
 use native.Mathlib.Omega.{arith}
-use native.Mathlib.Nat.{mul-le-mul, le-pred-of-lt}
+use native.Mathlib.Nat.{mul-le-mul, le-pred-of-lt, mod-add-mod, add-mod-mod, add-mul-mod-self-left}
 use lib.ListN.{length, getD, take, drop, drop-of-length-le}
 use lib.Seq.{drop-cons, take-add, take-all}
 use mathlib.Core.Bool.{true, false}
@@ -14,6 +14,16 @@ use Rattle.words.specs.Choice.{pick}
 use Rattle.words.specs.declared.hash.Form.{Form}
 use Rattle.words.specs.Hash.{hashStep, hashFrom, hashBy, plain, signed, ruleOf}
 
+-- a remainder may be taken of a factor, and of summands, first
+mod-step : (h n : ℕ) → (h % 2 ^ 32 * 33 + n) % 2 ^ 32 ≡ (h * 33 + n) % 2 ^ 32
+mod-step h n =
+    let spread : h * 33 + n ≡ (h % 2 ^ 32 * 33 + n) + 2 ^ 32 * (h / 2 ^ 32 * 33) = omega arith in
+    sym (ap (λ (m : ℕ). m % 2 ^ 32) spread ∙ add-mul-mod-self-left (h % 2 ^ 32 * 33 + n) (2 ^ 32) (h / 2 ^ 32 * 33))
+
+pub mod-sum : (h a b c d : ℕ)
+    → (h % 2 ^ 32 + ((a % 2 ^ 32 + b % 2 ^ 32) % 2 ^ 32 + (c % 2 ^ 32 + d) % 2 ^ 32) % 2 ^ 32) % 2 ^ 32 ≡ (h + (a + b + (c + d))) % 2 ^ 32
+mod-sum h a b c d = simp (mod-add-mod, add-mod-mod)
+
 module _ (rule : ℕ → ℕ) where
   -- one turn of the loop, and its end
   pub hash-turn : (key : List ℕ) (i h : ℕ) → i < length key
@@ -21,9 +31,45 @@ module _ (rule : ℕ → ℕ) where
   unfolding hashFrom
   hash-turn key i h below = rw (add-one, drop-cons key i 0)
 
+  -- a turn by what its byte counts
+  hash-turn-by : (key : List ℕ) (i h n : ℕ) {a : ℕ} → a ≡ rule (getD key i 0) → i < length key → n ≡ i + 1
+      → hashFrom rule h (drop i key) ≡ hashFrom rule (hashStep plain h a) (drop n key)
+  hash-turn-by key i h n {a} e below next =
+      hash-turn key i h below ∙ ap (λ (m : ℕ). hashFrom rule ((h * 33 + m) % 2 ^ 32) (drop (i + 1) key)) (sym e)
+      ∙ ap (λ (m : ℕ). hashFrom rule (hashStep plain h a) (drop m key)) (sym next)
+
   pub hash-end : (key : List ℕ) (i h : ℕ) → length key ≤ i → hashFrom rule h (drop i key) ≡ h
   unfolding hashFrom
   hash-end key i h past = rw (drop-of-length-le key past)
+
+  -- a stride is four steps: times 33^4, and what the four bytes count by their powers of 33
+  pub four-steps : (h a b c d : ℕ)
+      → hashFrom rule h (a ∷ b ∷ c ∷ d ∷ []) ≡ (h * 1185921 + (rule a * 35937 + rule b * 1089 + (rule c * 33 + rule d))) % 2 ^ 32
+  unfolding hashFrom
+  four-steps h a b c d =
+      let one = h * 33 + rule a in
+      let two = one * 33 + rule b in
+      let three = two * 33 + rule c in
+      let all : three * 33 + rule d ≡ h * 1185921 + (rule a * 35937 + rule b * 1089 + (rule c * 33 + rule d)) = omega arith in
+      ap (λ (n : ℕ). ((n * 33 + rule c) % 2 ^ 32 * 33 + rule d) % 2 ^ 32) (mod-step one (rule b))
+      ∙ ap (λ (n : ℕ). (n * 33 + rule d) % 2 ^ 32) (mod-step two (rule c))
+      ∙ mod-step three (rule d)
+      ∙ ap (λ (n : ℕ). n % 2 ^ 32) all
+
+  -- a turn of the loop that takes four bytes, by what they count
+  pub hash-stride : (key : List ℕ) (i h : ℕ) {a b c d v : ℕ} → i + 4 ≤ length key
+      → a ≡ rule (getD key i 0) → b ≡ rule (getD key (i + 1) 0) → c ≡ rule (getD key (i + 2) 0) → d ≡ rule (getD key (i + 3) 0)
+      → v ≡ hashFrom plain h (a ∷ b ∷ c ∷ d ∷ []) → hashFrom rule h (drop i key) ≡ hashFrom rule v (drop (i + 4) key)
+  unfolding hashFrom
+  hash-stride key i h {a} {b} {c} {d} fits ea eb ec ed told =
+      let one = hashStep plain h a in
+      let two = hashStep plain one b in
+      let three = hashStep plain two c in
+      hash-turn-by key i h (i + 1) ea (omega arith) (omega arith)
+      ∙ hash-turn-by key (i + 1) one (i + 2) eb (omega arith) (omega arith)
+      ∙ hash-turn-by key (i + 2) two (i + 3) ec (omega arith) (omega arith)
+      ∙ hash-turn-by key (i + 3) three (i + 4) ed (omega arith) (omega arith)
+      ∙ ap (λ (n : ℕ). hashFrom rule n (drop (i + 4) key)) (sym told)
 
   -- the hash of two parts joined goes on from the first part's
   pub hash-from-append : (a b : List ℕ) (h : ℕ) → hashFrom rule h (a ++ b) ≡ hashFrom rule (hashFrom rule h a) b

@@ -1,57 +1,26 @@
--- `check_keys::tally::prepend_all` meets its contract: the invariant says that the bytes from `i` on are in the tally.
-use mathlib.Core.Path.{_≡_, _∙_}
-use native.Mathlib.Omega.{arith}
-use Prim.Native.Nat.{_≤_}
-use lib.ListN.{length, drop}
-use Rattle.words.specs.Hash.{ruleOf}
-use Rattle.check_keys.specs.Tally.{prepend}
-use Rattle.check_keys.proofs.TallyLaws.{prepend-turn, prepend-start}
+-- `check_keys::tally::prepend_all` meets its contract: each arm names the form that is given.
 use borrow.Author.Needs.{needs}
+use Rattle.check_keys.proofs.TallyLaws.{form-named}
 use Rattle.check_keys.proofs.tally.prepend_all.Statement.{statement}
 use Rattle.check_keys.proofs.tally.prepend_all.Tie as tie
 
-abbrev Inv-loop : tie.InvT-loop
-Inv-loop bytes form state₀ i₀ state i = (i ≤ length bytes) × (state ≡ prepend (ruleOf form) (drop i bytes) state₀)
+enum-told : tie.Need-enum-told
+enum-told c = search needs
 
-abbrev μ-loop : tie.MeasureT-loop
-μ-loop bytes form state₀ i₀ state i = i
+prepend-each-requires : tie.Need-prepend-each-requires
+prepend-each-requires c κs = search needs
 
-loop-holds : tie.Need-loop-holds Inv-loop μ-loop
-loop-holds c = (search needs, prepend-start _ (c .before .args .bytes .now) (c .before .args .tally))
+enum-told-2 : tie.Need-enum-told-2
+enum-told-2 c = search needs
 
-sub-i : tie.Need-sub-i Inv-loop μ-loop
-sub-i c = search needs
+prepend-each-requires-2 : tie.Need-prepend-each-requires-2
+prepend-each-requires-2 c κs = search needs
 
-shared-slice-read-prepend-byte : tie.Need-shared-slice-read-prepend-byte Inv-loop μ-loop
-shared-slice-read-prepend-byte c = search needs
+returns : tie.Need-returns
+returns c = form-named _ _ (c .before .enum-told .given .1) (c .prepend-each .ensures)
 
-prepend-byte-requires : tie.Need-prepend-byte-requires Inv-loop μ-loop
-prepend-byte-requires c κs = search needs
-
-loop-less : tie.Need-loop-less Inv-loop μ-loop
-loop-less c = search needs
-
-loop-again : tie.Need-loop-again Inv-loop μ-loop
-loop-again c = (
-  omega arith,
-  c .prepend-byte .ensures ∙ rw (c .before .before .before .loop .inv .1) (prepend-turn _ _ _ _ (c .before .before .loop-test .taken) (c .before .before .before .loop .inv .0)),
-)
-
-returns : tie.Need-returns Inv-loop μ-loop
-returns c =
-    let none : c .before .loop .i ≡ 0 = omega arith in
-    rw none at (c .before .loop .inv .1)
+returns-2 : tie.Need-returns-2
+returns-2 c = form-named _ _ (c .before .enum-told2 .given .1) (c .prepend-each2 .ensures)
 
 pub prepend-all-spec : {M : Type 1} → statement M
-prepend-all-spec =
-    tie.close
-    (tie.spec
-    Inv-loop
-    μ-loop
-    loop-holds
-    sub-i
-    shared-slice-read-prepend-byte
-    prepend-byte-requires
-    loop-less
-    loop-again
-    returns)
+prepend-all-spec = tie.close (tie.spec enum-told prepend-each-requires enum-told-2 prepend-each-requires-2 returns returns-2)

@@ -1,23 +1,19 @@
 -- `read::chain::chain_names` meets its contract: the invariant is `Climbing`, and the measure is the steps left.
-use mathlib.Core.Path.{sym, _∙_}
+use mathlib.Core.Path.{sym}
 use borrow.Author.Needs.{needs}
 use lib.Seq.{length-take-le}
-use Rattle.text.proofs.AsciiLaws.{ascii-take}
 use Rattle.read.proofs.MatchLaws.{Climbing, start, ended, up, over}
 use Rattle.read.proofs.chain.chain_names.Statement.{statement}
 use Rattle.read.proofs.chain.chain_names.Tie as tie
 
 abbrev Inv-loop : tie.InvT-loop
-Inv-loop file table index key ascii at₀ end₀ left₀ at end left = Climbing file table index key at end left
+Inv-loop file table index key at₀ end₀ left₀ at end left = Climbing file table index key at end left
 
 abbrev μ-loop : tie.MeasureT-loop
-μ-loop file table index key ascii at₀ end₀ left₀ at end left = left
-
-is-ascii-requires : tie.Need-is-ascii-requires Inv-loop μ-loop
-is-ascii-requires c κs = search needs
+μ-loop file table index key at₀ end₀ left₀ at end left = left
 
 loop-holds : tie.Need-loop-holds Inv-loop μ-loop
-loop-holds c = start _ _ _ _ (search needs)
+loop-holds c = start _ _ _ _ (search needs) (search needs)
 
 slice-aggregate-match-item : tie.Need-slice-aggregate-match-item Inv-loop μ-loop
 slice-aggregate-match-item c = sym (length-take-le _ _ (c .before .before .loop .inv .within))
@@ -25,8 +21,7 @@ slice-aggregate-match-item c = sym (length-take-le _ _ (c .before .before .loop 
 match-item-requires : tie.Need-match-item-requires Inv-loop μ-loop
 match-item-requires c κs =
     let loop = c .before .before in
-    let start = loop .before .before .before .before in
-    (start .pre .0, loop .loop .inv .below, λ e. ascii-take (loop .loop .end) (start .args .key .now) (sym (loop .before .is-ascii .ensures) ∙ e))
+    (loop .before .before .before .pre .0, loop .loop .inv .below, loop .loop .inv .text)
 
 enum-known-answer : tie.Need-enum-known-answer Inv-loop μ-loop
 enum-known-answer c = search needs
@@ -61,7 +56,6 @@ chain-names-spec =
     (tie.spec
     Inv-loop
     μ-loop
-    is-ascii-requires
     loop-holds
     slice-aggregate-match-item
     match-item-requires

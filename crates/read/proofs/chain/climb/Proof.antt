@@ -24,21 +24,6 @@ enum-known-why c = search needs
 enum-told : tie.Need-enum-told
 enum-told c = search needs
 
-sub-is-utf8 : tie.Need-sub-is-utf8
-sub-is-utf8 c = search needs
-
-part-is-utf8-start : tie.Need-part-is-utf8-start
-part-is-utf8-start c = search needs
-
-part-is-utf8-end : tie.Need-part-is-utf8-end
-part-is-utf8-end c = pointer-inside _ _ _ _ (sym (c .before .before .open-pointer .ensures) ∙ c .enum-told .given .1) .1
-
-is-utf8-requires : tie.Need-is-utf8-requires
-is-utf8-requires c κs = search needs
-
-parent-of-requires : tie.Need-parent-of-requires
-parent-of-requires c κs = search needs
-
 sub-first-bad : tie.Need-sub-first-bad
 sub-first-bad c = search needs
 
@@ -47,11 +32,13 @@ part-first-bad-start c = search needs
 
 part-first-bad-end : tie.Need-part-first-bad-end
 part-first-bad-end c =
-    let at-told = c .before .before .before in
-    pointer-inside _ _ _ _ (sym (at-told .before .before .open-pointer .ensures) ∙ at-told .enum-told .given .1) .1
+    pointer-inside _ _ _ _ (sym (c .before .before .open-pointer .ensures) ∙ c .enum-told .given .1) .1
 
 first-bad-requires : tie.Need-first-bad-requires
 first-bad-requires c κs = search needs
+
+parent-of-requires : tie.Need-parent-of-requires
+parent-of-requires c κs = search needs
 
 returns : tie.Need-returns
 returns c =
@@ -60,18 +47,18 @@ returns c =
 
 returns-2 : tie.Need-returns-2
 returns-2 c =
-    let at-utf8 = c .before .before in
-    let at-told = at-utf8 .before .before in
+    let at-bad = c .before .before in
+    let at-told = at-bad .before .before in
     let at-open = at-told .before .before in
     c .parent-of .ensures
-    ∙ sym (climb-text _ _ _ (at-open .before .before .word-size .ensures .0) (at-open .before .half-size .ensures .0) (sym (at-open .open-pointer .ensures) ∙ at-told .enum-told .given .1) (sym (at-utf8 .is-utf8 .ensures) ∙ c .before .if1 .taken))
+    ∙ sym (climb-text _ _ _ (at-open .before .before .word-size .ensures .0) (at-open .before .half-size .ensures .0) (sym (at-open .open-pointer .ensures) ∙ at-told .enum-told .given .1) (at-bad .first-bad .ensures) (c .before .if1 .taken))
 
 returns-3 : tie.Need-returns-3
 returns-3 c =
-    let at-utf8 = c .before .before .before in
-    let at-told = at-utf8 .before .before in
+    let at-bad = c .before in
+    let at-told = at-bad .before .before in
     let at-open = at-told .before .before in
-    climb-no-text _ _ _ (at-open .before .before .word-size .ensures .0) (at-open .before .half-size .ensures .0) (sym (at-open .open-pointer .ensures) ∙ at-told .enum-told .given .1) (sym (at-utf8 .is-utf8 .ensures) ∙ c .before .before .if1 .left) (c .first-bad .ensures)
+    climb-no-text _ _ _ (at-open .before .before .word-size .ensures .0) (at-open .before .half-size .ensures .0) (sym (at-open .open-pointer .ensures) ∙ at-told .enum-told .given .1) (at-bad .first-bad .ensures) (c .if1 .left)
 
 pub climb-spec : {M : Type 1} → statement M
 climb-spec =
@@ -83,15 +70,11 @@ climb-spec =
     open-pointer-requires
     enum-known-why
     enum-told
-    sub-is-utf8
-    part-is-utf8-start
-    part-is-utf8-end
-    is-utf8-requires
-    parent-of-requires
     sub-first-bad
     part-first-bad-start
     part-first-bad-end
     first-bad-requires
+    parent-of-requires
     returns
     returns-2
     returns-3)

@@ -27,9 +27,6 @@ enum-told c = search needs
 enum-told-2 : tie.Need-enum-told-2
 enum-told-2 c = search needs
 
-parent-of-requires : tie.Need-parent-of-requires
-parent-of-requires c κs = search needs
-
 sub-match-fragment : tie.Need-sub-match-fragment
 sub-match-fragment c = search needs
 
@@ -37,7 +34,7 @@ part-match-fragment-start : tie.Need-part-match-fragment-start
 part-match-fragment-start c = search needs
 
 part-match-fragment-end : tie.Need-part-match-fragment-end
-part-match-fragment-end c = pointer-inside _ _ _ _ (sym (c .before .before .before .open-pointer .ensures) ∙ c .before .enum-told2 .given .1) .1
+part-match-fragment-end c = pointer-inside _ _ _ _ (sym (c .before .before .open-pointer .ensures) ∙ c .enum-told2 .given .1) .1
 
 match-fragment-requires : tie.Need-match-fragment-requires
 match-fragment-requires c κs = search needs
@@ -50,11 +47,11 @@ returns c =
 
 returns-2 : tie.Need-returns-2
 returns-2 c =
-    let at-parent = c .before .before in
-    let at-open = at-parent .before .before .before in
+    let at-told = c .before .before in
+    let at-open = at-told .before .before in
     c .match-fragment .ensures
-    ∙ match-inside _ _ _ _ (at-open .before .before .before .item-at .ensures) (at-open .before .before .word-size .ensures .0) (at-open .before .half-size .ensures .0) (at-parent .parent-of .ensures)
-    (sym (at-open .open-pointer .ensures) ∙ at-parent .before .enum-told2 .given .1)
+    ∙ match-inside _ _ _ _ (at-open .before .before .before .item-at .ensures) (at-open .before .before .word-size .ensures .0) (at-open .before .half-size .ensures .0)
+    (sym (at-open .open-pointer .ensures) ∙ at-told .enum-told2 .given .1)
 
 pub match-item-spec : {M : Type 1} → statement M
 match-item-spec =
@@ -67,7 +64,6 @@ match-item-spec =
     open-pointer-requires
     enum-told
     enum-told-2
-    parent-of-requires
     sub-match-fragment
     part-match-fragment-start
     part-match-fragment-end

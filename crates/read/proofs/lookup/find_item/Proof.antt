@@ -30,10 +30,12 @@ run-of-requires : tie.Need-run-of-requires
 run-of-requires c κs =
     let start = c .before .before .before .before .before .before .before .before .before in
     let some : 0 < start .args .table .buckets = omega (arith, c .before .before .before .before .before .before .if1 .left) in
-    (start .pre, mod-lt (c .word-size .result) some)
+    (start .pre .0, mod-lt (c .word-size .result) some)
 
 first-of-requires : tie.Need-first-of-requires
-first-of-requires c κs = (c .before .before .before .before .before .before .before .before .before .before .pre, c .before .before .before .before .hash-key .ensures)
+first-of-requires c κs =
+    let start = c .before .before .before .before .before .before .before .before .before .before in
+    (start .pre .0, c .before .before .before .before .hash-key .ensures, start .pre .1)
 
 returns-3 : tie.Need-returns-3
 returns-3 c =

@@ -10,11 +10,11 @@ use Rattle.read.proofs.FindLaws.{FoundBelow, found-below}
 use Rattle.read.proofs.lookup.nested_in.Statement.{statement}
 use Rattle.read.proofs.lookup.nested_in.Tie as tie
 
-is-key-requires : tie.Need-is-key-requires
-is-key-requires c κs = search needs
+is-utf8-requires : tie.Need-is-utf8-requires
+is-utf8-requires c κs = search needs
 
 find-item-requires : tie.Need-find-item-requires
-find-item-requires c κs = search needs
+find-item-requires c κs = (c .before .before .before .before .pre, sym (c .before .is-utf8 .ensures) ∙ c .if1 .taken)
 
 enum-told : tie.Need-enum-told
 enum-told c = search needs
@@ -34,23 +34,23 @@ first-bad-requires c κs = search needs
 
 returns : tie.Need-returns
 unfolding lookupIn atFound atItem pick
-returns c = simp (sym (c .before .before .before .before .is-key .ensures) ∙ c .before .before .before .if1 .taken, sym (c .before .before .find-item .ensures) ∙ c .enum-told .given .1)
+returns c = simp (sym (c .before .before .before .before .is-utf8 .ensures) ∙ c .before .before .before .if1 .taken, sym (c .before .before .find-item .ensures) ∙ c .enum-told .given .1)
 
 returns-2 : tie.Need-returns-2
 unfolding lookupIn atFound atItem pick
 returns-2 c =
-    simp (sym (c .before .before .before .before .before .before .before .is-key .ensures) ∙ c .before .before .before .before .before .before .if1 .taken, sym (c .before .before .before .before .before .find-item .ensures) ∙ c .before .before .before .index .given .1)
+    simp (sym (c .before .before .before .before .before .before .before .is-utf8 .ensures) ∙ c .before .before .before .before .before .before .if1 .taken, sym (c .before .before .before .before .before .find-item .ensures) ∙ c .before .before .before .index .given .1)
     (c .nested-of .ensures ∙ ap (nestedOf _) (c .before .item-at .ensures))
 
 returns-3 : tie.Need-returns-3
 unfolding lookupIn atItem pick
-returns-3 c = simp (sym (c .before .before .is-key .ensures) ∙ c .before .if1 .left) (ap (λ (at : ℕ). Looked.Refused (KeyNotUtf8 at)) (c .first-bad .ensures))
+returns-3 c = simp (sym (c .before .before .is-utf8 .ensures) ∙ c .before .if1 .left) (ap (λ (at : ℕ). Looked.Refused (KeyNotUtf8 at)) (c .first-bad .ensures))
 
 pub nested-in-spec : {M : Type 1} → statement M
 nested-in-spec =
     tie.close
     (tie.spec
-    is-key-requires
+    is-utf8-requires
     find-item-requires
     enum-told
     enum-known-index
