@@ -7,7 +7,7 @@
 mod ffi;
 mod glib;
 
-use ffi::Builder;
+use ffi::{Builder, Lent};
 use gvdb::read::{oracle as raw, File, HashTable};
 use gvdb::write::{FileWriter, HashTableBuilder};
 use std::borrow::Cow;
@@ -99,7 +99,12 @@ struct Ground {
 
 impl Ground {
     fn new(count: usize) -> Ground {
-        let keys = shuffled(keys(count, "year"));
+        Ground::with(count, "year", "none")
+    }
+
+    /// Keys that end with one word are there, those with the other are not.
+    fn with(count: usize, there: &str, absent: &str) -> Ground {
+        let keys = shuffled(keys(count, there));
         let mut builder = Builder::fresh(ROOM);
         start(&mut builder);
         fill(&mut builder, &keys);
@@ -109,7 +114,11 @@ impl Ground {
         image.truncate(written.length as usize);
         let theirs = write_theirs(filled(&keys));
         assert_eq!(image[24..], theirs[24..], "the images differ");
-        Ground { keys, absent: shuffled(self::keys(count, "none")), builder, image, end: written.end, theirs }
+        Ground { keys, absent: shuffled(self::keys(count, absent)), builder, image, end: written.end, theirs }
+    }
+
+    fn lent(&self) -> Lent<'_> {
+        Lent { file: black_box(&self.image), start: 24, end: self.end, manner: 0 }
     }
 
     fn items(&self) -> usize {
@@ -282,6 +291,44 @@ fn print_children(rounds: usize) {
     );
 }
 
+/// A lookup in a table over another, and the plain lookups that it stands for: one where the first table has the key, both where only the other has.
+fn layered<'a>(own: &'a Ground, under: &'a Ground, keys: &'a [String], from: u32) -> (Turn<'a>, Turn<'a>) {
+    let over = move || {
+        timed(|| {
+            for key in keys {
+                let found = ffi::get_layered(own.lent(), under.lent(), black_box(key.as_bytes()));
+                assert_eq!((found.number, found.from), (0, from));
+            }
+        })
+        .0
+    };
+    let plain = move || {
+        timed(|| {
+            for key in keys {
+                let get = |ground: &Ground| ffi::get(black_box(&ground.image), 24, ground.end, black_box(key.as_bytes()), 0).number;
+                assert!(get(own) == 0 || get(under) == 0);
+            }
+        })
+        .0
+    };
+    (turn(keys.len(), over), turn(keys.len(), plain))
+}
+
+/// How much longer than its plain lookups a lookup over another table may take.
+const LAYERED_GOAL: f64 = 1.05;
+
+fn print_layered(rounds: usize) {
+    let (own, under) = (Ground::new(1000), Ground::with(1000, "none", "year"));
+    for (what, keys, from) in [("the first table's", &own.keys, 0), ("the other's", &own.absent, 1)] {
+        let (over, plain) = measure(rounds, layered(&own, &under, keys, from));
+        let verdict = if over <= LAYERED_GOAL * plain { "met" } else { "missed" };
+        println!(
+            "nanoseconds over another table, a key of {what}: {over:.1}, by plain lookups {plain:.1}: {:.2}, at most {LAYERED_GOAL}: {verdict}",
+            over / plain
+        );
+    }
+}
+
 fn median(mut times: Vec<f64>) -> f64 {
     times.sort_by(f64::total_cmp);
     times[times.len() / 2]
@@ -392,4 +439,5 @@ fn main() {
     }
     print_headers(rounds);
     print_children(rounds);
+    print_layered(rounds);
 }

@@ -250,6 +250,39 @@ static void say_forms(void)
     printf("with every other bit of the manner: %" PRIu32 "\n", unread.number);
 }
 
+/* Keys of an owner's table over a district's: what the owner's answers stands, and where that is 12 the district's is asked, of whose file so many bytes are lent. */
+static void get_layered(uint8_t laid[2][256], const gvdb_image of[2], size_t lent)
+{
+    static const char *const tables[] = {"owner", "district"};
+    static const char *const keys[] = {"oak", "beech", "stand/", "ash", "caf\xE9"};
+    for (size_t i = 0; i < sizeof keys / sizeof keys[0]; i++) {
+        gvdb_layered found = gvdb_get_layered(laid[GVDB_OWNER], of[GVDB_OWNER].length, of[GVDB_OWNER].start, of[GVDB_OWNER].end, laid[GVDB_DISTRICT], lent,
+                                              of[GVDB_DISTRICT].start, of[GVDB_DISTRICT].end, BYTES(keys[i]), 0, 0);
+        say_key("get in two tables", keys[i]);
+        say_number(found.number, found.at);
+        printf(" of the %s's, \"%.*s\"\n", tables[found.from], (int)(found.end - found.start), (const char *)laid[found.from] + found.start);
+    }
+}
+
+static void say_layered(void)
+{
+    uint8_t laid[2][256];
+    gvdb_image written[2];
+    gvdb_fresh(BUILDER);
+    uint32_t owner = new_table("/");
+    uint32_t district = new_table("");
+    insert(owner, "oak", "1999");
+    insert(owner, "stand/3", "spruce");
+    insert(district, "oak", "1801");
+    insert(district, "beech", "1802");
+    insert(district, "stand/", "a value");
+    written[GVDB_OWNER] = gvdb_write(BUILDER, owner, laid[GVDB_OWNER], sizeof laid[GVDB_OWNER], 0);
+    written[GVDB_DISTRICT] = gvdb_write(BUILDER, district, laid[GVDB_DISTRICT], sizeof laid[GVDB_DISTRICT], 0);
+    get_layered(laid, written, written[GVDB_DISTRICT].length);
+    printf("over a district's file that is cut:\n");
+    get_layered(laid, written, 24);
+}
+
 /* The first place of a text in the image. */
 static uint8_t *find(const char *text, size_t length)
 {
@@ -308,6 +341,7 @@ int main(void)
     words[0] += 1;
     insert(register_table, "kept", "memory that was changed");
     say_forms();
+    say_layered();
     free(words);
     return 0;
 }

@@ -8,7 +8,7 @@
  * What a caller has to see to:
  *   - a pointer is valid for its length, and for writing where it is not const; of a length of 0 it may be any pointer that is not null;
  *   - words are aligned to 8;
- *   - no two buffers of one call overlap;
+ *   - no two buffers of one call overlap, but that both files of gvdb_get_layered may be one memory, or overlap;
  *   - a buffer is not used by another thread during a call that may write to it.
  * Any address will do for a file, an arena or an image. A size_t has 64 bits.
  *
@@ -39,8 +39,9 @@ extern "C" {
  *   3: gvdb_first_bad; the field at, which is last, in gvdb_place, gvdb_key and gvdb_inserted; the fields why and at, which are last, in gvdb_checked
  *   4: gvdb_next_child with gvdb_child
  *   5: GVDB_SIGNED; the parameter manner, which is last, of gvdb_get, gvdb_get_table, gvdb_next_child, gvdb_check and gvdb_write
+ *   6: gvdb_get_layered with gvdb_layered, GVDB_OWNER and GVDB_DISTRICT
  */
-#define GVDB_ABI 5
+#define GVDB_ABI 6
 
 /* The number of the library that is linked. Another than GVDB_ABI is a library of other structs than those below. */
 uint32_t gvdb_abi(void);
@@ -50,6 +51,10 @@ uint32_t gvdb_abi(void);
  * read in that form. Keys whose bytes are all below 128 are found, checked and laid alike in both, in every file. No other bit of a manner is read.
  */
 #define GVDB_SIGNED 1u /* in the hash of a key its bytes count -128 to 127, as in GLib; without this bit 0 to 255, as in gvdb-rs */
+
+/* Which of two tables answered a lookup. */
+#define GVDB_OWNER 0u
+#define GVDB_DISTRICT 1u
 
 /* The numbers of the answers. 18, 32, 33 and 34 are set aside for calls to come; no call here answers them. */
 enum {
@@ -116,6 +121,18 @@ typedef struct gvdb_place {
     uint32_t end;
     size_t at;
 } gvdb_place;
+
+/*
+ * A place in one of two files, its bytes from start up to end, and the table that answered, GVDB_OWNER or GVDB_DISTRICT, which is told on a refusal too. With
+ * GVDB_KEY_NOT_UTF8, where the given key is bad.
+ */
+typedef struct gvdb_layered {
+    uint32_t number;
+    uint32_t from;
+    uint32_t start;
+    uint32_t end;
+    size_t at;
+} gvdb_layered;
 
 /* A listed key: its length, and the position of the next one. With GVDB_FRAGMENT_NOT_UTF8, where the fragment is bad. */
 typedef struct gvdb_key {
@@ -221,6 +238,15 @@ gvdb_opened gvdb_open(const uint8_t *file, size_t file_length, uint32_t start, u
 
 /* Looks a value up, in a manner. The answer is its place in the file, or 8 with at, 12, 13, or 2 and 3 of its own pointer. */
 gvdb_place gvdb_get(const uint8_t *file, size_t file_length, uint32_t start, uint32_t end, const uint8_t *key, size_t key_length, uint32_t manner);
+
+/*
+ * Looks a value up in two tables, the owner's over the district's, each in a manner of its own. The owner's is asked first, and what it answers stands, a refusal
+ * too; where it answers 12, and only there, the answer is the district's. So a district's file that does not open is refused only where it is asked. from says which
+ * table answered: the place is one in that table's file.
+ */
+gvdb_layered gvdb_get_layered(const uint8_t *owner, size_t owner_length, uint32_t owner_start, uint32_t owner_end, const uint8_t *district,
+                              size_t district_length, uint32_t district_start, uint32_t district_end, const uint8_t *key, size_t key_length,
+                              uint32_t owner_manner, uint32_t district_manner);
 
 /*
  * Looks a nested table up, in a manner. The answer is its pointer, once it opens; or 8 with at, 12, 13, or what opening it refuses. A pointer has no manner: whoever

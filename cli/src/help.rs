@@ -6,7 +6,7 @@ gvdb: checks, lists, merges, dumps and builds GVDB files
     gvdb check FILE...               every table of each file: sound, or what is broken
     gvdb list FILE [PREFIX]          keys with kind and size
     gvdb tree FILE                   containers and nested tables, drawn
-    gvdb get FILE KEY                one value
+    gvdb get FILE KEY                one value, of a file or of a file over another
     gvdb diff A B                    in what two files differ, key by key
     gvdb same A B                    whether they are alike, by the exit status alone
     gvdb merge OWN OTHER -o OUT      both files' values into one; no value is lost unsaid
@@ -81,16 +81,25 @@ the number.
 ";
 
 pub const GET: &str = "\
-gvdb get FILE KEY [--table KEY]... [--form plain|signed|auto] [--hex | --raw]
+gvdb get FILE KEY [--under DISTRICT] [--table KEY]... [--form plain|signed|auto]
+         [--hex | --raw | --json]
 
 Writes the value at KEY: its bytes as they are to a pipe or a file, hex to a terminal.
 Keys are given as `gvdb list` prints them.
 
-    --table KEY   look in the nested table at KEY; again for one in that
+With --under, DISTRICT is asked where FILE has no such key, or no such table, and only there:
+what FILE answers stands, a refusal too. Which file the value is from is told on standard
+error, and a refusal names the file that refused. Both files have to be there, with a header.
+
+    --under DISTRICT
+                  the file under FILE
+    --table KEY   look in the nested table at KEY, in each file; again for one in that
     --form F      the form: plain, signed (GLib's), or auto as if not given; see gvdb --help
     --hex, --raw  hex, or the bytes, wherever it goes
+    --json        one object; with --under, `from` is own or under
 
     gvdb get anna.gvdb /parcel/12/year | xxd
+    gvdb get anna.gvdb /parcel/14/owner --under district.gvdb
 ";
 
 pub const DIFF: &str = "\

@@ -1,4 +1,4 @@
-//! `gvdb list`: the keys of one table, with kind and size; and `gvdb get`: one value.
+//! `gvdb list`: the keys of one table, with kind and size.
 
 use crate::args::Args;
 use crate::check::Broken;
@@ -6,10 +6,9 @@ use crate::failure::Failure;
 use crate::form;
 use crate::json::Json;
 use crate::out::{self, Colour, Out};
-use crate::source::{not_found, Source, Walk};
+use crate::source::{Source, Walk};
 use crate::text;
 use gvdb::{Entry, Form, Item, Refusal};
-use std::io::Write;
 
 /// Values of so many bytes are shown by `--values`.
 const SHORT: usize = 32;
@@ -134,23 +133,4 @@ fn kind(item: &Item) -> &'static str {
 /// What stands in place of a key that does not read.
 pub fn unread(index: usize, refusal: Refusal) -> String {
     format!("item {index}, whose key does not read: {} ({})", refusal.message(), refusal.number())
-}
-
-/// `gvdb get`: the value's bytes, as they are to a pipe or file, in hex to a terminal.
-pub fn get(args: &Args, out: &mut Out) -> Result<u8, Failure> {
-    let key = text::given(&args.words()[1])?;
-    let tables = args.values("--table").map(text::given).collect::<Result<Vec<_>, _>>()?;
-    // Keys below 128 are found alike in both forms: which one the file is in, which is found out by a check, is not asked then.
-    let alike = tables.iter().chain([&key]).all(|key| key.is_ascii());
-    let form = form::named(args, Some(Form::Plain).filter(|_| alike))?;
-    let source = Source::read(&args.words()[0], form)?;
-    let (table, _) = source.table(args.values("--table"))?;
-    let what = format!("{}: key {}", source.name, text::quoted_bytes(&key));
-    let value = table.get(&key).map_err(|refusal| not_found(&what, &table, &key, refusal))?;
-    if args.flag("--hex") || (out.is_terminal() && !args.flag("--raw")) {
-        out.line(text::hex(value))?;
-    } else {
-        out.stdout.write_all(value)?;
-    }
-    Ok(0)
 }

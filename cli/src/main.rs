@@ -9,6 +9,7 @@ mod decide;
 mod diff;
 mod failure;
 mod form;
+mod get;
 mod help;
 mod hidden;
 mod input;
@@ -54,8 +55,8 @@ const COMMANDS: &[Command] = &[
     Command {
         name: "get",
         help: help::GET,
-        spec: Spec { flags: &["--hex", "--raw"], valued: &["--table", "--form"], words: &["FILE", "KEY"] },
-        run: list::get,
+        spec: Spec { flags: &["--hex", "--raw", "--json"], valued: &["--table", "--under", "--form"], words: &["FILE", "KEY"] },
+        run: get::run,
     },
     Command { name: "diff", help: help::DIFF, spec: Spec { flags: &["--json"], valued: &[], words: &["A", "B"] }, run: diff::run },
     Command { name: "same", help: help::SAME, spec: Spec { flags: &[], valued: &[], words: &["A", "B"] }, run: diff::same },

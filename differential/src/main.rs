@@ -1,6 +1,6 @@
 //! This library, gvdb-rs and a third reading of the documents, asked the same questions in one process, in both forms of the hash: in the signed one a copy of gvdb-rs answers whose hash has it.
 //! Use: differential [--lists FOLDER] [--seeds A..B] [--minutes N]. The lists are the oracle's stored questions. A seed is a history of builder calls with its images and damaged copies of them, tables made by hand and
-//! at random, a header, texts that may be no UTF-8, keys whose order of arrival is that of the children, and a builder on garbage memory. With --minutes it goes on from the last seed for that long.
+//! at random, a header, texts that may be no UTF-8, keys whose order of arrival is that of the children, a builder on garbage memory, and pairs of all those tables, one over the other. With --minutes it goes on from the last seed for that long.
 
 mod building;
 mod children;
@@ -12,6 +12,7 @@ mod ffi;
 mod forms;
 mod garbage;
 mod headers;
+mod layered;
 mod lent;
 mod limits;
 mod make;
@@ -26,6 +27,7 @@ mod theirs;
 use building::History;
 use dice::Dice;
 use gvdb as rust;
+use layered::Pair;
 use lent::Memory;
 use reading::Case;
 use std::io::{Seek, Write};
@@ -171,28 +173,33 @@ impl Run {
         }
     }
 
+    /// Two of these tables, one over the other.
+    fn layer(&mut self, seed: u64, dice: &Dice, tables: &[Case]) {
+        let (tally, pair) = (&mut self.tally, Pair::random(dice, tables));
+        let Err(difference) = caught(|| pair.compare(tally)) else { return };
+        if self.counted() {
+            say(seed, &difference, &pair.describe());
+        }
+    }
+
     fn seed(&mut self, seed: u64) {
         let dice = &Dice::new(seed);
         let history = if dice.one_in(15) { History::deep(dice) } else { History::random(dice) };
         let images = self.build(seed, &history);
+        let mut tables = Vec::new();
         for image in images.iter().rev().take(3) {
             let mut asked = image.clone();
             asked.keys = image.keys.iter().take(8).map(|key| make::near(dice, b'/', key.clone())).collect();
-            self.read(seed, &asked);
-            for _ in 0..4 {
-                let damaged = make::damaged(dice, &asked);
-                self.read(seed, &damaged);
-            }
+            tables.extend((0..4).map(|_| make::damaged(dice, &asked)));
+            tables.push(asked);
         }
         for _ in 0..3 {
             let made = make::by_hand(dice);
-            self.read(seed, &made);
-            let damaged = make::damaged(dice, &made);
-            self.read(seed, &damaged);
-            let random = make::random(dice);
-            self.read(seed, &random);
+            tables.extend([make::damaged(dice, &made), make::random(dice), made]);
             self.garbage(seed, dice, garbage::any);
         }
+        tables.iter().for_each(|table| self.read(seed, table));
+        (0..6).for_each(|_| self.layer(seed, dice, &tables));
         if dice.one_in(12) {
             self.garbage(seed, dice, garbage::slightly);
         }

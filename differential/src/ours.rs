@@ -57,6 +57,13 @@ pub fn get_table(file: &[u8], start: u32, end: u32, key: &[u8], form: Form) -> P
     place(ffi::get_table(file, start, end, key, form.manner()))
 }
 
+/// A value in one of two tables, and whether it is in the second.
+pub fn get_layered(own: ffi::Lent, under: ffi::Lent, key: &[u8]) -> (Place, bool) {
+    let layered = ffi::get_layered(own, under, key);
+    assert!(layered.from <= 1, "a table that is neither");
+    (refused_at(layered.number, layered.at, &[8], (layered.start, layered.end), (0, 0)), layered.from == 1)
+}
+
 /// The key at a position, listed into a buffer of so many bytes.
 pub fn key(file: &[u8], start: u32, end: u32, position: usize, room: usize) -> Result<Vec<u8>, Why> {
     let (listed, mut bytes) = buffer(room, |out| ffi::next_key(file, start, end, position, out));

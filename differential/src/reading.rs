@@ -38,7 +38,7 @@ impl Case {
     }
 
     /// The file starts with a header that gvdb-rs accepts, with the pointer as its root; no header fits into less than 24 bytes.
-    fn with_header(&self) -> Vec<u8> {
+    pub fn with_header(&self) -> Vec<u8> {
         let mut file = self.file.clone();
         if file.len() >= 24 {
             file[..16].copy_from_slice(b"GVariant\0\0\0\0\0\0\0\0");
@@ -66,7 +66,7 @@ impl Case {
     }
 
     /// The keys to ask for: those given, and some that the table lists.
-    fn asked(&self, bytes: &[u8]) -> Vec<Vec<u8>> {
+    pub fn asked(&self, bytes: &[u8]) -> Vec<Vec<u8>> {
         let mut keys = self.keys.clone();
         if let Ok(table) = document::open(bytes, self.start, self.end, Form::Plain) {
             let step = table.count.div_ceil(24).max(1);

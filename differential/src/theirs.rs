@@ -91,6 +91,11 @@ pub fn get_table(table: &HashTable, key: &str) -> Place {
     Ok((word(16), word(20)))
 }
 
+/// A value of the root table, or why that does not open.
+pub fn value(bytes: &[u8], key: &str) -> Place {
+    with_root(bytes, |opened| opened.map_err(Why::from).and_then(|table| get(bytes, table, key)))
+}
+
 /// Both lookups of each key in the root table, if that opens.
 pub fn lookups(bytes: &[u8], keys: &[&str]) -> Vec<[Place; 2]> {
     let answers = |table: &HashTable| keys.iter().map(|key| [get(bytes, table, key), get_table(table, key)]).collect();

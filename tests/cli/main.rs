@@ -9,6 +9,7 @@ mod harness;
 mod json;
 mod keeper;
 mod keys;
+mod layered;
 #[path = "../../bindings/rust/src/limits.rs"]
 mod limits;
 mod lines;

@@ -3,7 +3,8 @@
 
 mod ffi;
 
-use ffi::{abi, check, first_bad, get, get_table, lay_header, memory_words, next_child, next_key, next_value, open, read_header, Builder, ABI, SIGNED};
+use ffi::{abi, check, first_bad, get, get_layered, get_table, lay_header, memory_words, next_child, next_key, next_value, open, read_header};
+use ffi::{Builder, Lent, ABI, SIGNED};
 use std::process::{Command, Stdio};
 
 const HEADER: &str = include_str!("../../bindings/c/gvdb.h");
@@ -60,6 +61,12 @@ fn make(call: &str, kib: usize) {
         "gvdb_open" => open(&image, start, end).number,
         "gvdb_get" => get(&image, start, end, &key, SIGNED).number,
         "gvdb_get_table" => get_table(&image, start, end, b"t", SIGNED).number,
+        "gvdb_get_layered" => {
+            let above = get_table(&image, start, end, b"t", SIGNED);
+            let [owner, district] = [(above.start, above.end), (start, end)].map(|(start, end)| Lent { file: &image, start, end, manner: SIGNED });
+            let found = get_layered(owner, district, &key);
+            found.number + 1 - found.from
+        }
         "gvdb_next_key" => next_key(&image, start, end, 9, &mut out).number,
         "gvdb_next_value" => next_value(&image, start, end, 9).number,
         "gvdb_next_child" => next_child(&image, start, end, &key[..key.len() - 1], 9, SIGNED).number,

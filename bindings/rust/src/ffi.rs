@@ -3,7 +3,7 @@
 #![allow(unsafe_code)]
 
 /// The number of the interface that this crate is written for, `GVDB_ABI` of gvdb.h. The build holds it to that and to the library's.
-pub const ABI: u32 = 5;
+pub const ABI: u32 = 6;
 
 /// The bit of a manner for the signed form, `GVDB_SIGNED` of gvdb.h.
 pub const SIGNED: u32 = 1;
@@ -27,6 +27,15 @@ pub struct Opened {
 #[repr(C)]
 pub struct Place {
     pub number: u32,
+    pub start: u32,
+    pub end: u32,
+    pub at: usize,
+}
+
+#[repr(C)]
+pub struct Layered {
+    pub number: u32,
+    pub from: u32,
     pub start: u32,
     pub end: u32,
     pub at: usize,
@@ -104,6 +113,21 @@ extern "C" {
     fn gvdb_open(file: *const u8, size: usize, start: u32, end: u32) -> Opened;
     fn gvdb_get(file: *const u8, size: usize, start: u32, end: u32, key: *const u8, length: usize, manner: u32) -> Place;
     fn gvdb_get_table(file: *const u8, size: usize, start: u32, end: u32, key: *const u8, length: usize, manner: u32) -> Place;
+    #[rustfmt::skip]
+    fn gvdb_get_layered(
+        owner: *const u8,
+        owner_size: usize,
+        owner_start: u32,
+        owner_end: u32,
+        district: *const u8,
+        district_size: usize,
+        district_start: u32,
+        district_end: u32,
+        key: *const u8,
+        length: usize,
+        owner_manner: u32,
+        district_manner: u32,
+    ) -> Layered;
     fn gvdb_next_key(file: *const u8, size: usize, start: u32, end: u32, position: usize, out: *mut u8, room: usize) -> Key;
     fn gvdb_next_value(file: *const u8, size: usize, start: u32, end: u32, position: usize) -> Value;
     fn gvdb_next_child(file: *const u8, size: usize, start: u32, end: u32, key: *const u8, length: usize, position: usize, manner: u32) -> Child;
@@ -155,6 +179,25 @@ pub fn get(file: &[u8], start: u32, end: u32, key: &[u8], manner: u32) -> Place 
 
 pub fn get_table(file: &[u8], start: u32, end: u32, key: &[u8], manner: u32) -> Place {
     unsafe { gvdb_get_table(file.as_ptr(), file.len(), start, end, key.as_ptr(), key.len(), manner) }
+}
+
+/// A table of a lent file, with the manner that it is read in.
+pub struct Lent<'f> {
+    pub file: &'f [u8],
+    pub start: u32,
+    pub end: u32,
+    pub manner: u32,
+}
+
+#[rustfmt::skip]
+pub fn get_layered(owner: Lent, district: Lent, key: &[u8]) -> Layered {
+    unsafe {
+        gvdb_get_layered(
+            owner.file.as_ptr(), owner.file.len(), owner.start, owner.end,
+            district.file.as_ptr(), district.file.len(), district.start, district.end,
+            key.as_ptr(), key.len(), owner.manner, district.manner,
+        )
+    }
 }
 
 pub fn next_key(file: &[u8], start: u32, end: u32, position: usize, out: &mut [u8]) -> Key {

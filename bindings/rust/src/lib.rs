@@ -2,7 +2,8 @@
 //!
 //! - [`Header`] reads and lays a file's first 24 bytes: the byte order of its values, and the pointer to its root table.
 //! - [`Table`] reads: [`get`](Table::get), [`get_table`](Table::get_table), [`item`](Table::item) of any kind, [`keys`](Table::keys),
-//!   [`values`](Table::values), [`entries`](Table::entries), [`children`](Table::children) of one container, and the [`check`](Table::check).
+//!   [`values`](Table::values), [`entries`](Table::entries), [`children`](Table::children) of one container, [`get_over`](Table::get_over) another table, and the
+//!   [`check`](Table::check).
 //! - [`Builder`] builds and lays: [`insert`](Builder::insert), [`insert_table`](Builder::insert_table),
 //!   [`write`](Builder::write), and a whole file by [`write_file`](Builder::write_file).
 //! - [`Form`] is how the bytes of a key count in the hash: as in gvdb-rs, unless [`with_form`](Table::with_form) and [`write_as`](Builder::write_as) say as in GLib.
@@ -55,6 +56,7 @@ mod children;
 mod ffi;
 mod form;
 mod header;
+mod layered;
 mod levels;
 mod limits;
 mod refusal;
@@ -66,6 +68,7 @@ pub use children::{Child, Children};
 pub use ffi::{abi, ABI};
 pub use form::Form;
 pub use header::{ByteOrder, Header};
+pub use layered::{Layered, Source};
 pub use limits::{MAX_FILE, MAX_ITEMS, MAX_KEY, MAX_NESTING, MAX_TABLES};
 pub use refusal::{Refusal, Unsound};
 pub use table::{Entries, Entry, Item, Keys, Pointer, Table, Tables, Values};

@@ -4,13 +4,15 @@ use Rattle.layout.specs.declared.table.Table.{Table}
 use Rattle.layout.specs.declared.table.Opened.{Opened}
 use Rattle.layout.specs.Answer.{openedNumber}
 use Rattle.read.specs.declared.lookup.Looked.{Looked}
+use Rattle.read.specs.declared.layered.Layered.{Layered}
 use Rattle.read_listing.specs.declared.listing.Listed.{Listed}
 use Rattle.read_listing.specs.declared.listing.Valued.{Valued}
 use Rattle.read_listing.specs.declared.children.Childed.{Childed}
-use Rattle.read.specs.Answer.{lookedNumber, lookedPointer, lookedAt}
+use Rattle.read.specs.Answer.{lookedNumber, lookedPointer, lookedAt, sourceNumber}
 use Rattle.read_listing.specs.Answer.{listedNumber, listedKey, listedAt, valuedNumber, valuedPointer, valuedItem, childedNumber, childedKind, childedPointer, childedChild, childedAt}
 use Rattle.gvdb.specs.declared.reading.GvdbOpened.{GvdbOpened}
 use Rattle.gvdb.specs.declared.reading.GvdbPlace.{GvdbPlace}
+use Rattle.gvdb.specs.declared.reading.GvdbLayered.{GvdbLayered}
 use Rattle.gvdb.specs.declared.reading.GvdbKey.{GvdbKey}
 use Rattle.gvdb.specs.declared.reading.GvdbValue.{GvdbValue}
 use Rattle.gvdb.specs.declared.reading.GvdbChild.{GvdbChild}
@@ -30,6 +32,16 @@ openedAnswer opened = record {
 
 unfoldable pub lookedAnswer : Looked → GvdbPlace
 lookedAnswer looked = record { number = lookedNumber looked; start = lookedPointer looked .0; end = lookedPointer looked .1; at = lookedAt looked }
+
+-- the table that answered is told on a refusal too
+unfoldable pub layeredAnswer : Layered → GvdbLayered
+layeredAnswer layered = record {
+  number = lookedNumber (layered .looked);
+  from = sourceNumber (layered .from);
+  start = lookedPointer (layered .looked) .0;
+  end = lookedPointer (layered .looked) .1;
+  at = lookedAt (layered .looked);
+}
 
 unfoldable pub listedAnswer : Listed → GvdbKey
 listedAnswer listed = record { number = listedNumber listed; length = listedKey listed .0; next = listedKey listed .1; at = listedAt listed }

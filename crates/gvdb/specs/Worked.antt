@@ -5,6 +5,8 @@ use Rattle.layout.specs.declared.refusal.Refusal.{Refusal}
 use Rattle.layout.specs.declared.table.Opened.{Opened}
 use Rattle.layout.specs.Answer.{openedNumber}
 use Rattle.read.specs.declared.lookup.Looked.{Looked}
+use Rattle.read.specs.declared.layered.Source.{Source}
+use Rattle.read.specs.Layered.{marked}
 use Rattle.read_listing.specs.declared.listing.Listed.{Listed}
 use Rattle.read_listing.specs.declared.listing.Valued.{Valued}
 use Rattle.read_listing.specs.declared.children.Childed.{Childed}
@@ -21,7 +23,7 @@ use Rattle.build_tables.specs.Answer.{addedNumber, addedTable, countedNumber, c
 use Rattle.build_values.specs.Answer.{insertedNumber, insertedKind, insertedAt}
 use Rattle.write.specs.declared.Written.{Written}
 use Rattle.write.specs.Write.{writtenNumber}
-use Rattle.gvdb.specs.Reading.{openedCount, openedAnswer, lookedAnswer, listedAnswer, valuedAnswer, childedAnswer}
+use Rattle.gvdb.specs.Reading.{openedCount, openedAnswer, lookedAnswer, layeredAnswer, listedAnswer, valuedAnswer, childedAnswer}
 use Rattle.gvdb.specs.Checking.{checkedAnswer}
 use Rattle.gvdb.specs.Building.{addedAnswer, insertedAnswer, countedAnswer}
 use Rattle.gvdb.specs.Writing.{writtenImage, writtenAnswer}
@@ -40,6 +42,16 @@ pub looked :
     × (lookedAnswer (Looked.Refused (Refusal.KeyNotUtf8 3)) ≡ record { number = 8; start = 0; end = 0; at = 3 })
 unfolding lookedAnswer lookedNumber lookedPointer lookedAt
 looked = (refl, refl, refl)
+
+-- a pointer into the owner's file, from 64 up to 66; one into the district's; 13 of the owner's table; 12 of the district's; or 8 of a key that is bad at 3
+pub layered :
+    (layeredAnswer (marked (Looked.Pointer 64 66) Source.Owner) ≡ record { number = 0; from = 0; start = 64; end = 66; at = 0 })
+    × (layeredAnswer (marked (Looked.Pointer 64 66) Source.District) ≡ record { number = 0; from = 1; start = 64; end = 66; at = 0 })
+    × (layeredAnswer (marked (Looked.Refused Refusal.OtherKind) Source.Owner) ≡ record { number = 13; from = 0; start = 0; end = 0; at = 0 })
+    × (layeredAnswer (marked (Looked.Refused Refusal.KeyNotFound) Source.District) ≡ record { number = 12; from = 1; start = 0; end = 0; at = 0 })
+    × (layeredAnswer (marked (Looked.Refused (Refusal.KeyNotUtf8 3)) Source.Owner) ≡ record { number = 8; from = 0; start = 0; end = 0; at = 3 })
+unfolding layeredAnswer lookedNumber lookedPointer lookedAt
+layered = (refl, refl, refl, refl, refl)
 
 -- a key of 5 bytes, the next at 8; 14; or 9 of a fragment that is bad at 2
 pub listed :

@@ -3,6 +3,8 @@ use crate::manner::manner_of;
 use layout::refusal::bad_at;
 use layout::refusal::number_of;
 use layout::table::Opened;
+use read::layered::Layered;
+use read::layered::Source;
 use read::lookup::Looked;
 use read_listing::children::Childed;
 use read_listing::listing::Cursor;
@@ -15,10 +17,12 @@ ghost use Rattle.text.specs.Utf8.{firstBad};
 ghost use Rattle.layout.specs.Table.{openTable};
 ghost use Rattle.read.specs.Find.{mannerOf};
 ghost use Rattle.read.specs.Lookup.{lookupValue, lookupTable};
+ghost use Rattle.read.specs.Answer.{sourceNumber};
+ghost use Rattle.read.specs.Layered.{layeredValue};
 ghost use Rattle.read_listing.specs.Listing.{keyAt, listed, written, valueAt};
 ghost use Rattle.read_listing.specs.Children.{nextChild};
 ghost use Rattle.gvdb.specs.Manner.{mannerNamed};
-ghost use Rattle.gvdb.specs.Reading.{openedAnswer, lookedAnswer, listedAnswer, valuedAnswer, childedAnswer};
+ghost use Rattle.gvdb.specs.Reading.{openedAnswer, lookedAnswer, layeredAnswer, listedAnswer, valuedAnswer, childedAnswer};
 
 // What a table opens as.
 #[repr(C)]
@@ -33,6 +37,17 @@ pub struct GvdbOpened {
 #[repr(C)]
 pub struct GvdbPlace {
     pub number: u32,
+    pub start: u32,
+    pub end: u32,
+    pub at: usize,
+}
+
+// A pointer into the file of one of two tables, to a value, and the table that answered: 0 the owner's, 1 the district's, on a refusal too; with 8 where the given
+// key is bad.
+#[repr(C)]
+pub struct GvdbLayered {
+    pub number: u32,
+    pub from: u32,
     pub start: u32,
     pub end: u32,
     pub at: usize,
@@ -128,6 +143,61 @@ pub extern "C" fn gvdb_get(file: &[u8], start: u32, end: u32, key: &[u8], manner
 {
     let named = manner_of(manner);
     place_of(read::lookup::lookup_value(file, start, end, key, named))
+}
+
+fn source_of(from: Source) -> u32
+    ensures { λ r. ⌜ r ≡ sourceNumber from ⌝ }
+{
+    match from {
+        Source::Owner => 0,
+        Source::District => 1,
+    }
+}
+
+// The answer of a lookup over two tables as numbers.
+fn layered_of(layered: Layered) -> GvdbLayered
+    ensures { λ r. ⌜ r ≡ layeredAnswer layered ⌝ }
+{
+    let looked = layered.looked;
+    let from = layered.from;
+    let place = place_of(looked);
+    GvdbLayered {
+        number: place.number,
+        from: source_of(from),
+        start: place.start,
+        end: place.end,
+        at: place.at,
+    }
+}
+
+// Looks up the value of a key in the owner's table, and in the district's where the owner's answers 12.
+#[no_mangle]
+pub extern "C" fn gvdb_get_layered<'a, 'k>(
+    owner: &'a [u8],
+    ostart: u32,
+    oend: u32,
+    district: &'a [u8],
+    dstart: u32,
+    dend: u32,
+    key: &'k [u8],
+    omanner: u32,
+    dmanner: u32,
+) -> GvdbLayered
+    ensures { λ r. ⌜ r ≡ layeredAnswer (layeredValue (mannerOf (mannerNamed omanner)) (mannerOf (mannerNamed dmanner)) (now (owner .entry)) ostart oend (now (district .entry)) dstart dend (now (key .entry))) ⌝ }
+{
+    let above = manner_of(omanner);
+    let below = manner_of(dmanner);
+    layered_of(read::layered::lookup_layered(
+        owner,
+        ostart,
+        oend,
+        district,
+        dstart,
+        dend,
+        key,
+        above,
+        below,
+    ))
 }
 
 // gvdb-rs: get_hash_table.

@@ -35,6 +35,8 @@ use Rattle.gvdb.proofs.reading.gvdb_get.Kinds as get-kinds
 use Rattle.gvdb.proofs.reading.gvdb_get.Reads as get-reads
 use Rattle.gvdb.proofs.reading.gvdb_get_table.Kinds as get-table-kinds
 use Rattle.gvdb.proofs.reading.gvdb_get_table.Reads as get-table-reads
+use Rattle.gvdb.proofs.reading.gvdb_get_layered.Kinds as get-layered-kinds
+use Rattle.gvdb.proofs.reading.gvdb_get_layered.Reads as get-layered-reads
 use Rattle.gvdb.proofs.reading.gvdb_next_key.Kinds as next-key-kinds
 use Rattle.gvdb.proofs.reading.gvdb_next_key.Reads as next-key-reads
 use Rattle.gvdb.proofs.reading.gvdb_next_value.Kinds as next-value-kinds
@@ -91,6 +93,9 @@ get-unique κs a s t x y p q = p ∙ sym q
 
 pub get-table-unique : OneAnswer get-table-kinds.ps get-table-kinds.r get-table-reads.Post
 get-table-unique κs a s t x y p q = p ∙ sym q
+
+pub get-layered-unique : OneAnswer get-layered-kinds.ps get-layered-kinds.r get-layered-reads.Post
+get-layered-unique κs a s t x y p q = p ∙ sym q
 
 pub next-key-unique : One next-key-kinds.ps next-key-kinds.r next-key-reads.Post (λ κs s t x y. (s ≡ t) × (now (x .1 .1 .1 .1 .0) ≡ now (y .1 .1 .1 .1 .0)))
 next-key-unique κs a s t x y p q = (p .0 ∙ sym (q .0), p .1 ∙ sym (q .1))

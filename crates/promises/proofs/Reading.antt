@@ -16,10 +16,14 @@ use Rattle.read.proofs.lookup.find_item.Kinds as find-item-kinds
 use Rattle.read.proofs.lookup.find_item.Reads as find-item-reads
 use Rattle.read.proofs.lookup.lookup_in.Kinds as lookup-in-kinds
 use Rattle.read.proofs.lookup.lookup_in.Reads as lookup-in-reads
+use Rattle.read.proofs.lookup.value_of.Kinds as value-of-kinds
+use Rattle.read.proofs.lookup.value_of.Reads as value-of-reads
 use Rattle.read.proofs.lookup.lookup_value.Kinds as lookup-value-kinds
 use Rattle.read.proofs.lookup.lookup_value.Reads as lookup-value-reads
 use Rattle.read.proofs.lookup.lookup_table.Kinds as lookup-table-kinds
 use Rattle.read.proofs.lookup.lookup_table.Reads as lookup-table-reads
+use Rattle.read.proofs.layered.lookup_layered.Kinds as lookup-layered-kinds
+use Rattle.read.proofs.layered.lookup_layered.Reads as lookup-layered-reads
 use Rattle.read_listing.proofs.listing.key_size.Kinds as key-size-kinds
 use Rattle.read_listing.proofs.listing.key_size.Reads as key-size-reads
 use Rattle.read_listing.proofs.listing.Cursor.next_key.Kinds as next-key-kinds
@@ -60,11 +64,17 @@ find-item-unique κs a s t x y p q = p ∙ sym q
 pub lookup-in-unique : OneAnswer lookup-in-kinds.ps lookup-in-kinds.r lookup-in-reads.Post
 lookup-in-unique κs a s t x y p q = p ∙ sym q
 
+pub value-of-unique : OneAnswer value-of-kinds.ps value-of-kinds.r value-of-reads.Post
+value-of-unique κs a s t x y p q = p ∙ sym q
+
 pub lookup-value-unique : OneAnswer lookup-value-kinds.ps lookup-value-kinds.r lookup-value-reads.Post
 lookup-value-unique κs a s t x y p q = p ∙ sym q
 
 pub lookup-table-unique : OneAnswer lookup-table-kinds.ps lookup-table-kinds.r lookup-table-reads.Post
 lookup-table-unique κs a s t x y p q = p ∙ sym q
+
+pub lookup-layered-unique : OneAnswer lookup-layered-kinds.ps lookup-layered-kinds.r lookup-layered-reads.Post
+lookup-layered-unique κs a s t x y p q = p ∙ sym q
 
 pub key-size-unique : OneAnswer key-size-kinds.ps key-size-kinds.r key-size-reads.Post
 key-size-unique κs a s t x y p q = p ∙ sym q

@@ -20,6 +20,12 @@ use Rattle.view.proofs.part.child_end.Kinds as child-end-kinds
 use Rattle.view.proofs.part.child_end.Reads as child-end-reads
 use Rattle.view.proofs.part.value_part.Kinds as value-part-kinds
 use Rattle.view.proofs.part.value_part.Reads as value-part-reads
+use Rattle.view.proofs.part.layered_looked.Kinds as layered-looked-kinds
+use Rattle.view.proofs.part.layered_looked.Reads as layered-looked-reads
+use Rattle.view.proofs.part.layered_from.Kinds as layered-from-kinds
+use Rattle.view.proofs.part.layered_from.Reads as layered-from-reads
+use Rattle.view.proofs.part.layered_part.Kinds as layered-part-kinds
+use Rattle.view.proofs.part.layered_part.Reads as layered-part-reads
 use Rattle.view.proofs.part.listed_part.Kinds as listed-part-kinds
 use Rattle.view.proofs.part.listed_part.Reads as listed-part-reads
 use Rattle.view.proofs.part.child_part.Kinds as child-part-kinds
@@ -32,6 +38,8 @@ use Rattle.view.proofs.part.opened_pointer.Kinds as opened-pointer-kinds
 use Rattle.view.proofs.part.opened_pointer.Reads as opened-pointer-reads
 use Rattle.view.proofs.through.value_bytes.Kinds as value-bytes-kinds
 use Rattle.view.proofs.through.value_bytes.Reads as value-bytes-reads
+use Rattle.view.proofs.through.layered_bytes.Kinds as layered-bytes-kinds
+use Rattle.view.proofs.through.layered_bytes.Reads as layered-bytes-reads
 use Rattle.view.proofs.through.nested_bytes.Kinds as nested-bytes-kinds
 use Rattle.view.proofs.through.nested_bytes.Reads as nested-bytes-reads
 
@@ -62,6 +70,15 @@ child-end-unique κs a s t x y p q = p ∙ sym q
 pub value-part-unique : One value-part-kinds.ps value-part-kinds.r value-part-reads.Post (λ κs s t x y. SameSlice s t)
 value-part-unique κs a s t x y p q = slices p q
 
+pub layered-looked-unique : OneAnswer layered-looked-kinds.ps layered-looked-kinds.r layered-looked-reads.Post
+layered-looked-unique κs a s t x y p q = p ∙ sym q
+
+pub layered-from-unique : OneAnswer layered-from-kinds.ps layered-from-kinds.r layered-from-reads.Post
+layered-from-unique κs a s t x y p q = p ∙ sym q
+
+pub layered-part-unique : One layered-part-kinds.ps layered-part-kinds.r layered-part-reads.Post (λ κs s t x y. SameSlice s t)
+layered-part-unique κs a s t x y p q = slices p q
+
 pub listed-part-unique : One listed-part-kinds.ps listed-part-kinds.r listed-part-reads.Post (λ κs s t x y. SameSlice s t)
 listed-part-unique κs a s t x y p q = slices p q
 
@@ -79,6 +96,9 @@ opened-pointer-unique κs a s t x y p q = p ∙ sym q
 
 pub value-bytes-unique : One value-bytes-kinds.ps value-bytes-kinds.r value-bytes-reads.Post (λ κs s t x y. SameSlice s t)
 value-bytes-unique κs a s t x y p q = slices p q
+
+pub layered-bytes-unique : One layered-bytes-kinds.ps layered-bytes-kinds.r layered-bytes-reads.Post (λ κs s t x y. SameSlice s t)
+layered-bytes-unique κs a s t x y p q = slices p q
 
 pub nested-bytes-unique : One nested-bytes-kinds.ps nested-bytes-kinds.r nested-bytes-reads.Post (λ κs s t x y. SameSlice s t)
 nested-bytes-unique κs a s t x y p q = slices p q

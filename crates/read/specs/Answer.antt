@@ -4,6 +4,7 @@ use mathlib.Core.List.{List, []}
 use Rattle.words.specs.Store.{part}
 use Rattle.layout.specs.Refusal.{number, badAt}
 use Rattle.read.specs.declared.lookup.Looked.{Looked}
+use Rattle.read.specs.declared.layered.Source.{Source}
 
 unfoldable pub lookedNumber : Looked → ℕ
 lookedNumber (Looked.Pointer start end) = 0
@@ -23,3 +24,8 @@ lookedPointer (Looked.Refused why) = (0, 0)
 unfoldable pub lookedBytes : List ℕ → Looked → List ℕ
 lookedBytes file (Looked.Pointer start end) = part file start (end - start)
 lookedBytes file (Looked.Refused why) = []
+
+-- the table that answered, of two: 0 the owner's, 1 the district's
+abbrev pub sourceNumber : Source → ℕ
+sourceNumber Source.Owner = 0
+sourceNumber Source.District = 1

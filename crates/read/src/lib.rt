@@ -1,4 +1,5 @@
-// Reading a table: an item's key through its parents, and lookup of a key.
+// Reading a table: an item's key through its parents, and lookup of a key in one table or in one over another.
 pub mod chain;
+pub mod layered;
 pub mod lookup;
 pub mod manner;

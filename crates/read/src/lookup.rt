@@ -166,7 +166,7 @@ pub fn lookup_in(file: &[u8], table: Table, key: &[u8], manner: Manner) -> Sough
 
 // gvdb-rs: get_item_bytes.
 // The value of an item: 13 for another kind, then 2 or 3 of its pointer.
-fn value_of(file: &[u8], item: Item) -> Looked
+pub fn value_of(file: &[u8], item: Item) -> Looked
     ensures { λ r. ⌜ r ≡ valueOf (now (file .entry)) item ⌝ }
 {
     if item.kind != VALUE_BYTE {

@@ -3,3 +3,4 @@ pub mod Plain
 pub mod Unique
 pub mod ThroughLaws
 pub mod HoldsLaws
+pub mod LayeredLaws

@@ -22,7 +22,7 @@ use Rattle.view.proofs.PartLaws.{stretch-in}
 use Rattle.view.proofs.Plain.{Whole, Empty, empty-refused, opened-whole, opened-empty, nested-whole, nested-empty, value-refused}
 
 -- where a table does not open, a lookup is refused alike
-value-unopened : (manner : Manner) (file : List ℕ) (start end : ℕ) (key : List ℕ) {why : Refusal} → openTable file start end ≡ Opened.Refused why → lookupValue manner file start end key ≡ Looked.Refused why
+pub value-unopened : (manner : Manner) (file : List ℕ) (start end : ℕ) (key : List ℕ) {why : Refusal} → openTable file start end ≡ Opened.Refused why → lookupValue manner file start end key ≡ Looked.Refused why
 unfolding lookupValue lookupItem atItem atOpened
 value-unopened manner file start end key e = rw e
 

@@ -10,17 +10,20 @@ use Rattle.check_table.specs.declared.check.Checked.{Checked}
 use Rattle.check_table.specs.Rules.{checkTable}
 use Rattle.layout.specs.declared.table.Opened.{Opened}
 use Rattle.read.specs.declared.lookup.Looked.{Looked}
+use Rattle.read.specs.declared.layered.Layered.{Layered}
+use Rattle.read.specs.Layered.{marked}
 use Rattle.read_listing.specs.declared.listing.Listed.{Listed}
 use Rattle.read_listing.specs.declared.listing.Valued.{Valued}
 use Rattle.read_listing.specs.declared.children.Childed.{Childed}
 use Rattle.view.specs.declared.table.TableView.{TableView}
 use Rattle.view.specs.declared.table.OpenedView.{OpenedView}
 use Rattle.view.specs.declared.table.ValueView.{ValueView}
+use Rattle.view.specs.declared.table.LayeredView.{LayeredView}
 use Rattle.view.specs.declared.table.NestedView.{NestedView}
 use Rattle.view.specs.declared.table.ListedView.{ListedView}
 use Rattle.view.specs.declared.table.ChildView.{ChildView}
-use Rattle.view.specs.Part.{Viewed, ValueIn, ListedIn, ChildIn, OpenedIn, NestedIn, openedPointer, pointerStart, pointerEnd}
-use Rattle.view.specs.Views.{OpenedOf, ValueOf, NestedOf, ListedOf, ChildOf, KeyOf}
+use Rattle.view.specs.Part.{Viewed, ValueIn, ofSource, LayeredIn, ListedIn, ChildIn, OpenedIn, NestedIn, openedPointer, pointerStart, pointerEnd}
+use Rattle.view.specs.Views.{OpenedOf, ValueOf, LayeredOf, NestedOf, ListedOf, ChildOf, KeyOf}
 
 -- two slices are the same bytes of the same memory
 pub record Same (r s : RefT (List ℕ)) : Type 0 where
@@ -60,6 +63,15 @@ module _ (t : TableView) where
   value-unique key r s p q =
       let same : r .answer ≡ s .answer = p .answered ∙ sym (q .answered) in
       (same, viewed-unique (t .file) _ _ _ _ (subst (λ (l : Looked). ValueIn (t .file) l (r .bytes)) same (p .viewed)) (q .viewed))
+
+  pub layered-unique : (district : TableView) (key : List ℕ) (r s : LayeredView) → LayeredOf t district key r → LayeredOf t district key s
+      → (r .answer ≡ s .answer) × (r .from ≡ s .from) × Same (r .bytes) (s .bytes)
+  layered-unique district key r s p q =
+      let same : marked (r .answer) (r .from) ≡ marked (s .answer) (s .from) = p .answered ∙ sym (q .answered) in (
+        ap (λ (l : Layered). l .looked) same,
+        ap (λ (l : Layered). l .from) same,
+        viewed-unique (ofSource (s .from) (t .file) (district .file)) _ _ _ _ (subst (λ (l : Layered). LayeredIn (t .file) (district .file) l (r .bytes)) same (p .viewed)) (q .viewed),
+      )
 
   pub nested-unique : (key : List ℕ) (r s : NestedView) → NestedOf t key r → NestedOf t key s → (r .answer ≡ s .answer) × SameTable (r .table) (s .table)
   nested-unique key r s p q =

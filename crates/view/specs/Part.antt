@@ -8,6 +8,8 @@ use denote.Ref.{RefT, now}
 use Rattle.words.specs.Choice.{pick}
 use Rattle.layout.specs.declared.table.Opened.{Opened}
 use Rattle.read.specs.declared.lookup.Looked.{Looked}
+use Rattle.read.specs.declared.layered.Source.{Source}
+use Rattle.read.specs.declared.layered.Layered.{Layered}
 use Rattle.read_listing.specs.declared.listing.Valued.{Valued}
 use Rattle.read_listing.specs.declared.children.Childed.{Childed}
 
@@ -41,6 +43,15 @@ pointerEnd (Looked.Refused why) = 0
 -- a value that was looked up
 abbrev pub ValueIn : RefT (List ℕ) → Looked → RefT (List ℕ) → Type 0
 ValueIn file looked r = Stretch file (pointerStart looked) (pointerEnd looked) r
+
+-- the owner's or the district's, as the mark says
+abbrev pub ofSource : {A : Type 0} → Source → A → A → A
+ofSource Source.Owner own under = own
+ofSource Source.District own under = under
+
+-- a value that was looked up in two tables: it lies in the file of the one that answered
+abbrev pub LayeredIn : RefT (List ℕ) → RefT (List ℕ) → Layered → RefT (List ℕ) → Type 0
+LayeredIn owner district layered r = ValueIn (ofSource (layered .from) owner district) (layered .looked) r
 
 -- start and end of the pointer of a listed value; 0 and 0 on a refusal
 abbrev pub listedStart : Valued → ℕ

@@ -8,16 +8,18 @@ use Rattle.read.specs.declared.manner.Manner.{Manner}
 use Rattle.read.specs.Find.{mannerOf}
 use Rattle.layout.specs.Table.{openTable}
 use Rattle.read.specs.Lookup.{lookupValue, lookupTable}
+use Rattle.read.specs.Layered.{marked, layeredValue}
 use Rattle.read_listing.specs.Listing.{valueAt, keyAt, listed, written}
 use Rattle.read_listing.specs.Children.{nextChild}
 use Rattle.read_listing.specs.declared.listing.Listed.{Listed}
 use Rattle.view.specs.declared.table.TableView.{TableView}
 use Rattle.view.specs.declared.table.OpenedView.{OpenedView}
 use Rattle.view.specs.declared.table.ValueView.{ValueView}
+use Rattle.view.specs.declared.table.LayeredView.{LayeredView}
 use Rattle.view.specs.declared.table.NestedView.{NestedView}
 use Rattle.view.specs.declared.table.ListedView.{ListedView}
 use Rattle.view.specs.declared.table.ChildView.{ChildView}
-use Rattle.view.specs.Part.{ValueIn, ListedIn, ChildIn, OpenedIn, NestedIn, openedPointer, pointerStart, pointerEnd}
+use Rattle.view.specs.Part.{ValueIn, ofSource, ListedIn, ChildIn, OpenedIn, NestedIn, openedPointer, pointerStart, pointerEnd}
 
 -- an opening of a file at a pointer, to be read in a manner
 pub record OpenedOf (file : RefT (List ℕ)) (start end : ℕ) (manner : Manner) (r : OpenedView) : Type 0 where
@@ -31,6 +33,11 @@ pub record OpenedOf (file : RefT (List ℕ)) (start end : ℕ) (manner : Manner)
 pub record ValueOf (t : TableView) (key : List ℕ) (r : ValueView) : Type 0 where
   pub answered : r .answer ≡ lookupValue (mannerOf (t .manner)) (now (t .file)) (t .start) (t .end) key
   pub viewed : ValueIn (t .file) (r .answer) (r .bytes)
+
+-- a lookup of a value in the owner's table, and in the district's under it
+pub record LayeredOf (owner district : TableView) (key : List ℕ) (r : LayeredView) : Type 0 where
+  pub answered : marked (r .answer) (r .from) ≡ layeredValue (mannerOf (owner .manner)) (mannerOf (district .manner)) (now (owner .file)) (owner .start) (owner .end) (now (district .file)) (district .start) (district .end) key
+  pub viewed : ValueIn (ofSource (r .from) (owner .file) (district .file)) (r .answer) (r .bytes)
 
 -- a lookup of a nested table in the table t, to be read in the same manner
 pub record NestedOf (t : TableView) (key : List ℕ) (r : NestedView) : Type 0 where

@@ -1,11 +1,13 @@
 // The parts of a lent file and the numbers that a view is made of, from an answer. A refusal's part is `&file[0..0]`, its numbers are 0.
 use layout::table::Opened;
+use read::layered::Layered;
+use read::layered::Source;
 use read::lookup::Looked;
 use read_listing::children::Childed;
 use read_listing::listing::Valued;
 ghost use mathlib.Core.Path.{_≡_};
 ghost use mathlib.Core.List.{[]};
-ghost use Rattle.view.specs.Part.{Viewed, Stretch, ValueIn, ListedIn, ChildIn, OpenedIn, NestedIn, openedPointer, pointerStart, pointerEnd, listedStart, listedEnd, childStart, childEnd};
+ghost use Rattle.view.specs.Part.{Viewed, Stretch, ValueIn, LayeredIn, ListedIn, ChildIn, OpenedIn, NestedIn, openedPointer, pointerStart, pointerEnd, listedStart, listedEnd, childStart, childEnd};
 
 // No bytes of the file.
 pub fn nothing<'a>(file: &'a [u8]) -> &'a [u8]
@@ -123,6 +125,31 @@ pub fn value_part<'a>(file: &'a [u8], looked: Looked) -> &'a [u8]
     ensures { λ r. ⌜ ValueIn (file .entry) looked r ⌝ }
 {
     stretch(file, pointer_start(looked), pointer_end(looked))
+}
+
+// What a lookup over two tables answers, and which of them did: a view is made of what calls answer, and of no field of a plain struct.
+pub fn layered_looked(layered: Layered) -> Looked
+    ensures { λ r. ⌜ r ≡ layered .looked ⌝ }
+{
+    layered.looked
+}
+
+pub fn layered_from(layered: Layered) -> Source
+    ensures { λ r. ⌜ r ≡ layered .from ⌝ }
+{
+    layered.from
+}
+
+// The bytes of a value that was looked up in two tables: of the one file or of the other.
+pub fn layered_part<'a>(owner: &'a [u8], district: &'a [u8], layered: Layered) -> &'a [u8]
+    ensures { λ r. ⌜ LayeredIn (owner .entry) (district .entry) layered r ⌝ }
+{
+    let looked = layered.looked;
+    let from = layered.from;
+    match from {
+        Source::Owner => value_part(owner, looked),
+        Source::District => value_part(district, looked),
+    }
 }
 
 // The bytes of a value that was listed.

@@ -2,6 +2,7 @@
 // no loop. A view holds no proof that it is good: each call opens the table again, so a view of any numbers is harmless.
 use check_table::check::Checked;
 use layout::table::Opened;
+use read::layered::Source;
 use read::lookup::Looked;
 use read::manner::Manner;
 use read_listing::children::Childed;
@@ -11,7 +12,7 @@ use read_listing::listing::Valued;
 ghost use mathlib.Core.Path.{_≡_};
 ghost use Rattle.read.specs.Find.{mannerOf};
 ghost use Rattle.check_table.specs.Rules.{checkTable};
-ghost use Rattle.view.specs.Views.{OpenedOf, ValueOf, NestedOf, ListedOf, ChildOf, KeyOf};
+ghost use Rattle.view.specs.Views.{OpenedOf, ValueOf, LayeredOf, NestedOf, ListedOf, ChildOf, KeyOf};
 
 // gvdb-rs: HashTable.
 // A table of a lent file: the file, the pointer to the table, and the manner in which it is read.
@@ -31,6 +32,13 @@ pub struct OpenedView<'a> {
 // What a lookup answers, and the value's bytes.
 pub struct ValueView<'a> {
     pub answer: Looked,
+    pub bytes: &'a [u8],
+}
+
+// What a lookup over two tables answers, which of them did, and the value's bytes, of its file.
+pub struct LayeredView<'a> {
+    pub answer: Looked,
+    pub from: Source,
     pub bytes: &'a [u8],
 }
 
@@ -81,6 +89,31 @@ impl<'a> TableView<'a> {
         let answer = read::lookup::lookup_value(self.file, self.start, self.end, key, self.manner);
         let bytes = crate::part::value_part(self.file, answer);
         ValueView { answer, bytes }
+    }
+
+    // The value of a key in this table, the owner's, or in the district's under it where this one answers 12.
+    pub fn layered(self, district: TableView<'a>, key: &[u8]) -> LayeredView<'a>
+        ensures { λ r. ⌜ LayeredOf (self .entry) (district .entry) (now (key .entry)) r ⌝ }
+    {
+        let layered = read::layered::lookup_layered(
+            self.file,
+            self.start,
+            self.end,
+            district.file,
+            district.start,
+            district.end,
+            key,
+            self.manner,
+            district.manner,
+        );
+        let answer = crate::part::layered_looked(layered);
+        let from = crate::part::layered_from(layered);
+        let bytes = crate::part::layered_part(self.file, district.file, layered);
+        LayeredView {
+            answer,
+            from,
+            bytes,
+        }
     }
 
     // gvdb-rs: get_hash_table.

@@ -3,7 +3,8 @@ use crate::table::open_view;
 use read::manner::Manner;
 ghost use Rattle.read.specs.Find.{mannerOf};
 ghost use Rattle.read.specs.Lookup.{lookupValue};
-ghost use Rattle.view.specs.Part.{ValueIn};
+ghost use Rattle.read.specs.Layered.{layeredValue};
+ghost use Rattle.view.specs.Part.{ValueIn, LayeredIn};
 ghost use Rattle.view.specs.Through.{nestedValue};
 
 // The bytes of a key's value.
@@ -19,6 +20,26 @@ pub fn value_bytes<'a, 'k>(
     let opened = open_view(file, start, end, manner);
     let value = opened.table.value(key);
     value.bytes
+}
+
+// The bytes of a key's value in the owner's table, or in the district's under it.
+pub fn layered_bytes<'a, 'k>(
+    owner: &'a [u8],
+    ostart: u32,
+    oend: u32,
+    district: &'a [u8],
+    dstart: u32,
+    dend: u32,
+    key: &'k [u8],
+    omanner: Manner,
+    dmanner: Manner,
+) -> &'a [u8]
+    ensures { λ r. ⌜ LayeredIn (owner .entry) (district .entry) (layeredValue (mannerOf omanner) (mannerOf dmanner) (now (owner .entry)) ostart oend (now (district .entry)) dstart dend (now (key .entry))) r ⌝ }
+{
+    let own = open_view(owner, ostart, oend, omanner);
+    let under = open_view(district, dstart, dend, dmanner);
+    let layered = own.table.layered(under.table, key);
+    layered.bytes
 }
 
 // The bytes of a key's value in the nested table of another key.

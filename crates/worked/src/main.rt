@@ -2,6 +2,7 @@
 // opening. What it writes is held to the file stdout.
 mod header;
 mod laid;
+mod layered;
 mod open;
 mod say;
 mod seen;
@@ -22,4 +23,5 @@ fn main() {
     tour::files();
     laid::tables();
     seen::files();
+    layered::files();
 }

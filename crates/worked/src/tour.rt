@@ -72,7 +72,8 @@ fn value(file: &[u8], start: u32, end: u32, at: usize) {
     say::end();
 }
 
-fn looked(answer: Looked) {
+// What a lookup answers.
+pub fn looked(answer: Looked) {
     match answer {
         Looked::Pointer { start, end } => say::place(start, end),
         Looked::Refused(why) => {

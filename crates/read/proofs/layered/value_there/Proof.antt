@@ -1,0 +1,62 @@
+-- `read::layered::value_there` meets its contract: what is found is an item of the table, of which the value is asked.
+use mathlib.Core.Path.{sym, ap, _∙_, subst}
+use Prim.Native.Nat.{ℕ}
+use borrow.Author.Needs.{needs}
+use Rattle.words.specs.Choice.{pick}
+use Rattle.layout.specs.declared.refusal.Refusal.the-variants.{KeyNotUtf8}
+use Rattle.read.specs.declared.lookup.Looked.{Looked}
+use Rattle.read.specs.Lookup.{lookupIn, atFound, atItem, valueOf}
+use Rattle.read.proofs.FindLaws.{FoundBelow, found-below}
+use Rattle.read.proofs.layered.value_there.Statement.{statement}
+use Rattle.read.proofs.layered.value_there.Tie as tie
+
+is-utf8-requires : tie.Need-is-utf8-requires
+is-utf8-requires c κs = search needs
+
+find-item-requires : tie.Need-find-item-requires
+find-item-requires c κs = (c .before .before .before .before .pre, sym (c .before .is-utf8 .ensures) ∙ c .if1 .taken)
+
+enum-told : tie.Need-enum-told
+enum-told c = search needs
+
+enum-known-index : tie.Need-enum-known-index
+enum-known-index c = search needs
+
+item-at-requires : tie.Need-item-at-requires
+unfolding FoundBelow
+item-at-requires c κs = (c .before .before .before .before .before .before .before .before .pre, subst (FoundBelow _) (sym (c .before .before .before .find-item .ensures) ∙ c .before .index .given .1) (found-below _ _ _ _))
+
+value-of-requires : tie.Need-value-of-requires
+value-of-requires c κs = search needs
+
+first-bad-requires : tie.Need-first-bad-requires
+first-bad-requires c κs = search needs
+
+returns : tie.Need-returns
+unfolding lookupIn atFound atItem pick
+returns c = simp (sym (c .before .before .before .before .is-utf8 .ensures) ∙ c .before .before .before .if1 .taken, sym (c .before .before .find-item .ensures) ∙ c .enum-told .given .1)
+
+returns-2 : tie.Need-returns-2
+unfolding lookupIn atFound atItem pick
+returns-2 c =
+    simp (sym (c .before .before .before .before .before .before .before .is-utf8 .ensures) ∙ c .before .before .before .before .before .before .if1 .taken, sym (c .before .before .before .before .before .find-item .ensures) ∙ c .before .before .before .index .given .1)
+    (c .value-of .ensures ∙ ap (valueOf _) (c .before .item-at .ensures))
+
+returns-3 : tie.Need-returns-3
+unfolding lookupIn atItem pick
+returns-3 c = simp (sym (c .before .before .is-utf8 .ensures) ∙ c .before .if1 .left) (ap (λ (at : ℕ). Looked.Refused (KeyNotUtf8 at)) (c .first-bad .ensures))
+
+pub value-there-spec : {M : Type 1} → statement M
+value-there-spec =
+    tie.close
+    (tie.spec
+    is-utf8-requires
+    find-item-requires
+    enum-told
+    enum-known-index
+    item-at-requires
+    value-of-requires
+    first-bad-requires
+    returns
+    returns-2
+    returns-3)
