@@ -81,27 +81,34 @@ fn deep(place: &Path, depth: usize, values: usize, buckets: usize) {
     fs::write(place, file).unwrap();
 }
 
-/// Seconds that a command takes on a processor, at the least of three times.
+/// Seconds that a command takes on a processor.
 fn seconds(folder: &Path, words: &str) -> f64 {
-    let once = || {
-        let ran = shell(folder, &format!("\"$GVDB\" {words} > out && times")).ends(0);
-        // the second line has those of what the shell has run: 0m0.150s 0m0.010s
-        let user = ran.text().lines().nth(1).unwrap().split('s').next().unwrap().to_string();
-        let (minutes, seconds) = user.split_once('m').unwrap();
-        minutes.parse::<f64>().unwrap() * 60.0 + seconds.parse::<f64>().unwrap()
-    };
-    (0..3).map(|_| once()).fold(f64::MAX, f64::min)
+    let ran = shell(folder, &format!("\"$GVDB\" {words} > out && times")).ends(0);
+    // the second line has those of what the shell has run: 0m0.150s 0m0.010s
+    let user = ran.text().lines().nth(1).unwrap().split('s').next().unwrap().to_string();
+    let (minutes, seconds) = user.split_once('m').unwrap();
+    minutes.parse::<f64>().unwrap() * 60.0 + seconds.parse::<f64>().unwrap()
 }
 
-/// The check does not read the keys of values again: that would take twice as long as all else. `list` has to read them.
+/// That one command takes at most so many times as long as another, by the least of each one's times. A busy machine has both tried again, 20 times at most.
+fn takes_at_most(folder: &Path, words: &str, times: f64, other: &str) {
+    let mut least = (f64::MAX, f64::MAX);
+    for round in 0..20 {
+        least = (seconds(folder, words).min(least.0), seconds(folder, other).min(least.1));
+        if round > 1 && least.0 <= least.1 * times {
+            return;
+        }
+    }
+    panic!("{words}: {} s, {other}: {} s", least.0, least.1);
+}
+
+/// The check does not read the keys of values again, or it would take as long as `list`, which checks the file and then reads them.
 #[test]
 fn check_does_not_read_the_keys_of_values_again() {
     let folder = folder("values");
     deep(&folder.join("f.gvdb"), 1500, 12_000, 13_500);
-    let check = seconds(&folder, "check f.gvdb");
-    assert!(fs::read_to_string(folder.join("out")).unwrap().ends_with("sound, 13,500 items\n"));
-    let list = seconds(&folder, "list f.gvdb");
-    assert!(check * 2.0 < list, "check {check}, list {list}");
+    assert!(gvdb(["check".as_ref(), folder.join("f.gvdb").as_os_str()]).ends(0).text().ends_with("sound, 13,500 items\n"));
+    takes_at_most(&folder, "check f.gvdb", 0.75, "list f.gvdb");
 }
 
 /// Behind the library's check a chain of containers is walked once more, and not three times. The library walks as far up from the values below a shorter chain,
@@ -111,8 +118,7 @@ fn check_walks_a_chain_once() {
     let folder = folder("chain");
     deep(&folder.join("containers.gvdb"), 6000, 0, 6000);
     deep(&folder.join("values.gvdb"), 1500, 11_250, 12_750);
-    let (containers, values) = (seconds(&folder, "check containers.gvdb"), seconds(&folder, "check values.gvdb"));
-    assert!(containers < values * 2.7, "containers {containers}, values {values}");
+    takes_at_most(&folder, "check containers.gvdb", 2.7, "check values.gvdb");
 }
 
 /// In one bucket each lookup goes over all items: the check of all keys is slow, their listing is not.
@@ -120,8 +126,7 @@ fn check_walks_a_chain_once() {
 fn list_without_the_check_is_fast() {
     let folder = folder("one-bucket");
     deep(&folder.join("f.gvdb"), 1, 20_000, 1);
-    let (checked, unchecked) = (seconds(&folder, "list f.gvdb"), seconds(&folder, "list --no-check f.gvdb"));
-    assert!(unchecked * 2.0 < checked, "checked {checked}, unchecked {unchecked}");
+    takes_at_most(&folder, "list --no-check f.gvdb", 0.5, "list f.gvdb");
 }
 
 #[test]

@@ -56,7 +56,7 @@ fn who_waits_is_told() {
     let lock = File::create(folder.join(".r.gvdb-lock")).unwrap();
     lock.lock().unwrap();
     let run = start(&folder, &["merge", "r", "a", "-o", "r"]);
-    thread::sleep(Duration::from_millis(1500));
+    thread::sleep(Duration::from_millis(3000));
     assert_eq!(dump(&place), "k\t00\n");
     drop(lock);
     end(run).ends(0).says("gvdb: r: another run of gvdb is writing it; waiting for it to end");
