@@ -12,7 +12,7 @@ use lib.Bits.{bitAnd, and-zero-l, and-high, and-block}
 use borrow.Author.Tests.{leb-true, leb-false, lt-leb, le-leb, eqb-true, eqb-false, eq-eqb, ne-eqb}
 use Rattle.words.specs.Store.{part}
 use Rattle.words.specs.Hash.{hashStep, hashFrom, hashBy, plain, signed}
-use Rattle.words.specs.Field.{littleEndian, field, longAt}
+use Rattle.words.specs.Field.{littleEndian, field}
 use Rattle.words.proofs.ChoiceLaws.{both, both-hold}
 use Rattle.words.proofs.StoreLaws.{length-part}
 use Rattle.words.proofs.HashLaws.{signed-low}
@@ -57,7 +57,7 @@ ascii-drop n s e = both (isAscii (take n s)) (isAscii (drop n s)) (sym (ascii-sp
 -- ---- the highest bits of the bytes of a number
 
 -- the number with these bits set, for n bytes
-highest : ℕ → ℕ
+unfoldable pub highest : ℕ → ℕ
 highest zero = 0
 highest (suc n) = 128 + 256 * highest n
 
@@ -94,12 +94,13 @@ clear-ascii (b ∷ s) bytes =
     ∙ both-clear (bitAnd (littleEndian s) (highest (length s))) (bitAnd b 128)
     ∙ ap₂ (λ (p q : Bool). p && q) (bit-clear b (bytes 0)) (clear-ascii s (λ i. bytes (suc i)))
 
-pub eight-ascii : (s : List ℕ) (at : ℕ) → ((i : ℕ) → getD s i 0 < 256) → at + 8 ≤ length s
-    → eqb (bitAnd (longAt s at) 0x8080808080808080) 0 ≡ isAscii (part s at 8)
-unfolding field highest
-eight-ascii s at bytes h =
-    ap (λ (n : ℕ). eqb (bitAnd (littleEndian (part s at 8)) (highest n)) 0) (sym (length-part s at 8 h))
-    ∙ clear-ascii (part s at 8) (stretch-bytes 8 at s bytes)
+-- a stretch of n bytes, read as one number
+pub field-ascii : (n : ℕ) (s : List ℕ) (at : ℕ) → ((i : ℕ) → getD s i 0 < 256) → at + n ≤ length s
+    → eqb (bitAnd (field n s at) (highest n)) 0 ≡ isAscii (part s at n)
+unfolding field
+field-ascii n s at bytes h =
+    ap (λ (k : ℕ). eqb (bitAnd (littleEndian (part s at n)) (highest k)) 0) (sym (length-part s at n h))
+    ∙ clear-ascii (part s at n) (stretch-bytes n at s bytes)
 
 pub ascii-none : (s : List ℕ) (at : ℕ) → isAscii (part s at 0) ≡ true
 unfolding isAscii
@@ -127,6 +128,16 @@ ascii-last s i last n whole reach front = go (isAscii (part s last n)) refl
         let shorter : isAscii (take last s) ≡ true = sym (ap isAscii (take-take last i s reach)) ∙ ascii-take last (take i s) front in
         sym (ap isAscii (sym (take-all (last + n) s (omega arith))) ∙ ascii-turn s last n shorter here)
     go false other = sym (ascii-stop s last n other)
+
+-- two stretches cover a text of at most twice their length
+pub ascii-two : (n : ℕ) (s : List ℕ) (last : ℕ) → ((i : ℕ) → getD s i 0 < 256) → last + n ≡ length s → last ≤ n
+    → (eqb (bitAnd (field n s 0) (highest n)) 0 && eqb (bitAnd (field n s last) (highest n)) 0) ≡ isAscii s
+ascii-two n s last bytes whole reach =
+    ap₂ (λ (p q : Bool). p && q) (field-ascii n s 0 bytes (omega arith)) (field-ascii n s last bytes (omega arith)) ∙ go (isAscii (part s 0 n)) refl
+  where
+    go : (t : Bool) → isAscii (part s 0 n) ≡ t → (t && isAscii (part s last n)) ≡ isAscii s
+    go true front = ascii-last s n last n whole reach front
+    go false other = sym (ascii-stop s 0 n other)
 
 -- byte by byte
 module _ (s : List ℕ) (i : ℕ) (h : i < length s) where
