@@ -9,8 +9,9 @@ use words::hash::wrapping_mul;
 use words::wide::half_size;
 use words::wide::word_size;
 ghost use mathlib.Core.Path.{_≡_};
+ghost use mathlib.Core.List.{[], _∷_};
 ghost use Prim.Native.Nat.{_<_};
-ghost use Rattle.words.specs.Hash.{ruleOf};
+ghost use Rattle.words.specs.Hash.{plain, ruleOf};
 ghost use Rattle.layout.specs.Table.{InFile};
 ghost use Rattle.read.specs.Chain.{keyOf};
 ghost use Rattle.check_keys.specs.Tally.{before, prepend, finish};
@@ -53,13 +54,44 @@ fn prepend_each(bytes: &[u8], tally: Tally, form: Form) -> Tally
     state
 }
 
+// The tally with four bytes more in front, by what they count.
+fn prepend_four(a: u32, b: u32, c: u32, d: u32, tally: Tally) -> Tally
+    ensures { λ r. ⌜ r ≡ prepend plain (a ∷ b ∷ c ∷ d ∷ []) tally ⌝ }
+{
+    let weight = tally.weight;
+    let ab = std::num::wrapping_add_u32(wrapping_mul(a, 35_937), wrapping_mul(b, 1_089));
+    let cd = std::num::wrapping_add_u32(wrapping_mul(c, 33), d);
+    let counted = wrapping_mul(std::num::wrapping_add_u32(ab, cd), weight);
+    Tally {
+        weight: wrapping_mul(1_185_921, weight),
+        sum: std::num::wrapping_add_u32(counted, tally.sum),
+    }
+}
+
+// The same as prepend_each, four bytes at a time from the back, and then what is left in front.
+fn prepend_strides(bytes: &[u8], tally: Tally, form: Form) -> Tally
+    ensures { λ r. ⌜ r ≡ prepend (ruleOf form) (now (bytes .entry)) tally ⌝ }
+{
+    let mut state = tally;
+    let mut i = bytes.len();
+    while 4 <= i {
+        i -= 4;
+        let a = byte_counts(bytes[i], form);
+        let b = byte_counts(bytes[i + 1], form);
+        let c = byte_counts(bytes[i + 2], form);
+        let d = byte_counts(bytes[i + 3], form);
+        state = prepend_four(a, b, c, d, state);
+    }
+    prepend_each(&bytes[..i], state, form)
+}
+
 // The same: the form is chosen once for all bytes, and not at each of them.
 fn prepend_all(bytes: &[u8], tally: Tally, form: Form) -> Tally
     ensures { λ r. ⌜ r ≡ prepend (ruleOf form) (now (bytes .entry)) tally ⌝ }
 {
     match form {
-        Form::Plain => prepend_each(bytes, tally, Form::Plain),
-        Form::Signed => prepend_each(bytes, tally, Form::Signed),
+        Form::Plain => prepend_strides(bytes, tally, Form::Plain),
+        Form::Signed => prepend_strides(bytes, tally, Form::Signed),
     }
 }
 

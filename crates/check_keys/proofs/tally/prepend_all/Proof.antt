@@ -7,20 +7,20 @@ use Rattle.check_keys.proofs.tally.prepend_all.Tie as tie
 enum-told : tie.Need-enum-told
 enum-told c = search needs
 
-prepend-each-requires : tie.Need-prepend-each-requires
-prepend-each-requires c κs = search needs
+prepend-strides-requires : tie.Need-prepend-strides-requires
+prepend-strides-requires c κs = search needs
 
 enum-told-2 : tie.Need-enum-told-2
 enum-told-2 c = search needs
 
-prepend-each-requires-2 : tie.Need-prepend-each-requires-2
-prepend-each-requires-2 c κs = search needs
+prepend-strides-requires-2 : tie.Need-prepend-strides-requires-2
+prepend-strides-requires-2 c κs = search needs
 
 returns : tie.Need-returns
-returns c = form-named _ _ (c .before .enum-told .given .1) (c .prepend-each .ensures)
+returns c = form-named _ _ (c .before .enum-told .given .1) (c .prepend-strides .ensures)
 
 returns-2 : tie.Need-returns-2
-returns-2 c = form-named _ _ (c .before .enum-told2 .given .1) (c .prepend-each2 .ensures)
+returns-2 c = form-named _ _ (c .before .enum-told2 .given .1) (c .prepend-strides2 .ensures)
 
 pub prepend-all-spec : {M : Type 1} → statement M
-prepend-all-spec = tie.close (tie.spec enum-told prepend-each-requires enum-told-2 prepend-each-requires-2 returns returns-2)
+prepend-all-spec = tie.close (tie.spec enum-told prepend-strides-requires enum-told-2 prepend-strides-requires-2 returns returns-2)
