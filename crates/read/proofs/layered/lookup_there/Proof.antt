@@ -16,7 +16,7 @@ enum-known-table : tie.Need-enum-known-table
 enum-known-table c = search needs
 
 value-there-requires : tie.Need-value-there-requires
-value-there-requires c κs = opened-in-file _ _ _ (sym (c .before .before .before .open-table .ensures) ∙ c .before .table .given .1)
+value-there-requires c κs = (opened-in-file _ _ _ (sym (c .before .before .before .open-table .ensures) ∙ c .before .table .given .1), c .before .before .before .before .before .before .pre)
 
 returns : tie.Need-returns
 unfolding lookupValue lookupItem atOpened atItem

@@ -10,11 +10,8 @@ use Rattle.read.proofs.FindLaws.{FoundBelow, found-below}
 use Rattle.read.proofs.layered.value_there.Statement.{statement}
 use Rattle.read.proofs.layered.value_there.Tie as tie
 
-is-utf8-requires : tie.Need-is-utf8-requires
-is-utf8-requires c κs = search needs
-
 find-item-requires : tie.Need-find-item-requires
-find-item-requires c κs = (c .before .before .before .before .pre, sym (c .before .is-utf8 .ensures) ∙ c .if1 .taken)
+find-item-requires c κs = (c .before .before .before .pre .0, sym (c .before .before .before .pre .1) ∙ c .if1 .taken)
 
 enum-told : tie.Need-enum-told
 enum-told c = search needs
@@ -24,7 +21,7 @@ enum-known-index c = search needs
 
 item-at-requires : tie.Need-item-at-requires
 unfolding FoundBelow
-item-at-requires c κs = (c .before .before .before .before .before .before .before .before .pre, subst (FoundBelow _) (sym (c .before .before .before .find-item .ensures) ∙ c .before .index .given .1) (found-below _ _ _ _))
+item-at-requires c κs = (c .before .before .before .before .before .before .before .pre .0, subst (FoundBelow _) (sym (c .before .before .before .find-item .ensures) ∙ c .before .index .given .1) (found-below _ _ _ _))
 
 value-of-requires : tie.Need-value-of-requires
 value-of-requires c κs = search needs
@@ -34,23 +31,22 @@ first-bad-requires c κs = search needs
 
 returns : tie.Need-returns
 unfolding lookupIn atFound atItem pick
-returns c = simp (sym (c .before .before .before .before .is-utf8 .ensures) ∙ c .before .before .before .if1 .taken, sym (c .before .before .find-item .ensures) ∙ c .enum-told .given .1)
+returns c = simp (sym (c .before .before .before .before .before .before .pre .1) ∙ c .before .before .before .if1 .taken, sym (c .before .before .find-item .ensures) ∙ c .enum-told .given .1)
 
 returns-2 : tie.Need-returns-2
 unfolding lookupIn atFound atItem pick
 returns-2 c =
-    simp (sym (c .before .before .before .before .before .before .before .is-utf8 .ensures) ∙ c .before .before .before .before .before .before .if1 .taken, sym (c .before .before .before .before .before .find-item .ensures) ∙ c .before .before .before .index .given .1)
+    simp (sym (c .before .before .before .before .before .before .before .before .before .pre .1) ∙ c .before .before .before .before .before .before .if1 .taken, sym (c .before .before .before .before .before .find-item .ensures) ∙ c .before .before .before .index .given .1)
     (c .value-of .ensures ∙ ap (valueOf _) (c .before .item-at .ensures))
 
 returns-3 : tie.Need-returns-3
 unfolding lookupIn atItem pick
-returns-3 c = simp (sym (c .before .before .is-utf8 .ensures) ∙ c .before .if1 .left) (ap (λ (at : ℕ). Looked.Refused (KeyNotUtf8 at)) (c .first-bad .ensures))
+returns-3 c = simp (sym (c .before .before .before .before .pre .1) ∙ c .before .if1 .left) (ap (λ (at : ℕ). Looked.Refused (KeyNotUtf8 at)) (c .first-bad .ensures))
 
 pub value-there-spec : {M : Type 1} → statement M
 value-there-spec =
     tie.close
     (tie.spec
-    is-utf8-requires
     find-item-requires
     enum-told
     enum-known-index
