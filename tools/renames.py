@@ -97,12 +97,25 @@ def function(old, new, crates=None):
     return [Rule(rf"(?<![\w]){old}(?![\w])", new, crates), Rule(rf"(?<![A-Za-z0-9′]){kebab[0]}(?![A-Za-z′])", kebab[1], crates)]
 
 
+def apart(old, new, module, pages):
+    """A module that went to a crate of its own with its files of definitions and laws: paths, and names seen from other crates. A name that stands inside
+    the old crate (`Rattle.old.specs`) is left: in the new crate it is the crate's own, elsewhere another's."""
+    pages = "|".join(pages)
+    return [
+        Rule(rf"(?<![\w])crates/{old}/(?=src/{module}\.rt|proofs/{module}/|(?:specs|proofs)/(?:{pages})\.antt)", f"crates/{new}/"),
+        Rule(rf"Rattle\.{old}\.(?=proofs\.{module}\.|(?:specs|proofs)\.(?:{pages})\b)", f"Rattle.{new}."),
+        Rule(rf"(?<![\w:]){old}::(?={module}::)", f"{new}::"),
+        Rule(rf"(?<=calls-){old}(?=·{module}·)", new.replace("_", "-")),
+    ]
+
+
 CHECK = {"check_keys", "check_table"}
 MEMORY = {"build_memory", "build_rules", "build_tables", "build_values", "build_nested", "history", "write", "write_numbers", "write_order"}
 WRITE = {"write", "write_numbers", "write_bytes", "write_order"}
 LAID = WRITE | {"image", "laid", "demands"}
 
 GROUPS = {f"crate-{old}": crate(old, new) for old, new in CRATES}
+GROUPS["crate-views"] = apart("view", "view_part", "part", ["Part", "PartLaws"]) + apart("view", "view_through", "through", ["Through", "ThroughLaws"])
 
 # An item's own key is its joined key.
 GROUPS["joined-key"] = (
@@ -330,7 +343,7 @@ GROUPS["pointer"] = (
     + exact("placeEnd", "pointerEnd")
     + function("place_start", "pointer_start")
     + function("place_end", "pointer_end")
-    + exact("atPlace", "atLooked", {"view"})
+    + exact("atPlace", "atLooked", {"view", "view_through"})
     + exact("lookedPlace", "lookedPointer")
     + exact("valuedPlace", "valuedPointer")
     + [Rule(r"(?<=Looked[.:])(:?)Place\b", r"\1Pointer"), Rule(r"^    Place(?= \{ start: u32)", "    Pointer", {"read"})]

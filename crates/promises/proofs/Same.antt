@@ -4,7 +4,7 @@ use mathlib.Core.List.{List}
 use Prim.Native.Nat.{ℕ}
 use denote.Ref.{RefT}
 use Rattle.build_memory.specs.Memory.{Memory, Outcome, outcome}
-use Rattle.view.specs.Part.{Viewed}
+use Rattle.view_part.specs.Part.{Viewed}
 use Rattle.promises.specs.One.{SameSlice}
 
 -- the answer, the words and the arena of a builder's call

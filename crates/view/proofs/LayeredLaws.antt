@@ -1,33 +1,27 @@
--- A view of two tables is the value's view of the one that its mark names; and going through views is asking at the two pointers.
+-- A view of two tables is the value's view of the one that its mark names.
 use Prim.Native.Nat.{ℕ, _-_}
 use mathlib.Core.Path.{_≡_, refl, sym, ap, subst, _∙_}
 use mathlib.Core.Bool.{Bool, true, false}
 use mathlib.Core.List.{List, []}
-use native.Mathlib.Omega.{arith}
 use lib.Dec.{eqb}
 use lib.ListN.{take, drop}
 use borrow.Author.Tests.{eqb-true, eqb-false}
 use denote.Ref.{RefT, now}
 use Rattle.layout.specs.declared.refusal.Refusal.{Refusal}
-use Rattle.layout.specs.declared.table.Opened.{Opened}
-use Rattle.layout.proofs.AnswerLaws.{opened-low}
-use Rattle.read.specs.declared.manner.Manner as code
 use Rattle.read.specs.declared.lookup.Looked.{Looked}
 use Rattle.read.specs.declared.layered.Source.{Source}
 use Rattle.read.specs.declared.layered.Layered.{Layered}
 use Rattle.read.specs.Find.{mannerOf}
 use Rattle.read.specs.Lookup.{lookupValue}
 use Rattle.read.specs.Answer.{lookedNumber}
-use Rattle.read.specs.Layered.{marked, layeredOf, layeredValue}
+use Rattle.read.specs.Layered.{marked, layeredValue}
 use Rattle.read.proofs.LayeredLaws.{own-answers, own-misses}
 use Rattle.view.specs.declared.table.TableView.{TableView}
-use Rattle.view.specs.declared.table.OpenedView.{OpenedView}
 use Rattle.view.specs.declared.table.ValueView.{ValueView}
 use Rattle.view.specs.declared.table.LayeredView.{LayeredView}
-use Rattle.view.specs.Part.{Viewed, ValueIn, ofSource, LayeredIn}
-use Rattle.view.specs.Views.{OpenedOf, ValueOf, LayeredOf}
-use Rattle.view.proofs.Plain.{empty-refused, value-seen, value-refused, opened-whole, opened-empty}
-use Rattle.view.proofs.ThroughLaws.{value-unopened, value-through}
+use Rattle.view_part.specs.Part.{Viewed, ValueIn, ofSource, LayeredIn}
+use Rattle.view.specs.Views.{ValueOf, LayeredOf}
+use Rattle.view.proofs.Plain.{value-seen, value-refused}
 
 -- the walk's facts, put together
 pub layered-of : (owner district : TableView) (key : List ℕ) (layered : Layered) (answer : Looked) (from : Source) (bytes : RefT (List ℕ))
@@ -40,22 +34,22 @@ layered-of owner district key layered answer from bytes said is mark seen = reco
 }
 
 -- what a table answers alone
-abbrev alone : TableView → List ℕ → Looked
+abbrev pub alone : TableView → List ℕ → Looked
 alone t key = lookupValue (mannerOf (t .manner)) (now (t .file)) (t .start) (t .end) key
 
 -- the value's view in the table that the mark names
-abbrev valueView : LayeredView → ValueView
+abbrev pub valueView : LayeredView → ValueView
 valueView r = record { answer = r .answer; bytes = r .bytes }
 
 module _ (owner district : TableView) (key : List ℕ) (r : LayeredView) (said : LayeredOf owner district key r) where
-  of-owner : (lookedNumber (alone owner key) ≡ 12 → ⊥) → (r .from ≡ Source.Owner) × ValueOf owner key (valueView r)
+  pub of-owner : (lookedNumber (alone owner key) ≡ 12 → ⊥) → (r .from ≡ Source.Owner) × ValueOf owner key (valueView r)
   unfolding layeredValue
   of-owner answers =
       let is : marked (r .answer) (r .from) ≡ marked (alone owner key) Source.Owner = said .answered ∙ own-answers _ _ answers in
       let mark : r .from ≡ Source.Owner = ap (λ (l : Layered). l .from) is in
       (mark, record { answered = ap (λ (l : Layered). l .looked) is; viewed = subst (λ (s : Source). ValueIn (ofSource s (owner .file) (district .file)) (r .answer) (r .bytes)) mark (said .viewed) })
 
-  of-district : lookedNumber (alone owner key) ≡ 12 → (r .from ≡ Source.District) × ValueOf district key (valueView r)
+  pub of-district : lookedNumber (alone owner key) ≡ 12 → (r .from ≡ Source.District) × ValueOf district key (valueView r)
   unfolding layeredValue
   of-district misses =
       let is : marked (r .answer) (r .from) ≡ marked (alone district key) Source.District = said .answered ∙ own-misses _ _ misses in
@@ -77,40 +71,3 @@ module _ (owner district : TableView) (key : List ℕ) (r : LayeredView) (said :
 
   pub layered-refused : {why : Refusal} → r .answer ≡ Looked.Refused why → Viewed (ofSource (r .from) owner district .file) (r .bytes) 0 []
   layered-refused e = value-refused (ofSource (r .from) owner district) key (valueView r) layered-one e
-
--- a view that was opened answers 12 exactly where the table at the pointer does
-module _ (file : RefT (List ℕ)) (start end : ℕ) (manner : code.Manner) (key : List ℕ) (o : OpenedView) (opened : OpenedOf file start end manner o) where
-  abbrev there : Looked
-  there = lookupValue (mannerOf manner) (now file) start end key
-
-  same-twelve : ((lookedNumber (alone (o .table) key) ≡ 12) → lookedNumber there ≡ 12) × (lookedNumber there ≡ 12 → lookedNumber (alone (o .table) key) ≡ 12)
-  unfolding lookedNumber
-  same-twelve = by-answer (o .answer) refl
-    where
-      by-answer : (answer : Opened) → o .answer ≡ answer → ((lookedNumber (alone (o .table) key) ≡ 12) → lookedNumber there ≡ 12) × (lookedNumber there ≡ 12 → lookedNumber (alone (o .table) key) ≡ 12)
-      by-answer (Opened.Table table) e =
-          let whole = opened-whole file start end manner o opened e in
-          let same : alone (o .table) key ≡ there = rw (whole .seen .holds, whole .starts, whole .ends, whole .manners) refl in
-          (λ f. sym (ap lookedNumber same) ∙ f, λ f. ap lookedNumber same ∙ f)
-      by-answer (Opened.Refused why) e =
-          let seen = ap lookedNumber (value-unopened (mannerOf (o .table .manner)) _ _ _ key (empty-refused file (o .table) (opened-empty file start end manner o opened e))) in
-          let not = ap lookedNumber (value-unopened (mannerOf manner) (now file) start end key (sym (opened .answered) ∙ e)) in
-          (λ f. absurd (omega (arith, seen, f)), λ f. absurd (omega (arith, not, f, opened-low (now file) start end (sym (opened .answered) ∙ e))))
-
--- two views that were opened, by what the owner's answers
-pub layered-through : (owner : RefT (List ℕ)) (ostart oend : ℕ) (omanner : code.Manner) (district : RefT (List ℕ)) (dstart dend : ℕ) (dmanner : code.Manner) (key : List ℕ)
-    (own under : OpenedView) (r : LayeredView) → OpenedOf owner ostart oend omanner own → OpenedOf district dstart dend dmanner under → LayeredOf (own .table) (under .table) key r
-    → LayeredIn owner district (layeredValue (mannerOf omanner) (mannerOf dmanner) (now owner) ostart oend (now district) dstart dend key) (r .bytes)
-unfolding layeredValue
-layered-through owner ostart oend omanner district dstart dend dmanner key own under r first second said = by-test (eqb (lookedNumber (alone (own .table) key)) 12) refl
-  where
-    by-test : (q : Bool) → eqb (lookedNumber (alone (own .table) key)) 12 ≡ q
-        → LayeredIn owner district (layeredOf (lookupValue (mannerOf omanner) (now owner) ostart oend key) (lookupValue (mannerOf dmanner) (now district) dstart dend key)) (r .bytes)
-    by-test true e =
-        let misses = eqb-true _ _ e in
-        subst (λ (l : Layered). LayeredIn owner district l (r .bytes)) (sym (own-misses _ _ (same-twelve owner ostart oend omanner key own first .0 misses)))
-        (value-through district dstart dend dmanner key under (valueView r) second (of-district (own .table) (under .table) key r said misses .1))
-    by-test false e =
-        let answers = eqb-false _ _ e in
-        subst (λ (l : Layered). LayeredIn owner district l (r .bytes)) (sym (own-answers _ _ (λ f. answers (same-twelve owner ostart oend omanner key own first .1 f))))
-        (value-through owner ostart oend omanner key own (valueView r) first (of-owner (own .table) (under .table) key r said answers .1))

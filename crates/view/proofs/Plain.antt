@@ -29,9 +29,9 @@ use Rattle.view.specs.declared.table.ValueView.{ValueView}
 use Rattle.view.specs.declared.table.NestedView.{NestedView}
 use Rattle.view.specs.declared.table.ListedView.{ListedView}
 use Rattle.view.specs.declared.table.ChildView.{ChildView}
-use Rattle.view.specs.Part.{Viewed, Stretch, pointerStart, pointerEnd, listedStart, listedEnd, childStart, childEnd, openedPointer, openedFile, nestedFile}
+use Rattle.view_part.specs.Part.{Viewed, Stretch, pointerStart, pointerEnd, listedStart, listedEnd, childStart, childEnd, openedPointer, openedFile, nestedFile}
 use Rattle.view.specs.Views.{OpenedOf, ValueOf, NestedOf, ListedOf, ChildOf}
-use Rattle.view.proofs.PartLaws.{stretch-same, stretch-out, viewed-same}
+use Rattle.view_part.proofs.PartLaws.{stretch-same, stretch-out, viewed-same}
 
 -- the view `table` of the lent file: the whole file, the pointer from start to end, and the manner
 pub record Whole (file : RefT (List ℕ)) (table : TableView) (start end : ℕ) (manner : code.Manner) : Type 0 where

@@ -22,7 +22,7 @@ use Rattle.view.specs.declared.table.LayeredView.{LayeredView}
 use Rattle.view.specs.declared.table.NestedView.{NestedView}
 use Rattle.view.specs.declared.table.ListedView.{ListedView}
 use Rattle.view.specs.declared.table.ChildView.{ChildView}
-use Rattle.view.specs.Part.{Viewed, ValueIn, ofSource, LayeredIn, ListedIn, ChildIn, OpenedIn, NestedIn, openedPointer, pointerStart, pointerEnd}
+use Rattle.view_part.specs.Part.{Viewed, ValueIn, ofSource, LayeredIn, ListedIn, ChildIn, OpenedIn, NestedIn, openedPointer, pointerStart, pointerEnd}
 use Rattle.view.specs.Views.{OpenedOf, ValueOf, LayeredOf, NestedOf, ListedOf, ChildOf, KeyOf}
 
 -- two slices are the same bytes of the same memory

@@ -19,7 +19,7 @@ use Rattle.view.specs.declared.table.LayeredView.{LayeredView}
 use Rattle.view.specs.declared.table.NestedView.{NestedView}
 use Rattle.view.specs.declared.table.ListedView.{ListedView}
 use Rattle.view.specs.declared.table.ChildView.{ChildView}
-use Rattle.view.specs.Part.{ValueIn, ofSource, ListedIn, ChildIn, OpenedIn, NestedIn, openedPointer, pointerStart, pointerEnd}
+use Rattle.view_part.specs.Part.{ValueIn, ofSource, ListedIn, ChildIn, OpenedIn, NestedIn, openedPointer, pointerStart, pointerEnd}
 
 -- an opening of a file at a pointer, to be read in a manner
 pub record OpenedOf (file : RefT (List ℕ)) (start end : ℕ) (manner : Manner) (r : OpenedView) : Type 0 where

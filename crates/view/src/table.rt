@@ -66,9 +66,9 @@ pub fn open_view<'a>(file: &'a [u8], start: u32, end: u32, manner: Manner) -> Op
     ensures { λ r. ⌜ OpenedOf (file .entry) start end manner r ⌝ }
 {
     let answer = layout::table::open_table(file, start, end);
-    let lent = crate::part::opened_part(file, answer);
-    let from = crate::part::opened_pointer(answer, start);
-    let to = crate::part::opened_pointer(answer, end);
+    let lent = view_part::part::opened_part(file, answer);
+    let from = view_part::part::opened_pointer(answer, start);
+    let to = view_part::part::opened_pointer(answer, end);
     OpenedView {
         answer,
         table: TableView {
@@ -87,7 +87,7 @@ impl<'a> TableView<'a> {
         ensures { λ r. ⌜ ValueOf (self .entry) (now (key .entry)) r ⌝ }
     {
         let answer = read::lookup::lookup_value(self.file, self.start, self.end, key, self.manner);
-        let bytes = crate::part::value_part(self.file, answer);
+        let bytes = view_part::part::value_part(self.file, answer);
         ValueView { answer, bytes }
     }
 
@@ -106,9 +106,9 @@ impl<'a> TableView<'a> {
             self.manner,
             district.manner,
         );
-        let answer = crate::part::layered_looked(layered);
-        let from = crate::part::layered_from(layered);
-        let bytes = crate::part::layered_part(self.file, district.file, layered);
+        let answer = view_part::part::layered_looked(layered);
+        let from = view_part::part::layered_from(layered);
+        let bytes = view_part::part::layered_part(self.file, district.file, layered);
         LayeredView {
             answer,
             from,
@@ -122,9 +122,9 @@ impl<'a> TableView<'a> {
         ensures { λ r. ⌜ NestedOf (self .entry) (now (key .entry)) r ⌝ }
     {
         let answer = read::lookup::lookup_table(self.file, self.start, self.end, key, self.manner);
-        let lent = crate::part::nested_part(self.file, answer);
-        let from = crate::part::pointer_start(answer);
-        let to = crate::part::pointer_end(answer);
+        let lent = view_part::part::nested_part(self.file, answer);
+        let from = view_part::part::pointer_start(answer);
+        let to = view_part::part::pointer_end(answer);
         let manner = self.manner;
         NestedView {
             answer,
@@ -143,7 +143,7 @@ impl<'a> TableView<'a> {
         ensures { λ r. ⌜ ListedOf (self .entry) (cursor .at) r ⌝ }
     {
         let answer = Cursor::next_value(cursor, self.file, self.start, self.end);
-        let bytes = crate::part::listed_part(self.file, answer);
+        let bytes = view_part::part::listed_part(self.file, answer);
         ListedView { answer, bytes }
     }
 
@@ -152,7 +152,7 @@ impl<'a> TableView<'a> {
         ensures { λ r. ⌜ ChildOf (self .entry) (now (key .entry)) (cursor .at) r ⌝ }
     {
         let answer = Cursor::next_child(cursor, self.file, self.start, self.end, key, self.manner);
-        let fragment = crate::part::child_part(self.file, answer);
+        let fragment = view_part::part::child_part(self.file, answer);
         ChildView { answer, fragment }
     }
 

@@ -117,7 +117,7 @@ fn child(image: &[u8], start: u32, end: u32, position: usize) {
         say::text(b", kind ");
         say::number(child.kind as u64);
         say::text(b", \"");
-        say::text(view::part::stretch(image, child.start, child.end));
+        say::text(view_part::part::stretch(image, child.start, child.end));
         say::text(b"\", next ");
         say::size(child.next);
     } else {

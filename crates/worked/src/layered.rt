@@ -3,7 +3,7 @@ use crate::say;
 use read::layered::Source;
 use read::layered::lookup_layered;
 use read::manner::Manner;
-use view::through::layered_bytes;
+use view_through::through::layered_bytes;
 use words::field::word_at;
 use words::hash::Form;
 
@@ -75,7 +75,7 @@ fn over<'a, 'n, 'o>(name: &'n [u8], owner: &'a [u8], other: &'o [u8], district: 
     title(name, b" over ", other);
     lookups(owner, ostart, oend, district, dstart, dend);
     title(name, b" over the header of ", other);
-    let header = view::part::stretch(district, 0, 24);
+    let header = view_part::part::stretch(district, 0, 24);
     lookups(owner, ostart, oend, header, dstart, dend);
 }
 

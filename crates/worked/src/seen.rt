@@ -8,7 +8,13 @@ fn value(file: &[u8], start: u32, end: u32, key: &[u8]) {
     say::text(b"  view of ");
     say::text(key);
     say::text(b": ");
-    say::bytes(view::through::value_bytes(file, start, end, key, Manner { form: Form::Plain }));
+    say::bytes(view_through::through::value_bytes(
+        file,
+        start,
+        end,
+        key,
+        Manner { form: Form::Plain },
+    ));
     say::end();
 }
 
@@ -19,7 +25,7 @@ fn nested(file: &[u8], start: u32, end: u32, table: &[u8], key: &[u8]) {
     say::text(b" in ");
     say::text(table);
     say::text(b": ");
-    say::bytes(view::through::nested_bytes(
+    say::bytes(view_through::through::nested_bytes(
         file,
         start,
         end,

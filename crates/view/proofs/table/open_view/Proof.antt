@@ -40,7 +40,7 @@ use denote.Triple.Walked.{says, Stays, stay-none, stay-none-slice, walkOf, goes-
 use denote.Exit.{yes}
 use denote.Triple.Clauses.{ensured, lasts}
 use Rattle.layout.specs.Table.{openTable}
-use Rattle.view.specs.Part.{OpenedIn, openedPointer}
+use Rattle.view_part.specs.Part.{OpenedIn, openedPointer}
 use Rattle.view.specs.Views.{OpenedOf}
 use Rattle.layout.specs.declared.table.Opened.{Opened}
 use Rattle.layout.proofs.table.Opened as DOpened
@@ -58,14 +58,14 @@ use Rattle.layout.proofs.table.open_table as of-open-table
 use Rattle.layout.proofs.table.open_table.Symbol as of-open-table-def
 use Rattle.layout.proofs.table.open_table.Symbol.{name as #open-table}
 use Rattle.layout.proofs.table.open_table.Met as of-open-table-thm
-use Rattle.view.proofs.part.opened_part as of-opened-part
-use Rattle.view.proofs.part.opened_part.Symbol as of-opened-part-def
-use Rattle.view.proofs.part.opened_part.Symbol.{name as #opened-part}
-use Rattle.view.proofs.part.opened_part.Met as of-opened-part-thm
-use Rattle.view.proofs.part.opened_pointer as of-opened-pointer
-use Rattle.view.proofs.part.opened_pointer.Symbol as of-opened-pointer-def
-use Rattle.view.proofs.part.opened_pointer.Symbol.{name as #opened-pointer}
-use Rattle.view.proofs.part.opened_pointer.Met as of-opened-pointer-thm
+use Rattle.view_part.proofs.part.opened_part as of-opened-part
+use Rattle.view_part.proofs.part.opened_part.Symbol as of-opened-part-def
+use Rattle.view_part.proofs.part.opened_part.Symbol.{name as #opened-part}
+use Rattle.view_part.proofs.part.opened_part.Met as of-opened-part-thm
+use Rattle.view_part.proofs.part.opened_pointer as of-opened-pointer
+use Rattle.view_part.proofs.part.opened_pointer.Symbol as of-opened-pointer-def
+use Rattle.view_part.proofs.part.opened_pointer.Symbol.{name as #opened-pointer}
+use Rattle.view_part.proofs.part.opened_pointer.Met as of-opened-pointer-thm
 use Rattle.view.proofs.table.open_view.Key.{name as #it}
 use Rattle.view.proofs.table.open_view as it
 use Rattle.view.proofs.table.open_view.Statement as stated
@@ -79,11 +79,11 @@ module _ {M : Type 1} (𝓤 : URA M) (H : Heap 𝓤) (A : Atoms 𝓤) (mem : Mem
   abbrev Contract-open-table : Contract 𝓤
   Contract-open-table = tripleOf 𝓤 H A of-open-table.signature (of-open-table.spec 𝓤 H A mem run)
 
-  -- the contract of `view::part::opened_part`
+  -- the contract of `view_part::part::opened_part`
   abbrev Contract-opened-part : Contract 𝓤
   Contract-opened-part = tripleOf 𝓤 H A of-opened-part.signature (of-opened-part.spec 𝓤 H A mem run)
 
-  -- the contract of `view::part::opened_pointer`
+  -- the contract of `view_part::part::opened_pointer`
   abbrev Contract-opened-pointer : Contract 𝓤
   Contract-opened-pointer = tripleOf 𝓤 H A of-opened-pointer.signature (of-opened-pointer.spec 𝓤 H A mem run)
 
@@ -104,7 +104,7 @@ module _ {M : Type 1} (𝓤 : URA M) (H : Heap 𝓤) (A : Atoms 𝓤) (W : Given
   said-1 : (r1 : Opened) → ent 𝓤 (ensured 𝓤 H A of-open-table.ended (of-open-table.clauses 𝓤 H A mem run) (κ₀, tt) (file, (start, (end, tt))) tt r1) (fact 𝓤 (r1 ≡ openTable (now file) start end))
   said-1 r1 = exE 𝓤 _ (λ ws. snd∗ 𝓤 (sem 𝓤 H A (lasts of-open-table.ended (κ₀, tt) (file, (start, (end, tt))) ws)) (fact 𝓤 (r1 ≡ openTable (now file) start end)))
 
-  -- call 2, of `view::part::opened_part`: what it is passed, what it asks, and what it says of its result
+  -- call 2, of `view_part::part::opened_part`: what it is passed, what it asks, and what it says of its result
   abbrev to-2 : (r1 : Opened) (u1 : Val) → Contract-opened-part 𝓤 H A mem run .Ghost
   to-2 r1 u1 = (((κ₀, tt), (q₀, tt), tt, (file, (r1, tt)), ((sliceVal (file .ptr) (length (file .now))) ∷ [], (u1 ∷ [], tt))), tt)
 
@@ -114,7 +114,7 @@ module _ {M : Type 1} (𝓤 : URA M) (H : Heap 𝓤) (A : Atoms 𝓤) (W : Given
   said-2 : (r1 : Opened) (u1 : Val) (r2 : RefT (List ℕ)) → ent 𝓤 (ensured 𝓤 H A of-opened-part.ended (of-opened-part.clauses 𝓤 H A mem run) (κ₀, tt) (file, (r1, tt)) tt r2) (fact 𝓤 (OpenedIn file r1 r2))
   said-2 r1 u1 r2 = exE 𝓤 _ (λ ws. snd∗ 𝓤 (sem 𝓤 H A (lasts of-opened-part.ended (κ₀, tt) (file, (r1, tt)) ws)) (fact 𝓤 (OpenedIn file r1 r2)))
 
-  -- call 3, of `view::part::opened_pointer`: what it is passed, what it asks, and what it says of its result
+  -- call 3, of `view_part::part::opened_pointer`: what it is passed, what it asks, and what it says of its result
   abbrev to-3 : (r1 : Opened) (r2 : RefT (List ℕ)) (u1 : Val) (u2 : Val) → Contract-opened-pointer 𝓤 H A mem run .Ghost
   to-3 r1 r2 u1 u2 = ((tt, tt, tt, (r1, (start, tt)), (u1 ∷ [], ((vint w32 start) ∷ [], tt))), tt)
 
@@ -124,7 +124,7 @@ module _ {M : Type 1} (𝓤 : URA M) (H : Heap 𝓤) (A : Atoms 𝓤) (W : Given
   said-3 : (r1 : Opened) (r2 : RefT (List ℕ)) (u1 : Val) (u2 : Val) (r3 : ℕ) → ent 𝓤 (ensured 𝓤 H A of-opened-pointer.ended (of-opened-pointer.clauses 𝓤 H A mem run) tt (r1, (start, tt)) tt r3) (fact 𝓤 (r3 ≡ openedPointer r1 start))
   said-3 r1 r2 u1 u2 r3 = exE 𝓤 _ (λ ws. snd∗ 𝓤 (sem 𝓤 H A (lasts of-opened-pointer.ended tt (r1, (start, tt)) ws)) (fact 𝓤 (r3 ≡ openedPointer r1 start)))
 
-  -- call 4, of `view::part::opened_pointer`: what it is passed, what it asks, and what it says of its result
+  -- call 4, of `view_part::part::opened_pointer`: what it is passed, what it asks, and what it says of its result
   abbrev to-4 : (r1 : Opened) (r2 : RefT (List ℕ)) (r3 : ℕ) (u1 : Val) (u2 : Val) (u3 : Val) → Contract-opened-pointer 𝓤 H A mem run .Ghost
   to-4 r1 r2 r3 u1 u2 u3 = ((tt, tt, tt, (r1, (end, tt)), (u1 ∷ [], ((vint w32 end) ∷ [], tt))), tt)
 
@@ -154,19 +154,19 @@ module _ {M : Type 1} (𝓤 : URA M) (H : Heap 𝓤) (A : Atoms 𝓤) (W : Given
           use1 W (later (some (λ (r1 : Opened). ((‵ (flft κ₀ q₀) ⊛ ‵ ftrue) ⊛ ‵ (DOpened.the-row .own r1 (u1 ∷ []))) ⊛ raw (ensured 𝓤 H A of-open-table.ended (of-open-table.clauses 𝓤 H A mem run) (κ₀, tt) (file, (start, (end, tt))) tt r1)))) (id⊢ 𝓤 _) $ await ! tt $ pick ! (λ r1.
           split ! $ move ! (1 ∷ []) $ use1 W (raw (fact 𝓤 (r1 ≡ openTable (now file) start end))) (said-1 r1) $ heard ! (r1 ≡ openTable (now file) start end) (λ e1. split ! $ split ! $ move ! (1 ∷ []) $ drop ! $ move ! (1 ∷ []) $ facts ! DOpened.the-row (Is DOpened.the-row) (shows 𝓤 H A DOpened.the-row) r1 (u1 ∷ []) (λ i1.
           land ! (from ! (stop !)) (init ! 10 refl (EL.lawful DOpened.the-type DOpened′.the-laws 𝓤 H A W tt .typed r1 _ i1 .0)) $
-          -- call 2, of `view::part::opened_part`
+          -- call 2, of `view_part::part::opened_part`
           nothing ! $ owned ! DOpened.the-row (Is DOpened.the-row) (EL.makes DOpened.the-type DOpened′.the-plain 𝓤 H A) r1 (u1 ∷ []) i1 $ fjoin ! $ move ! (2 ∷ []) $ use1 W (‵ ((ShrSlice (named 0) κ₀ u8) .own file ((sliceVal (file .ptr) (length (file .now))) ∷ [])) ⊛ ‵ ((ShrSlice (named 0) κ₀ u8) .own file ((sliceVal (file .ptr) (length (file .now))) ∷ []))) (shr-slice-copy 𝓤 H A W (named 0) κ₀ u8 .twice file ((sliceVal (file .ptr) (length (file .now))) ∷ [])) $ split ! $ move ! (0 ∷ 2 ∷ []) $ fjoin ! $ nothing ! $ move ! (3 ∷ 0 ∷ []) $ join ! $ use2 W (raw (Contract-opened-part 𝓤 H A mem run .pre (to-2 r1 u1))) (asked-2 r1 u1) $
           calls-at ! fm (Contract-opened-part 𝓤 H A mem run) known-opened-part (to-2 r1 u1) (and-then ! (load ! (from ! (stop !)) (look ! 18 refl)) (and-then ! (load ! (from ! (stop !)) (look ! 10 refl)) (no-more !))) (λ u2.
           use1 W (later (some (λ (r2 : RefT (List ℕ)). ((‵ (flft κ₀ q₀) ⊛ ‵ ftrue) ⊛ ‵ ((ShrSlice (named 0) κ₀ u8) .own r2 (u2 ∷ []))) ⊛ raw (ensured 𝓤 H A of-opened-part.ended (of-opened-part.clauses 𝓤 H A mem run) (κ₀, tt) (file, (r1, tt)) tt r2)))) (id⊢ 𝓤 _) $ await ! tt $ pick ! (λ r2.
           split ! $ move ! (1 ∷ []) $ use1 W (raw (fact 𝓤 (OpenedIn file r1 r2))) (said-2 r1 u1 r2) $ heard ! (OpenedIn file r1 r2) (λ e2. split ! $ split ! $ move ! (1 ∷ []) $ drop ! $ move ! (1 ∷ []) $ peeks ! (ShrSlice (named 0) κ₀ u8) (Is (ShrSlice (named 0) κ₀ u8)) (shows 𝓤 H A (ShrSlice (named 0) κ₀ u8)) r2 (u2 ∷ []) (λ i2.
           land ! (from ! (stop !)) (init ! 9 refl (shr-slice-lawful 𝓤 H A W erased κ₀ u8 .typed r2 (u2 ∷ []) i2 .0)) $
-          -- call 3, of `view::part::opened_pointer`
+          -- call 3, of `view_part::part::opened_pointer`
           nothing ! $ owned ! u32 (Is u32) (uint-makes 𝓤 H A W w32) start ((vint w32 start) ∷ []) (refl, fit1) $ fjoin ! $ owned ! DOpened.the-row (Is DOpened.the-row) (EL.makes DOpened.the-type DOpened′.the-plain 𝓤 H A) r1 (u1 ∷ []) i1 $ fjoin ! $ nothing ! $ use2 W (raw (Contract-opened-pointer 𝓤 H A mem run .pre (to-3 r1 r2 u1 u2))) (asked-3 r1 r2 u1 u2) $
           calls-at ! fm (Contract-opened-pointer 𝓤 H A mem run) known-opened-pointer (to-3 r1 r2 u1 u2) (and-then ! (load ! (from ! (stop !)) (look ! 12 refl)) (and-then ! (load ! (from ! (stop !)) (look ! 18 refl)) (no-more !))) (λ u3.
           use1 W (later (some (λ (r3 : ℕ). ((‵ ftrue) ⊛ ‵ (u32 .own r3 (u3 ∷ []))) ⊛ raw (ensured 𝓤 H A of-opened-pointer.ended (of-opened-pointer.clauses 𝓤 H A mem run) tt (r1, (start, tt)) tt r3)))) (id⊢ 𝓤 _) $ await ! tt $ pick ! (λ r3.
           split ! $ move ! (1 ∷ []) $ use1 W (raw (fact 𝓤 (r3 ≡ openedPointer r1 start))) (said-3 r1 r2 u1 u2 r3) $ heard ! (r3 ≡ openedPointer r1 start) (λ e3. split ! $ drop ! $ facts ! u32 (Is u32) (shows 𝓤 H A u32) r3 (u3 ∷ []) (λ i3.
           land ! (from ! (stop !)) (init ! 7 refl (uint-lawful 𝓤 H A W w32 .typed r3 _ i3 .0)) $
-          -- call 4, of `view::part::opened_pointer`
+          -- call 4, of `view_part::part::opened_pointer`
           nothing ! $ owned ! u32 (Is u32) (uint-makes 𝓤 H A W w32) end ((vint w32 end) ∷ []) (refl, fit2) $ fjoin ! $ owned ! DOpened.the-row (Is DOpened.the-row) (EL.makes DOpened.the-type DOpened′.the-plain 𝓤 H A) r1 (u1 ∷ []) i1 $ fjoin ! $ nothing ! $ use2 W (raw (Contract-opened-pointer 𝓤 H A mem run .pre (to-4 r1 r2 r3 u1 u2 u3))) (asked-4 r1 r2 r3 u1 u2 u3) $
           calls-at ! fm (Contract-opened-pointer 𝓤 H A mem run) known-opened-pointer (to-4 r1 r2 r3 u1 u2 u3) (and-then ! (load ! (from ! (stop !)) (look ! 12 refl)) (and-then ! (load ! (from ! (stop !)) (look ! 16 refl)) (no-more !))) (λ u4.
           use1 W (later (some (λ (r4 : ℕ). ((‵ ftrue) ⊛ ‵ (u32 .own r4 (u4 ∷ []))) ⊛ raw (ensured 𝓤 H A of-opened-pointer.ended (of-opened-pointer.clauses 𝓤 H A mem run) tt (r1, (end, tt)) tt r4)))) (id⊢ 𝓤 _) $ await ! tt $ pick ! (λ r4.
@@ -200,5 +200,5 @@ open-view-spec 𝓤 H 𝓜 𝓖 𝓡 =
     (tables 𝓤 H 𝓜 𝓡 code.env .C) (tables 𝓤 H 𝓜 𝓡 code.env .Λ) #it code.function (code.unfolded 𝓤 H 𝓜 𝓡)
     (it-meets 𝓤 H (𝓖 .A) (givenOf 𝓤 H 𝓜 𝓖) (𝓜 .mem) (𝓡 .run) (tablesOf 𝓤 H 𝓜 (tables 𝓤 H 𝓜 𝓡 code.env))
     (cited 𝓤 H (Contract-open-table 𝓤 H (𝓖 .A) (𝓜 .mem) (𝓡 .run)) 𝓜 𝓡 code.env #open-table of-open-table-def.routine code.calls-layout·table·open-table (of-open-table-thm.met 𝓤 H 𝓜 𝓖 𝓡))
-    (cited 𝓤 H (Contract-opened-part 𝓤 H (𝓖 .A) (𝓜 .mem) (𝓡 .run)) 𝓜 𝓡 code.env #opened-part of-opened-part-def.routine code.calls-view·part·opened-part (of-opened-part-thm.met 𝓤 H 𝓜 𝓖 𝓡))
-    (cited 𝓤 H (Contract-opened-pointer 𝓤 H (𝓖 .A) (𝓜 .mem) (𝓡 .run)) 𝓜 𝓡 code.env #opened-pointer of-opened-pointer-def.routine code.calls-view·part·opened-pointer (of-opened-pointer-thm.met 𝓤 H 𝓜 𝓖 𝓡)))
+    (cited 𝓤 H (Contract-opened-part 𝓤 H (𝓖 .A) (𝓜 .mem) (𝓡 .run)) 𝓜 𝓡 code.env #opened-part of-opened-part-def.routine code.calls-view-part·part·opened-part (of-opened-part-thm.met 𝓤 H 𝓜 𝓖 𝓡))
+    (cited 𝓤 H (Contract-opened-pointer 𝓤 H (𝓖 .A) (𝓜 .mem) (𝓡 .run)) 𝓜 𝓡 code.env #opened-pointer of-opened-pointer-def.routine code.calls-view-part·part·opened-pointer (of-opened-pointer-thm.met 𝓤 H 𝓜 𝓖 𝓡)))

@@ -43,7 +43,7 @@ use denote.Exit.{yes}
 use denote.Triple.Clauses.{ensured, lasts}
 use Rattle.read.specs.Find.{mannerOf}
 use Rattle.read.specs.Layered.{layeredValue}
-use Rattle.view.specs.Part.{LayeredIn}
+use Rattle.view_part.specs.Part.{LayeredIn}
 use Rattle.view.specs.Views.{LayeredOf}
 use Rattle.view.proofs.LayeredLaws.{layered-of}
 use Rattle.view.proofs.HoldsLaws.{and-left}
@@ -68,18 +68,18 @@ use Rattle.read.proofs.layered.lookup_layered as of-lookup-layered
 use Rattle.read.proofs.layered.lookup_layered.Symbol as of-lookup-layered-def
 use Rattle.read.proofs.layered.lookup_layered.Symbol.{name as #lookup-layered}
 use Rattle.read.proofs.layered.lookup_layered.Met as of-lookup-layered-thm
-use Rattle.view.proofs.part.layered_looked as of-layered-looked
-use Rattle.view.proofs.part.layered_looked.Symbol as of-layered-looked-def
-use Rattle.view.proofs.part.layered_looked.Symbol.{name as #layered-looked}
-use Rattle.view.proofs.part.layered_looked.Met as of-layered-looked-thm
-use Rattle.view.proofs.part.layered_from as of-layered-from
-use Rattle.view.proofs.part.layered_from.Symbol as of-layered-from-def
-use Rattle.view.proofs.part.layered_from.Symbol.{name as #layered-from}
-use Rattle.view.proofs.part.layered_from.Met as of-layered-from-thm
-use Rattle.view.proofs.part.layered_part as of-layered-part
-use Rattle.view.proofs.part.layered_part.Symbol as of-layered-part-def
-use Rattle.view.proofs.part.layered_part.Symbol.{name as #layered-part}
-use Rattle.view.proofs.part.layered_part.Met as of-layered-part-thm
+use Rattle.view_part.proofs.part.layered_looked as of-layered-looked
+use Rattle.view_part.proofs.part.layered_looked.Symbol as of-layered-looked-def
+use Rattle.view_part.proofs.part.layered_looked.Symbol.{name as #layered-looked}
+use Rattle.view_part.proofs.part.layered_looked.Met as of-layered-looked-thm
+use Rattle.view_part.proofs.part.layered_from as of-layered-from
+use Rattle.view_part.proofs.part.layered_from.Symbol as of-layered-from-def
+use Rattle.view_part.proofs.part.layered_from.Symbol.{name as #layered-from}
+use Rattle.view_part.proofs.part.layered_from.Met as of-layered-from-thm
+use Rattle.view_part.proofs.part.layered_part as of-layered-part
+use Rattle.view_part.proofs.part.layered_part.Symbol as of-layered-part-def
+use Rattle.view_part.proofs.part.layered_part.Symbol.{name as #layered-part}
+use Rattle.view_part.proofs.part.layered_part.Met as of-layered-part-thm
 use Rattle.view.proofs.table.TableView.layered.Key.{name as #it}
 use Rattle.view.proofs.table.TableView.layered as it
 use Rattle.view.proofs.table.TableView.layered.Statement as stated
@@ -93,15 +93,15 @@ module _ {M : Type 1} (𝓤 : URA M) (H : Heap 𝓤) (A : Atoms 𝓤) (mem : Mem
   abbrev Contract-lookup-layered : Contract 𝓤
   Contract-lookup-layered = tripleOf 𝓤 H A of-lookup-layered.signature (of-lookup-layered.spec 𝓤 H A mem run)
 
-  -- the contract of `view::part::layered_looked`
+  -- the contract of `view_part::part::layered_looked`
   abbrev Contract-layered-looked : Contract 𝓤
   Contract-layered-looked = tripleOf 𝓤 H A of-layered-looked.signature (of-layered-looked.spec 𝓤 H A mem run)
 
-  -- the contract of `view::part::layered_from`
+  -- the contract of `view_part::part::layered_from`
   abbrev Contract-layered-from : Contract 𝓤
   Contract-layered-from = tripleOf 𝓤 H A of-layered-from.signature (of-layered-from.spec 𝓤 H A mem run)
 
-  -- the contract of `view::part::layered_part`
+  -- the contract of `view_part::part::layered_part`
   abbrev Contract-layered-part : Contract 𝓤
   Contract-layered-part = tripleOf 𝓤 H A of-layered-part.signature (of-layered-part.spec 𝓤 H A mem run)
 
@@ -154,7 +154,7 @@ module _ {M : Type 1} (𝓤 : URA M) (H : Heap 𝓤) (A : Atoms 𝓤) (W : Given
       use1 W (given ((LL.val (DTableView.the-type (namedLft 2 0 tt (κ₀, (κ₁, tt)))) (DTableView′.the-laws (namedLft 2 0 tt (κ₀, (κ₁, tt)))) self) ∷ [] ≡ (LL.val (DTableView.the-type (namedLft 2 0 tt (κ₀, (κ₁, tt)))) (DTableView′.the-laws (namedLft 2 0 tt (κ₀, (κ₁, tt)))) self) ∷ []) (‵ (all-own ((DTableView.the-type (namedLft 2 0 tt (κ₀, (κ₁, tt)))) .parts) (DTableView′.the-laws (namedLft 2 0 tt (κ₀, (κ₁, tt)))) (self .file, (self .start, (self .end, (self .manner, tt))))))) (own-open 𝓤 H A W (DTableView.the-type (namedLft 2 0 tt (κ₀, (κ₁, tt)))) (DTableView′.the-laws (namedLft 2 0 tt (κ₀, (κ₁, tt)))) (self .file, (self .start, (self .end, (self .manner, tt)))) (LL.val (DTableView.the-type (namedLft 2 0 tt (κ₀, (κ₁, tt)))) (DTableView′.the-laws (namedLft 2 0 tt (κ₀, (κ₁, tt)))) self)) $ learn ! (λ _.
       use1 W (‵ (ownAt ((DTableView.the-type (namedLft 2 0 tt (κ₀, (κ₁, tt)))) .parts) (DTableView′.the-laws (namedLft 2 0 tt (κ₀, (κ₁, tt)))) 0 ((self .file))) ⊛ ‵ (rest ((DTableView.the-type (namedLft 2 0 tt (κ₀, (κ₁, tt)))) .parts) (DTableView′.the-laws (namedLft 2 0 tt (κ₀, (κ₁, tt)))) 0 (self .file, (self .start, (self .end, (self .manner, tt)))))) (own-out 𝓤 H A W ((DTableView.the-type (namedLft 2 0 tt (κ₀, (κ₁, tt)))) .parts) (DTableView′.the-laws (namedLft 2 0 tt (κ₀, (κ₁, tt)))) 0 (self .file, (self .start, (self .end, (self .manner, tt))))) $ split ! $ move ! (1 ∷ []) $ drop ! $ done !)
 
-  -- call 2, of `view::part::layered_looked`: what it is passed, what it asks, and what it says of its result
+  -- call 2, of `view_part::part::layered_looked`: what it is passed, what it asks, and what it says of its result
   abbrev to-2 : (r1 : Layered) (u1 : Val) → Contract-layered-looked 𝓤 H A mem run .Ghost
   to-2 r1 u1 = ((tt, tt, tt, (r1, tt), (u1 ∷ [], tt)), tt)
 
@@ -164,7 +164,7 @@ module _ {M : Type 1} (𝓤 : URA M) (H : Heap 𝓤) (A : Atoms 𝓤) (W : Given
   said-2 : (r1 : Layered) (u1 : Val) (r2 : Looked) → ent 𝓤 (ensured 𝓤 H A of-layered-looked.ended (of-layered-looked.clauses 𝓤 H A mem run) tt (r1, tt) tt r2) (fact 𝓤 (r2 ≡ r1 .looked))
   said-2 r1 u1 r2 = exE 𝓤 _ (λ ws. snd∗ 𝓤 (sem 𝓤 H A (lasts of-layered-looked.ended tt (r1, tt) ws)) (fact 𝓤 (r2 ≡ r1 .looked)))
 
-  -- call 3, of `view::part::layered_from`: what it is passed, what it asks, and what it says of its result
+  -- call 3, of `view_part::part::layered_from`: what it is passed, what it asks, and what it says of its result
   abbrev to-3 : (r1 : Layered) (r2 : Looked) (u1 : Val) (u2 : Val) → Contract-layered-from 𝓤 H A mem run .Ghost
   to-3 r1 r2 u1 u2 = ((tt, tt, tt, (r1, tt), (u1 ∷ [], tt)), tt)
 
@@ -174,7 +174,7 @@ module _ {M : Type 1} (𝓤 : URA M) (H : Heap 𝓤) (A : Atoms 𝓤) (W : Given
   said-3 : (r1 : Layered) (r2 : Looked) (u1 : Val) (u2 : Val) (r3 : Source) → ent 𝓤 (ensured 𝓤 H A of-layered-from.ended (of-layered-from.clauses 𝓤 H A mem run) tt (r1, tt) tt r3) (fact 𝓤 (r3 ≡ r1 .from))
   said-3 r1 r2 u1 u2 r3 = exE 𝓤 _ (λ ws. snd∗ 𝓤 (sem 𝓤 H A (lasts of-layered-from.ended tt (r1, tt) ws)) (fact 𝓤 (r3 ≡ r1 .from)))
 
-  -- call 4, of `view::part::layered_part`: what it is passed, what it asks, and what it says of its result
+  -- call 4, of `view_part::part::layered_part`: what it is passed, what it asks, and what it says of its result
   abbrev to-4 : (r1 : Layered) (r2 : Looked) (r3 : Source) (u1 : Val) (u2 : Val) (u3 : Val) → Contract-layered-part 𝓤 H A mem run .Ghost
   to-4 r1 r2 r3 u1 u2 u3 = (((κ₀, tt), (q₀, tt), tt, ((self .file), ((district .file), (r1, tt))), ((sliceVal ((self .file) .ptr) (length ((self .file) .now))) ∷ [], ((sliceVal ((district .file) .ptr) (length ((district .file) .now))) ∷ [], (u1 ∷ [], tt)))), tt)
 
@@ -212,13 +212,13 @@ module _ {M : Type 1} (𝓤 : URA M) (H : Heap 𝓤) (A : Atoms 𝓤) (W : Given
           use1 W (later (some (λ (r1 : Layered). ((‵ (flft κ₀ q₀) ⊛ ‵ (flft κ₁ q₁) ⊛ ‵ ftrue) ⊛ ‵ (DLayered.the-row .own r1 (u1 ∷ []))) ⊛ raw (ensured 𝓤 H A of-lookup-layered.ended (of-lookup-layered.clauses 𝓤 H A mem run) (κ₀, (κ₁, tt)) ((self .file), ((self .start), ((self .end), ((district .file), ((district .start), ((district .end), (key, ((self .manner), ((district .manner), tt))))))))) tt r1)))) (id⊢ 𝓤 _) $ await ! tt $ pick ! (λ r1.
           split ! $ move ! (1 ∷ []) $ use1 W (raw (fact 𝓤 (r1 ≡ layeredValue (mannerOf (self .manner)) (mannerOf (district .manner)) (now (self .file)) (self .start) (self .end) (now (district .file)) (district .start) (district .end) (now key)))) (said-1 r1) $ heard ! (r1 ≡ layeredValue (mannerOf (self .manner)) (mannerOf (district .manner)) (now (self .file)) (self .start) (self .end) (now (district .file)) (district .start) (district .end) (now key)) (λ e1. split ! $ split ! $ move ! (1 ∷ []) $ split ! $ move ! (1 ∷ []) $ drop ! $ move ! (2 ∷ []) $ facts ! DLayered.the-row (Is DLayered.the-row) (shows 𝓤 H A DLayered.the-row) r1 (u1 ∷ []) (λ i1.
           land ! (from ! (stop !)) (init ! 31 refl (LL.lawful DLayered.the-type DLayered′.the-laws 𝓤 H A W .typed r1 _ i1 .0)) $
-          -- call 2, of `view::part::layered_looked`
+          -- call 2, of `view_part::part::layered_looked`
           nothing ! $ owned ! DLayered.the-row (Is DLayered.the-row) (LL.makes DLayered.the-type DLayered′.the-plain 𝓤 H A) r1 (u1 ∷ []) i1 $ fjoin ! $ nothing ! $ use2 W (raw (Contract-layered-looked 𝓤 H A mem run .pre (to-2 r1 u1))) (asked-2 r1 u1) $
           calls-at ! fm (Contract-layered-looked 𝓤 H A mem run) known-layered-looked (to-2 r1 u1) (and-then ! (load ! (from ! (stop !)) (look ! 32 refl)) (no-more !)) (λ u2.
           use1 W (later (some (λ (r2 : Looked). ((‵ ftrue) ⊛ ‵ (DLooked.the-row .own r2 (u2 ∷ []))) ⊛ raw (ensured 𝓤 H A of-layered-looked.ended (of-layered-looked.clauses 𝓤 H A mem run) tt (r1, tt) tt r2)))) (id⊢ 𝓤 _) $ await ! tt $ pick ! (λ r2.
           split ! $ move ! (1 ∷ []) $ use1 W (raw (fact 𝓤 (r2 ≡ r1 .looked))) (said-2 r1 u1 r2) $ heard ! (r2 ≡ r1 .looked) (λ e2. split ! $ drop ! $ facts ! DLooked.the-row (Is DLooked.the-row) (shows 𝓤 H A DLooked.the-row) r2 (u2 ∷ []) (λ i2.
           land ! (from ! (stop !)) (init ! 29 refl (EL.lawful DLooked.the-type DLooked′.the-laws 𝓤 H A W tt .typed r2 _ i2 .0)) $
-          -- call 3, of `view::part::layered_from`
+          -- call 3, of `view_part::part::layered_from`
           nothing ! $ owned ! DLayered.the-row (Is DLayered.the-row) (LL.makes DLayered.the-type DLayered′.the-plain 𝓤 H A) r1 (u1 ∷ []) i1 $ fjoin ! $ nothing ! $ use2 W (raw (Contract-layered-from 𝓤 H A mem run .pre (to-3 r1 r2 u1 u2))) (asked-3 r1 r2 u1 u2) $
           calls-at ! fm (Contract-layered-from 𝓤 H A mem run) known-layered-from (to-3 r1 r2 u1 u2) (and-then ! (load ! (from ! (stop !)) (look ! 32 refl)) (no-more !)) (λ u3.
           use1 W (later (some (λ (r3 : Source). ((‵ ftrue) ⊛ ‵ (DSource.the-row .own r3 (u3 ∷ []))) ⊛ raw (ensured 𝓤 H A of-layered-from.ended (of-layered-from.clauses 𝓤 H A mem run) tt (r1, tt) tt r3)))) (id⊢ 𝓤 _) $ await ! tt $ pick ! (λ r3.
@@ -226,7 +226,7 @@ module _ {M : Type 1} (𝓤 : URA M) (H : Heap 𝓤) (A : Atoms 𝓤) (W : Given
           land ! (from ! (stop !)) (init ! 27 refl (EL.lawful DSource.the-type DSource′.the-laws 𝓤 H A W tt .typed r3 _ i3 .0)) $
           assigns ! (of-opd ! (load ! (from ! (fld ! refl (stop !))) (look-in ! 37 (sub ! 0 refl (whole !))))) (from ! (stop !)) (init ! 7 refl (tt, wt0 .1 .0)) $
           assigns ! (of-opd ! (load ! (from ! (fld ! refl (stop !))) (look-in ! 35 (sub ! 0 refl (whole !))))) (from ! (stop !)) (init ! 5 refl (tt, wt1 .1 .0)) $
-          -- call 4, of `view::part::layered_part`
+          -- call 4, of `view_part::part::layered_part`
           nothing ! $ owned ! DLayered.the-row (Is DLayered.the-row) (LL.makes DLayered.the-type DLayered′.the-plain 𝓤 H A) r1 (u1 ∷ []) i1 $ fjoin ! $ move ! (4 ∷ []) $ use1 W (‵ ((ShrSlice (named 0) κ₀ u8) .own (district .file) ((sliceVal ((district .file) .ptr) (length ((district .file) .now))) ∷ [])) ⊛ ‵ ((DTableView.the-row (namedLft 2 0 tt (κ₀, (κ₁, tt)))) .own district ((LL.val (DTableView.the-type (namedLft 2 0 tt (κ₀, (κ₁, tt)))) (DTableView′.the-laws (namedLft 2 0 tt (κ₀, (κ₁, tt)))) district) ∷ []))) out-district-0 $ split ! $ move ! (0 ∷ 2 ∷ []) $ fjoin ! $ move ! (4 ∷ []) $ use1 W (‵ ((ShrSlice (named 0) κ₀ u8) .own (self .file) ((sliceVal ((self .file) .ptr) (length ((self .file) .now))) ∷ [])) ⊛ ‵ ((DTableView.the-row (namedLft 2 0 tt (κ₀, (κ₁, tt)))) .own self ((LL.val (DTableView.the-type (namedLft 2 0 tt (κ₀, (κ₁, tt)))) (DTableView′.the-laws (namedLft 2 0 tt (κ₀, (κ₁, tt)))) self) ∷ []))) out-self-0 $ split ! $ move ! (0 ∷ 2 ∷ []) $ fjoin ! $ nothing ! $ move ! (5 ∷ 0 ∷ []) $ join ! $ use2 W (raw (Contract-layered-part 𝓤 H A mem run .pre (to-4 r1 r2 r3 u1 u2 u3))) (asked-4 r1 r2 r3 u1 u2 u3) $
           calls-at ! fm (Contract-layered-part 𝓤 H A mem run) known-layered-part (to-4 r1 r2 r3 u1 u2 u3) (and-then ! (load ! (from ! (stop !)) (look ! 7 refl)) (and-then ! (load ! (from ! (stop !)) (look ! 5 refl)) (and-then ! (load ! (from ! (stop !)) (look ! 31 refl)) (no-more !)))) (λ u4.
           use1 W (later (some (λ (r4 : RefT (List ℕ)). ((‵ (flft κ₀ q₀) ⊛ ‵ ftrue) ⊛ ‵ ((ShrSlice (named 0) κ₀ u8) .own r4 (u4 ∷ []))) ⊛ raw (ensured 𝓤 H A of-layered-part.ended (of-layered-part.clauses 𝓤 H A mem run) (κ₀, tt) ((self .file), ((district .file), (r1, tt))) tt r4)))) (id⊢ 𝓤 _) $ await ! tt $ pick ! (λ r4.
@@ -257,6 +257,6 @@ layered-spec 𝓤 H 𝓜 𝓖 𝓡 =
     (tables 𝓤 H 𝓜 𝓡 code.env .C) (tables 𝓤 H 𝓜 𝓡 code.env .Λ) #it code.function (code.unfolded 𝓤 H 𝓜 𝓡)
     (it-meets 𝓤 H (𝓖 .A) (givenOf 𝓤 H 𝓜 𝓖) (𝓜 .mem) (𝓡 .run) (tablesOf 𝓤 H 𝓜 (tables 𝓤 H 𝓜 𝓡 code.env))
     (cited 𝓤 H (Contract-lookup-layered 𝓤 H (𝓖 .A) (𝓜 .mem) (𝓡 .run)) 𝓜 𝓡 code.env #lookup-layered of-lookup-layered-def.routine code.calls-read·layered·lookup-layered (of-lookup-layered-thm.met 𝓤 H 𝓜 𝓖 𝓡))
-    (cited 𝓤 H (Contract-layered-looked 𝓤 H (𝓖 .A) (𝓜 .mem) (𝓡 .run)) 𝓜 𝓡 code.env #layered-looked of-layered-looked-def.routine code.calls-view·part·layered-looked (of-layered-looked-thm.met 𝓤 H 𝓜 𝓖 𝓡))
-    (cited 𝓤 H (Contract-layered-from 𝓤 H (𝓖 .A) (𝓜 .mem) (𝓡 .run)) 𝓜 𝓡 code.env #layered-from of-layered-from-def.routine code.calls-view·part·layered-from (of-layered-from-thm.met 𝓤 H 𝓜 𝓖 𝓡))
-    (cited 𝓤 H (Contract-layered-part 𝓤 H (𝓖 .A) (𝓜 .mem) (𝓡 .run)) 𝓜 𝓡 code.env #layered-part of-layered-part-def.routine code.calls-view·part·layered-part (of-layered-part-thm.met 𝓤 H 𝓜 𝓖 𝓡)))
+    (cited 𝓤 H (Contract-layered-looked 𝓤 H (𝓖 .A) (𝓜 .mem) (𝓡 .run)) 𝓜 𝓡 code.env #layered-looked of-layered-looked-def.routine code.calls-view-part·part·layered-looked (of-layered-looked-thm.met 𝓤 H 𝓜 𝓖 𝓡))
+    (cited 𝓤 H (Contract-layered-from 𝓤 H (𝓖 .A) (𝓜 .mem) (𝓡 .run)) 𝓜 𝓡 code.env #layered-from of-layered-from-def.routine code.calls-view-part·part·layered-from (of-layered-from-thm.met 𝓤 H 𝓜 𝓖 𝓡))
+    (cited 𝓤 H (Contract-layered-part 𝓤 H (𝓖 .A) (𝓜 .mem) (𝓡 .run)) 𝓜 𝓡 code.env #layered-part of-layered-part-def.routine code.calls-view-part·part·layered-part (of-layered-part-thm.met 𝓤 H 𝓜 𝓖 𝓡)))

@@ -43,7 +43,7 @@ use denote.Exit.{yes}
 use denote.Triple.Clauses.{ensured, lasts}
 use Rattle.read.specs.Find.{mannerOf}
 use Rattle.read.specs.Lookup.{lookupTable}
-use Rattle.view.specs.Part.{NestedIn, pointerStart, pointerEnd}
+use Rattle.view_part.specs.Part.{NestedIn, pointerStart, pointerEnd}
 use Rattle.view.specs.Views.{NestedOf}
 use Rattle.view.proofs.HoldsLaws.{and-left}
 use Rattle.read.specs.declared.lookup.Looked.{Looked}
@@ -61,18 +61,18 @@ use Rattle.read.proofs.lookup.lookup_table as of-lookup-table
 use Rattle.read.proofs.lookup.lookup_table.Symbol as of-lookup-table-def
 use Rattle.read.proofs.lookup.lookup_table.Symbol.{name as #lookup-table}
 use Rattle.read.proofs.lookup.lookup_table.Met as of-lookup-table-thm
-use Rattle.view.proofs.part.nested_part as of-nested-part
-use Rattle.view.proofs.part.nested_part.Symbol as of-nested-part-def
-use Rattle.view.proofs.part.nested_part.Symbol.{name as #nested-part}
-use Rattle.view.proofs.part.nested_part.Met as of-nested-part-thm
-use Rattle.view.proofs.part.pointer_start as of-pointer-start
-use Rattle.view.proofs.part.pointer_start.Symbol as of-pointer-start-def
-use Rattle.view.proofs.part.pointer_start.Symbol.{name as #pointer-start}
-use Rattle.view.proofs.part.pointer_start.Met as of-pointer-start-thm
-use Rattle.view.proofs.part.pointer_end as of-pointer-end
-use Rattle.view.proofs.part.pointer_end.Symbol as of-pointer-end-def
-use Rattle.view.proofs.part.pointer_end.Symbol.{name as #pointer-end}
-use Rattle.view.proofs.part.pointer_end.Met as of-pointer-end-thm
+use Rattle.view_part.proofs.part.nested_part as of-nested-part
+use Rattle.view_part.proofs.part.nested_part.Symbol as of-nested-part-def
+use Rattle.view_part.proofs.part.nested_part.Symbol.{name as #nested-part}
+use Rattle.view_part.proofs.part.nested_part.Met as of-nested-part-thm
+use Rattle.view_part.proofs.part.pointer_start as of-pointer-start
+use Rattle.view_part.proofs.part.pointer_start.Symbol as of-pointer-start-def
+use Rattle.view_part.proofs.part.pointer_start.Symbol.{name as #pointer-start}
+use Rattle.view_part.proofs.part.pointer_start.Met as of-pointer-start-thm
+use Rattle.view_part.proofs.part.pointer_end as of-pointer-end
+use Rattle.view_part.proofs.part.pointer_end.Symbol as of-pointer-end-def
+use Rattle.view_part.proofs.part.pointer_end.Symbol.{name as #pointer-end}
+use Rattle.view_part.proofs.part.pointer_end.Met as of-pointer-end-thm
 use Rattle.view.proofs.table.TableView.nested.Key.{name as #it}
 use Rattle.view.proofs.table.TableView.nested as it
 use Rattle.view.proofs.table.TableView.nested.Statement as stated
@@ -86,15 +86,15 @@ module _ {M : Type 1} (𝓤 : URA M) (H : Heap 𝓤) (A : Atoms 𝓤) (mem : Mem
   abbrev Contract-lookup-table : Contract 𝓤
   Contract-lookup-table = tripleOf 𝓤 H A of-lookup-table.signature (of-lookup-table.spec 𝓤 H A mem run)
 
-  -- the contract of `view::part::nested_part`
+  -- the contract of `view_part::part::nested_part`
   abbrev Contract-nested-part : Contract 𝓤
   Contract-nested-part = tripleOf 𝓤 H A of-nested-part.signature (of-nested-part.spec 𝓤 H A mem run)
 
-  -- the contract of `view::part::pointer_start`
+  -- the contract of `view_part::part::pointer_start`
   abbrev Contract-pointer-start : Contract 𝓤
   Contract-pointer-start = tripleOf 𝓤 H A of-pointer-start.signature (of-pointer-start.spec 𝓤 H A mem run)
 
-  -- the contract of `view::part::pointer_end`
+  -- the contract of `view_part::part::pointer_end`
   abbrev Contract-pointer-end : Contract 𝓤
   Contract-pointer-end = tripleOf 𝓤 H A of-pointer-end.signature (of-pointer-end.spec 𝓤 H A mem run)
 
@@ -131,7 +131,7 @@ module _ {M : Type 1} (𝓤 : URA M) (H : Heap 𝓤) (A : Atoms 𝓤) (W : Given
       use1 W (given ((LL.val (DTableView.the-type (namedLft 2 0 tt (κ₀, (κ₁, tt)))) (DTableView′.the-laws (namedLft 2 0 tt (κ₀, (κ₁, tt)))) self) ∷ [] ≡ (LL.val (DTableView.the-type (namedLft 2 0 tt (κ₀, (κ₁, tt)))) (DTableView′.the-laws (namedLft 2 0 tt (κ₀, (κ₁, tt)))) self) ∷ []) (‵ (all-own ((DTableView.the-type (namedLft 2 0 tt (κ₀, (κ₁, tt)))) .parts) (DTableView′.the-laws (namedLft 2 0 tt (κ₀, (κ₁, tt)))) (self .file, (self .start, (self .end, (self .manner, tt))))))) (own-open 𝓤 H A W (DTableView.the-type (namedLft 2 0 tt (κ₀, (κ₁, tt)))) (DTableView′.the-laws (namedLft 2 0 tt (κ₀, (κ₁, tt)))) (self .file, (self .start, (self .end, (self .manner, tt)))) (LL.val (DTableView.the-type (namedLft 2 0 tt (κ₀, (κ₁, tt)))) (DTableView′.the-laws (namedLft 2 0 tt (κ₀, (κ₁, tt)))) self)) $ learn ! (λ _.
       use1 W (‵ (ownAt ((DTableView.the-type (namedLft 2 0 tt (κ₀, (κ₁, tt)))) .parts) (DTableView′.the-laws (namedLft 2 0 tt (κ₀, (κ₁, tt)))) 0 ((self .file))) ⊛ ‵ (rest ((DTableView.the-type (namedLft 2 0 tt (κ₀, (κ₁, tt)))) .parts) (DTableView′.the-laws (namedLft 2 0 tt (κ₀, (κ₁, tt)))) 0 (self .file, (self .start, (self .end, (self .manner, tt)))))) (own-out 𝓤 H A W ((DTableView.the-type (namedLft 2 0 tt (κ₀, (κ₁, tt)))) .parts) (DTableView′.the-laws (namedLft 2 0 tt (κ₀, (κ₁, tt)))) 0 (self .file, (self .start, (self .end, (self .manner, tt))))) $ split ! $ move ! (1 ∷ []) $ drop ! $ done !)
 
-  -- call 2, of `view::part::nested_part`: what it is passed, what it asks, and what it says of its result
+  -- call 2, of `view_part::part::nested_part`: what it is passed, what it asks, and what it says of its result
   abbrev to-2 : (r1 : Looked) (u1 : Val) → Contract-nested-part 𝓤 H A mem run .Ghost
   to-2 r1 u1 = (((κ₀, tt), (q₀, tt), tt, ((self .file), (r1, tt)), ((sliceVal ((self .file) .ptr) (length ((self .file) .now))) ∷ [], (u1 ∷ [], tt))), tt)
 
@@ -141,7 +141,7 @@ module _ {M : Type 1} (𝓤 : URA M) (H : Heap 𝓤) (A : Atoms 𝓤) (W : Given
   said-2 : (r1 : Looked) (u1 : Val) (r2 : RefT (List ℕ)) → ent 𝓤 (ensured 𝓤 H A of-nested-part.ended (of-nested-part.clauses 𝓤 H A mem run) (κ₀, tt) ((self .file), (r1, tt)) tt r2) (fact 𝓤 (NestedIn (self .file) r1 r2))
   said-2 r1 u1 r2 = exE 𝓤 _ (λ ws. snd∗ 𝓤 (sem 𝓤 H A (lasts of-nested-part.ended (κ₀, tt) ((self .file), (r1, tt)) ws)) (fact 𝓤 (NestedIn (self .file) r1 r2)))
 
-  -- call 3, of `view::part::pointer_start`: what it is passed, what it asks, and what it says of its result
+  -- call 3, of `view_part::part::pointer_start`: what it is passed, what it asks, and what it says of its result
   abbrev to-3 : (r1 : Looked) (r2 : RefT (List ℕ)) (u1 : Val) (u2 : Val) → Contract-pointer-start 𝓤 H A mem run .Ghost
   to-3 r1 r2 u1 u2 = ((tt, tt, tt, (r1, tt), (u1 ∷ [], tt)), tt)
 
@@ -151,7 +151,7 @@ module _ {M : Type 1} (𝓤 : URA M) (H : Heap 𝓤) (A : Atoms 𝓤) (W : Given
   said-3 : (r1 : Looked) (r2 : RefT (List ℕ)) (u1 : Val) (u2 : Val) (r3 : ℕ) → ent 𝓤 (ensured 𝓤 H A of-pointer-start.ended (of-pointer-start.clauses 𝓤 H A mem run) tt (r1, tt) tt r3) (fact 𝓤 (r3 ≡ pointerStart r1))
   said-3 r1 r2 u1 u2 r3 = exE 𝓤 _ (λ ws. snd∗ 𝓤 (sem 𝓤 H A (lasts of-pointer-start.ended tt (r1, tt) ws)) (fact 𝓤 (r3 ≡ pointerStart r1)))
 
-  -- call 4, of `view::part::pointer_end`: what it is passed, what it asks, and what it says of its result
+  -- call 4, of `view_part::part::pointer_end`: what it is passed, what it asks, and what it says of its result
   abbrev to-4 : (r1 : Looked) (r2 : RefT (List ℕ)) (r3 : ℕ) (u1 : Val) (u2 : Val) (u3 : Val) → Contract-pointer-end 𝓤 H A mem run .Ghost
   to-4 r1 r2 r3 u1 u2 u3 = ((tt, tt, tt, (r1, tt), (u1 ∷ [], tt)), tt)
 
@@ -186,19 +186,19 @@ module _ {M : Type 1} (𝓤 : URA M) (H : Heap 𝓤) (A : Atoms 𝓤) (W : Given
           split ! $ move ! (1 ∷ []) $ use1 W (raw (fact 𝓤 (r1 ≡ lookupTable (mannerOf (self .manner)) (now (self .file)) (self .start) (self .end) (now key)))) (said-1 r1) $ heard ! (r1 ≡ lookupTable (mannerOf (self .manner)) (now (self .file)) (self .start) (self .end) (now key)) (λ e1. split ! $ split ! $ move ! (1 ∷ []) $ split ! $ move ! (1 ∷ []) $ drop ! $ move ! (2 ∷ []) $ facts ! DLooked.the-row (Is DLooked.the-row) (shows 𝓤 H A DLooked.the-row) r1 (u1 ∷ []) (λ i1.
           land ! (from ! (stop !)) (init ! 24 refl (EL.lawful DLooked.the-type DLooked′.the-laws 𝓤 H A W tt .typed r1 _ i1 .0)) $
           assigns ! (of-opd ! (load ! (from ! (fld ! refl (stop !))) (look-in ! 28 (sub ! 0 refl (whole !))))) (from ! (stop !)) (init ! 6 refl (tt, wt0 .1 .0)) $
-          -- call 2, of `view::part::nested_part`
+          -- call 2, of `view_part::part::nested_part`
           nothing ! $ owned ! DLooked.the-row (Is DLooked.the-row) (EL.makes DLooked.the-type DLooked′.the-plain 𝓤 H A) r1 (u1 ∷ []) i1 $ fjoin ! $ move ! (3 ∷ []) $ use1 W (‵ ((ShrSlice (named 0) κ₀ u8) .own (self .file) ((sliceVal ((self .file) .ptr) (length ((self .file) .now))) ∷ [])) ⊛ ‵ ((DTableView.the-row (namedLft 2 0 tt (κ₀, (κ₁, tt)))) .own self ((LL.val (DTableView.the-type (namedLft 2 0 tt (κ₀, (κ₁, tt)))) (DTableView′.the-laws (namedLft 2 0 tt (κ₀, (κ₁, tt)))) self) ∷ []))) out-self-0 $ split ! $ move ! (0 ∷ 2 ∷ []) $ fjoin ! $ nothing ! $ move ! (4 ∷ 0 ∷ []) $ join ! $ use2 W (raw (Contract-nested-part 𝓤 H A mem run .pre (to-2 r1 u1))) (asked-2 r1 u1) $
           calls-at ! fm (Contract-nested-part 𝓤 H A mem run) known-nested-part (to-2 r1 u1) (and-then ! (load ! (from ! (stop !)) (look ! 6 refl)) (and-then ! (load ! (from ! (stop !)) (look ! 24 refl)) (no-more !))) (λ u2.
           use1 W (later (some (λ (r2 : RefT (List ℕ)). ((‵ (flft κ₀ q₀) ⊛ ‵ ftrue) ⊛ ‵ ((ShrSlice (named 0) κ₀ u8) .own r2 (u2 ∷ []))) ⊛ raw (ensured 𝓤 H A of-nested-part.ended (of-nested-part.clauses 𝓤 H A mem run) (κ₀, tt) ((self .file), (r1, tt)) tt r2)))) (id⊢ 𝓤 _) $ await ! tt $ pick ! (λ r2.
           split ! $ move ! (1 ∷ []) $ use1 W (raw (fact 𝓤 (NestedIn (self .file) r1 r2))) (said-2 r1 u1 r2) $ heard ! (NestedIn (self .file) r1 r2) (λ e2. split ! $ split ! $ move ! (1 ∷ []) $ drop ! $ move ! (1 ∷ []) $ peeks ! (ShrSlice (named 0) κ₀ u8) (Is (ShrSlice (named 0) κ₀ u8)) (shows 𝓤 H A (ShrSlice (named 0) κ₀ u8)) r2 (u2 ∷ []) (λ i2.
           land ! (from ! (stop !)) (init ! 23 refl (shr-slice-lawful 𝓤 H A W erased κ₀ u8 .typed r2 (u2 ∷ []) i2 .0)) $
-          -- call 3, of `view::part::pointer_start`
+          -- call 3, of `view_part::part::pointer_start`
           nothing ! $ owned ! DLooked.the-row (Is DLooked.the-row) (EL.makes DLooked.the-type DLooked′.the-plain 𝓤 H A) r1 (u1 ∷ []) i1 $ fjoin ! $ nothing ! $ use2 W (raw (Contract-pointer-start 𝓤 H A mem run .pre (to-3 r1 r2 u1 u2))) (asked-3 r1 r2 u1 u2) $
           calls-at ! fm (Contract-pointer-start 𝓤 H A mem run) known-pointer-start (to-3 r1 r2 u1 u2) (and-then ! (load ! (from ! (stop !)) (look ! 26 refl)) (no-more !)) (λ u3.
           use1 W (later (some (λ (r3 : ℕ). ((‵ ftrue) ⊛ ‵ (u32 .own r3 (u3 ∷ []))) ⊛ raw (ensured 𝓤 H A of-pointer-start.ended (of-pointer-start.clauses 𝓤 H A mem run) tt (r1, tt) tt r3)))) (id⊢ 𝓤 _) $ await ! tt $ pick ! (λ r3.
           split ! $ move ! (1 ∷ []) $ use1 W (raw (fact 𝓤 (r3 ≡ pointerStart r1))) (said-3 r1 r2 u1 u2 r3) $ heard ! (r3 ≡ pointerStart r1) (λ e3. split ! $ drop ! $ facts ! u32 (Is u32) (shows 𝓤 H A u32) r3 (u3 ∷ []) (λ i3.
           land ! (from ! (stop !)) (init ! 21 refl (uint-lawful 𝓤 H A W w32 .typed r3 _ i3 .0)) $
-          -- call 4, of `view::part::pointer_end`
+          -- call 4, of `view_part::part::pointer_end`
           nothing ! $ owned ! DLooked.the-row (Is DLooked.the-row) (EL.makes DLooked.the-type DLooked′.the-plain 𝓤 H A) r1 (u1 ∷ []) i1 $ fjoin ! $ nothing ! $ use2 W (raw (Contract-pointer-end 𝓤 H A mem run .pre (to-4 r1 r2 r3 u1 u2 u3))) (asked-4 r1 r2 r3 u1 u2 u3) $
           calls-at ! fm (Contract-pointer-end 𝓤 H A mem run) known-pointer-end (to-4 r1 r2 r3 u1 u2 u3) (and-then ! (load ! (from ! (stop !)) (look ! 26 refl)) (no-more !)) (λ u4.
           use1 W (later (some (λ (r4 : ℕ). ((‵ ftrue) ⊛ ‵ (u32 .own r4 (u4 ∷ []))) ⊛ raw (ensured 𝓤 H A of-pointer-end.ended (of-pointer-end.clauses 𝓤 H A mem run) tt (r1, tt) tt r4)))) (id⊢ 𝓤 _) $ await ! tt $ pick ! (λ r4.
@@ -233,6 +233,6 @@ nested-spec 𝓤 H 𝓜 𝓖 𝓡 =
     (tables 𝓤 H 𝓜 𝓡 code.env .C) (tables 𝓤 H 𝓜 𝓡 code.env .Λ) #it code.function (code.unfolded 𝓤 H 𝓜 𝓡)
     (it-meets 𝓤 H (𝓖 .A) (givenOf 𝓤 H 𝓜 𝓖) (𝓜 .mem) (𝓡 .run) (tablesOf 𝓤 H 𝓜 (tables 𝓤 H 𝓜 𝓡 code.env))
     (cited 𝓤 H (Contract-lookup-table 𝓤 H (𝓖 .A) (𝓜 .mem) (𝓡 .run)) 𝓜 𝓡 code.env #lookup-table of-lookup-table-def.routine code.calls-read·lookup·lookup-table (of-lookup-table-thm.met 𝓤 H 𝓜 𝓖 𝓡))
-    (cited 𝓤 H (Contract-nested-part 𝓤 H (𝓖 .A) (𝓜 .mem) (𝓡 .run)) 𝓜 𝓡 code.env #nested-part of-nested-part-def.routine code.calls-view·part·nested-part (of-nested-part-thm.met 𝓤 H 𝓜 𝓖 𝓡))
-    (cited 𝓤 H (Contract-pointer-start 𝓤 H (𝓖 .A) (𝓜 .mem) (𝓡 .run)) 𝓜 𝓡 code.env #pointer-start of-pointer-start-def.routine code.calls-view·part·pointer-start (of-pointer-start-thm.met 𝓤 H 𝓜 𝓖 𝓡))
-    (cited 𝓤 H (Contract-pointer-end 𝓤 H (𝓖 .A) (𝓜 .mem) (𝓡 .run)) 𝓜 𝓡 code.env #pointer-end of-pointer-end-def.routine code.calls-view·part·pointer-end (of-pointer-end-thm.met 𝓤 H 𝓜 𝓖 𝓡)))
+    (cited 𝓤 H (Contract-nested-part 𝓤 H (𝓖 .A) (𝓜 .mem) (𝓡 .run)) 𝓜 𝓡 code.env #nested-part of-nested-part-def.routine code.calls-view-part·part·nested-part (of-nested-part-thm.met 𝓤 H 𝓜 𝓖 𝓡))
+    (cited 𝓤 H (Contract-pointer-start 𝓤 H (𝓖 .A) (𝓜 .mem) (𝓡 .run)) 𝓜 𝓡 code.env #pointer-start of-pointer-start-def.routine code.calls-view-part·part·pointer-start (of-pointer-start-thm.met 𝓤 H 𝓜 𝓖 𝓡))
+    (cited 𝓤 H (Contract-pointer-end 𝓤 H (𝓖 .A) (𝓜 .mem) (𝓡 .run)) 𝓜 𝓡 code.env #pointer-end of-pointer-end-def.routine code.calls-view-part·part·pointer-end (of-pointer-end-thm.met 𝓤 H 𝓜 𝓖 𝓡)))

@@ -43,17 +43,17 @@ use denote.Exit.{yes}
 use denote.Triple.Clauses.{ensured, lasts}
 use Rattle.read.specs.Find.{mannerOf}
 use Rattle.read_listing.specs.Children.{nextChild}
-use Rattle.view.specs.Part.{ChildIn}
+use Rattle.view_part.specs.Part.{ChildIn}
 use Rattle.view.specs.Views.{ChildOf}
 use Rattle.view.proofs.HoldsLaws.{and-left}
+use Rattle.read.proofs.manner.Manner as DManner
+use Rattle.read.proofs.manner.Manner.Laws as DManner′
 use Rattle.read_listing.specs.declared.children.Childed.{Childed}
 use Rattle.read_listing.proofs.children.Childed as DChilded
 use Rattle.read_listing.proofs.children.Childed.Laws as DChilded′
 use Rattle.read_listing.specs.declared.listing.Cursor.{Cursor}
 use Rattle.read_listing.proofs.listing.Cursor as DCursor
 use Rattle.read_listing.proofs.listing.Cursor.Laws as DCursor′
-use Rattle.read.proofs.manner.Manner as DManner
-use Rattle.read.proofs.manner.Manner.Laws as DManner′
 use Rattle.view.specs.declared.table.ChildView.{ChildView}
 use Rattle.view.proofs.table.ChildView as DChildView
 use Rattle.view.proofs.table.ChildView.Laws as DChildView′
@@ -64,10 +64,10 @@ use Rattle.read_listing.proofs.listing.Cursor.next_child as of-next-child
 use Rattle.read_listing.proofs.listing.Cursor.next_child.Symbol as of-next-child-def
 use Rattle.read_listing.proofs.listing.Cursor.next_child.Symbol.{name as #next-child}
 use Rattle.read_listing.proofs.listing.Cursor.next_child.Met as of-next-child-thm
-use Rattle.view.proofs.part.child_part as of-child-part
-use Rattle.view.proofs.part.child_part.Symbol as of-child-part-def
-use Rattle.view.proofs.part.child_part.Symbol.{name as #child-part}
-use Rattle.view.proofs.part.child_part.Met as of-child-part-thm
+use Rattle.view_part.proofs.part.child_part as of-child-part
+use Rattle.view_part.proofs.part.child_part.Symbol as of-child-part-def
+use Rattle.view_part.proofs.part.child_part.Symbol.{name as #child-part}
+use Rattle.view_part.proofs.part.child_part.Met as of-child-part-thm
 use Rattle.view.proofs.table.TableView.next_child.Key.{name as #it}
 use Rattle.view.proofs.table.TableView.next_child as it
 use Rattle.view.proofs.table.TableView.next_child.Statement as stated
@@ -81,7 +81,7 @@ module _ {M : Type 1} (𝓤 : URA M) (H : Heap 𝓤) (A : Atoms 𝓤) (mem : Mem
   abbrev Contract-next-child : Contract 𝓤
   Contract-next-child = tripleOf 𝓤 H A of-next-child.signature (of-next-child.spec 𝓤 H A mem run)
 
-  -- the contract of `view::part::child_part`
+  -- the contract of `view_part::part::child_part`
   abbrev Contract-child-part : Contract 𝓤
   Contract-child-part = tripleOf 𝓤 H A of-child-part.signature (of-child-part.spec 𝓤 H A mem run)
 
@@ -118,7 +118,7 @@ module _ {M : Type 1} (𝓤 : URA M) (H : Heap 𝓤) (A : Atoms 𝓤) (W : Given
       use1 W (given ((LL.val (DTableView.the-type (namedLft 2 0 tt (κ₀, (κ₁, tt)))) (DTableView′.the-laws (namedLft 2 0 tt (κ₀, (κ₁, tt)))) self) ∷ [] ≡ (LL.val (DTableView.the-type (namedLft 2 0 tt (κ₀, (κ₁, tt)))) (DTableView′.the-laws (namedLft 2 0 tt (κ₀, (κ₁, tt)))) self) ∷ []) (‵ (all-own ((DTableView.the-type (namedLft 2 0 tt (κ₀, (κ₁, tt)))) .parts) (DTableView′.the-laws (namedLft 2 0 tt (κ₀, (κ₁, tt)))) (self .file, (self .start, (self .end, (self .manner, tt))))))) (own-open 𝓤 H A W (DTableView.the-type (namedLft 2 0 tt (κ₀, (κ₁, tt)))) (DTableView′.the-laws (namedLft 2 0 tt (κ₀, (κ₁, tt)))) (self .file, (self .start, (self .end, (self .manner, tt)))) (LL.val (DTableView.the-type (namedLft 2 0 tt (κ₀, (κ₁, tt)))) (DTableView′.the-laws (namedLft 2 0 tt (κ₀, (κ₁, tt)))) self)) $ learn ! (λ _.
       use1 W (‵ (ownAt ((DTableView.the-type (namedLft 2 0 tt (κ₀, (κ₁, tt)))) .parts) (DTableView′.the-laws (namedLft 2 0 tt (κ₀, (κ₁, tt)))) 0 ((self .file))) ⊛ ‵ (rest ((DTableView.the-type (namedLft 2 0 tt (κ₀, (κ₁, tt)))) .parts) (DTableView′.the-laws (namedLft 2 0 tt (κ₀, (κ₁, tt)))) 0 (self .file, (self .start, (self .end, (self .manner, tt)))))) (own-out 𝓤 H A W ((DTableView.the-type (namedLft 2 0 tt (κ₀, (κ₁, tt)))) .parts) (DTableView′.the-laws (namedLft 2 0 tt (κ₀, (κ₁, tt)))) 0 (self .file, (self .start, (self .end, (self .manner, tt))))) $ split ! $ move ! (1 ∷ []) $ drop ! $ done !)
 
-  -- call 2, of `view::part::child_part`: what it is passed, what it asks, and what it says of its result
+  -- call 2, of `view_part::part::child_part`: what it is passed, what it asks, and what it says of its result
   abbrev to-2 : (r1 : Childed) (u1 : Val) → Contract-child-part 𝓤 H A mem run .Ghost
   to-2 r1 u1 = (((κ₀, tt), (q₀, tt), tt, ((self .file), (r1, tt)), ((sliceVal ((self .file) .ptr) (length ((self .file) .now))) ∷ [], (u1 ∷ [], tt))), tt)
 
@@ -153,7 +153,7 @@ module _ {M : Type 1} (𝓤 : URA M) (H : Heap 𝓤) (A : Atoms 𝓤) (W : Given
           split ! $ move ! (1 ∷ []) $ use1 W (raw (fact 𝓤 (r1 ≡ nextChild (mannerOf (self .manner)) (now (self .file)) (self .start) (self .end) (now key) (cursor .at)))) (said-1 r1) $ heard ! (r1 ≡ nextChild (mannerOf (self .manner)) (now (self .file)) (self .start) (self .end) (now key) (cursor .at)) (λ e1. split ! $ split ! $ move ! (1 ∷ []) $ split ! $ move ! (1 ∷ []) $ drop ! $ move ! (2 ∷ []) $ facts ! DChilded.the-row (Is DChilded.the-row) (shows 𝓤 H A DChilded.the-row) r1 (u1 ∷ []) (λ i1.
           land ! (from ! (stop !)) (init ! 16 refl (EL.lawful DChilded.the-type DChilded′.the-laws 𝓤 H A W tt .typed r1 _ i1 .0)) $
           assigns ! (of-opd ! (load ! (from ! (fld ! refl (stop !))) (look-in ! 22 (sub ! 0 refl (whole !))))) (from ! (stop !)) (init ! 4 refl (tt, wt0 .1 .0)) $
-          -- call 2, of `view::part::child_part`
+          -- call 2, of `view_part::part::child_part`
           nothing ! $ owned ! DChilded.the-row (Is DChilded.the-row) (EL.makes DChilded.the-type DChilded′.the-plain 𝓤 H A) r1 (u1 ∷ []) i1 $ fjoin ! $ move ! (3 ∷ []) $ use1 W (‵ ((ShrSlice (named 0) κ₀ u8) .own (self .file) ((sliceVal ((self .file) .ptr) (length ((self .file) .now))) ∷ [])) ⊛ ‵ ((DTableView.the-row (namedLft 2 0 tt (κ₀, (κ₁, tt)))) .own self ((LL.val (DTableView.the-type (namedLft 2 0 tt (κ₀, (κ₁, tt)))) (DTableView′.the-laws (namedLft 2 0 tt (κ₀, (κ₁, tt)))) self) ∷ []))) out-self-0 $ split ! $ move ! (0 ∷ 2 ∷ []) $ fjoin ! $ nothing ! $ move ! (4 ∷ 0 ∷ []) $ join ! $ use2 W (raw (Contract-child-part 𝓤 H A mem run .pre (to-2 r1 u1))) (asked-2 r1 u1) $
           calls-at ! fm (Contract-child-part 𝓤 H A mem run) known-child-part (to-2 r1 u1) (and-then ! (load ! (from ! (stop !)) (look ! 4 refl)) (and-then ! (load ! (from ! (stop !)) (look ! 16 refl)) (no-more !))) (λ u2.
           use1 W (later (some (λ (r2 : RefT (List ℕ)). ((‵ (flft κ₀ q₀) ⊛ ‵ ftrue) ⊛ ‵ ((ShrSlice (named 0) κ₀ u8) .own r2 (u2 ∷ []))) ⊛ raw (ensured 𝓤 H A of-child-part.ended (of-child-part.clauses 𝓤 H A mem run) (κ₀, tt) ((self .file), (r1, tt)) tt r2)))) (id⊢ 𝓤 _) $ await ! tt $ pick ! (λ r2.
@@ -184,4 +184,4 @@ next-child-spec 𝓤 H 𝓜 𝓖 𝓡 =
     (tables 𝓤 H 𝓜 𝓡 code.env .C) (tables 𝓤 H 𝓜 𝓡 code.env .Λ) #it code.function (code.unfolded 𝓤 H 𝓜 𝓡)
     (it-meets 𝓤 H (𝓖 .A) (givenOf 𝓤 H 𝓜 𝓖) (𝓜 .mem) (𝓡 .run) (tablesOf 𝓤 H 𝓜 (tables 𝓤 H 𝓜 𝓡 code.env))
     (cited 𝓤 H (Contract-next-child 𝓤 H (𝓖 .A) (𝓜 .mem) (𝓡 .run)) 𝓜 𝓡 code.env #next-child of-next-child-def.routine code.calls-read-listing·listing·Cursor·next-child (of-next-child-thm.met 𝓤 H 𝓜 𝓖 𝓡))
-    (cited 𝓤 H (Contract-child-part 𝓤 H (𝓖 .A) (𝓜 .mem) (𝓡 .run)) 𝓜 𝓡 code.env #child-part of-child-part-def.routine code.calls-view·part·child-part (of-child-part-thm.met 𝓤 H 𝓜 𝓖 𝓡)))
+    (cited 𝓤 H (Contract-child-part 𝓤 H (𝓖 .A) (𝓜 .mem) (𝓡 .run)) 𝓜 𝓡 code.env #child-part of-child-part-def.routine code.calls-view-part·part·child-part (of-child-part-thm.met 𝓤 H 𝓜 𝓖 𝓡)))

@@ -41,7 +41,7 @@ use denote.Triple.Walked.{says, Stays, stay-none, walkOf, goes-none, Walks, ends
 use denote.Exit.{yes}
 use denote.Triple.Clauses.{ensured, lasts}
 use Rattle.read_listing.specs.Listing.{valueAt}
-use Rattle.view.specs.Part.{ListedIn}
+use Rattle.view_part.specs.Part.{ListedIn}
 use Rattle.view.specs.Views.{ListedOf}
 use Rattle.read_listing.specs.declared.listing.Cursor.{Cursor}
 use Rattle.read_listing.proofs.listing.Cursor as DCursor
@@ -59,10 +59,10 @@ use Rattle.read_listing.proofs.listing.Cursor.next_value as of-next-value
 use Rattle.read_listing.proofs.listing.Cursor.next_value.Symbol as of-next-value-def
 use Rattle.read_listing.proofs.listing.Cursor.next_value.Symbol.{name as #next-value}
 use Rattle.read_listing.proofs.listing.Cursor.next_value.Met as of-next-value-thm
-use Rattle.view.proofs.part.listed_part as of-listed-part
-use Rattle.view.proofs.part.listed_part.Symbol as of-listed-part-def
-use Rattle.view.proofs.part.listed_part.Symbol.{name as #listed-part}
-use Rattle.view.proofs.part.listed_part.Met as of-listed-part-thm
+use Rattle.view_part.proofs.part.listed_part as of-listed-part
+use Rattle.view_part.proofs.part.listed_part.Symbol as of-listed-part-def
+use Rattle.view_part.proofs.part.listed_part.Symbol.{name as #listed-part}
+use Rattle.view_part.proofs.part.listed_part.Met as of-listed-part-thm
 use Rattle.view.proofs.table.TableView.next_value.Key.{name as #it}
 use Rattle.view.proofs.table.TableView.next_value as it
 use Rattle.view.proofs.table.TableView.next_value.Statement as stated
@@ -76,7 +76,7 @@ module _ {M : Type 1} (𝓤 : URA M) (H : Heap 𝓤) (A : Atoms 𝓤) (mem : Mem
   abbrev Contract-next-value : Contract 𝓤
   Contract-next-value = tripleOf 𝓤 H A of-next-value.signature (of-next-value.spec 𝓤 H A mem run)
 
-  -- the contract of `view::part::listed_part`
+  -- the contract of `view_part::part::listed_part`
   abbrev Contract-listed-part : Contract 𝓤
   Contract-listed-part = tripleOf 𝓤 H A of-listed-part.signature (of-listed-part.spec 𝓤 H A mem run)
 
@@ -105,7 +105,7 @@ module _ {M : Type 1} (𝓤 : URA M) (H : Heap 𝓤) (A : Atoms 𝓤) (W : Given
       use1 W (given ((LL.val (DTableView.the-type (namedLft 1 0 tt (κ₀, tt))) (DTableView′.the-laws (namedLft 1 0 tt (κ₀, tt))) self) ∷ [] ≡ (LL.val (DTableView.the-type (namedLft 1 0 tt (κ₀, tt))) (DTableView′.the-laws (namedLft 1 0 tt (κ₀, tt))) self) ∷ []) (‵ (all-own ((DTableView.the-type (namedLft 1 0 tt (κ₀, tt))) .parts) (DTableView′.the-laws (namedLft 1 0 tt (κ₀, tt))) (self .file, (self .start, (self .end, (self .manner, tt))))))) (own-open 𝓤 H A W (DTableView.the-type (namedLft 1 0 tt (κ₀, tt))) (DTableView′.the-laws (namedLft 1 0 tt (κ₀, tt))) (self .file, (self .start, (self .end, (self .manner, tt)))) (LL.val (DTableView.the-type (namedLft 1 0 tt (κ₀, tt))) (DTableView′.the-laws (namedLft 1 0 tt (κ₀, tt))) self)) $ learn ! (λ _.
       use1 W (‵ (ownAt ((DTableView.the-type (namedLft 1 0 tt (κ₀, tt))) .parts) (DTableView′.the-laws (namedLft 1 0 tt (κ₀, tt))) 0 ((self .file))) ⊛ ‵ (rest ((DTableView.the-type (namedLft 1 0 tt (κ₀, tt))) .parts) (DTableView′.the-laws (namedLft 1 0 tt (κ₀, tt))) 0 (self .file, (self .start, (self .end, (self .manner, tt)))))) (own-out 𝓤 H A W ((DTableView.the-type (namedLft 1 0 tt (κ₀, tt))) .parts) (DTableView′.the-laws (namedLft 1 0 tt (κ₀, tt))) 0 (self .file, (self .start, (self .end, (self .manner, tt))))) $ split ! $ move ! (1 ∷ []) $ drop ! $ done !)
 
-  -- call 2, of `view::part::listed_part`: what it is passed, what it asks, and what it says of its result
+  -- call 2, of `view_part::part::listed_part`: what it is passed, what it asks, and what it says of its result
   abbrev to-2 : (r1 : Valued) (u1 : Val) → Contract-listed-part 𝓤 H A mem run .Ghost
   to-2 r1 u1 = (((κ₀, tt), (q₀, tt), tt, ((self .file), (r1, tt)), ((sliceVal ((self .file) .ptr) (length ((self .file) .now))) ∷ [], (u1 ∷ [], tt))), tt)
 
@@ -139,7 +139,7 @@ module _ {M : Type 1} (𝓤 : URA M) (H : Heap 𝓤) (A : Atoms 𝓤) (W : Given
           split ! $ move ! (1 ∷ []) $ use1 W (raw (fact 𝓤 (r1 ≡ valueAt (now (self .file)) (self .start) (self .end) (cursor .at)))) (said-1 r1) $ heard ! (r1 ≡ valueAt (now (self .file)) (self .start) (self .end) (cursor .at)) (λ e1. split ! $ split ! $ move ! (1 ∷ []) $ drop ! $ move ! (1 ∷ []) $ facts ! DValued.the-row (Is DValued.the-row) (shows 𝓤 H A DValued.the-row) r1 (u1 ∷ []) (λ i1.
           land ! (from ! (stop !)) (init ! 12 refl (EL.lawful DValued.the-type DValued′.the-laws 𝓤 H A W tt .typed r1 _ i1 .0)) $
           assigns ! (of-opd ! (load ! (from ! (fld ! refl (stop !))) (look-in ! 16 (sub ! 0 refl (whole !))))) (from ! (stop !)) (init ! 2 refl (tt, wt0 .1 .0)) $
-          -- call 2, of `view::part::listed_part`
+          -- call 2, of `view_part::part::listed_part`
           nothing ! $ owned ! DValued.the-row (Is DValued.the-row) (EL.makes DValued.the-type DValued′.the-plain 𝓤 H A) r1 (u1 ∷ []) i1 $ fjoin ! $ move ! (2 ∷ []) $ use1 W (‵ ((ShrSlice (named 0) κ₀ u8) .own (self .file) ((sliceVal ((self .file) .ptr) (length ((self .file) .now))) ∷ [])) ⊛ ‵ ((DTableView.the-row (namedLft 1 0 tt (κ₀, tt))) .own self ((LL.val (DTableView.the-type (namedLft 1 0 tt (κ₀, tt))) (DTableView′.the-laws (namedLft 1 0 tt (κ₀, tt))) self) ∷ []))) out-self-0 $ split ! $ move ! (0 ∷ 2 ∷ []) $ fjoin ! $ nothing ! $ move ! (3 ∷ 0 ∷ []) $ join ! $ use2 W (raw (Contract-listed-part 𝓤 H A mem run .pre (to-2 r1 u1))) (asked-2 r1 u1) $
           calls-at ! fm (Contract-listed-part 𝓤 H A mem run) known-listed-part (to-2 r1 u1) (and-then ! (load ! (from ! (stop !)) (look ! 2 refl)) (and-then ! (load ! (from ! (stop !)) (look ! 12 refl)) (no-more !))) (λ u2.
           use1 W (later (some (λ (r2 : RefT (List ℕ)). ((‵ (flft κ₀ q₀) ⊛ ‵ ftrue) ⊛ ‵ ((ShrSlice (named 0) κ₀ u8) .own r2 (u2 ∷ []))) ⊛ raw (ensured 𝓤 H A of-listed-part.ended (of-listed-part.clauses 𝓤 H A mem run) (κ₀, tt) ((self .file), (r1, tt)) tt r2)))) (id⊢ 𝓤 _) $ await ! tt $ pick ! (λ r2.
@@ -170,4 +170,4 @@ next-value-spec 𝓤 H 𝓜 𝓖 𝓡 =
     (tables 𝓤 H 𝓜 𝓡 code.env .C) (tables 𝓤 H 𝓜 𝓡 code.env .Λ) #it code.function (code.unfolded 𝓤 H 𝓜 𝓡)
     (it-meets 𝓤 H (𝓖 .A) (givenOf 𝓤 H 𝓜 𝓖) (𝓜 .mem) (𝓡 .run) (tablesOf 𝓤 H 𝓜 (tables 𝓤 H 𝓜 𝓡 code.env))
     (cited 𝓤 H (Contract-next-value 𝓤 H (𝓖 .A) (𝓜 .mem) (𝓡 .run)) 𝓜 𝓡 code.env #next-value of-next-value-def.routine code.calls-read-listing·listing·Cursor·next-value (of-next-value-thm.met 𝓤 H 𝓜 𝓖 𝓡))
-    (cited 𝓤 H (Contract-listed-part 𝓤 H (𝓖 .A) (𝓜 .mem) (𝓡 .run)) 𝓜 𝓡 code.env #listed-part of-listed-part-def.routine code.calls-view·part·listed-part (of-listed-part-thm.met 𝓤 H 𝓜 𝓖 𝓡)))
+    (cited 𝓤 H (Contract-listed-part 𝓤 H (𝓖 .A) (𝓜 .mem) (𝓡 .run)) 𝓜 𝓡 code.env #listed-part of-listed-part-def.routine code.calls-view-part·part·listed-part (of-listed-part-thm.met 𝓤 H 𝓜 𝓖 𝓡)))

@@ -43,7 +43,7 @@ use denote.Exit.{yes}
 use denote.Triple.Clauses.{ensured, lasts}
 use Rattle.read.specs.Find.{mannerOf}
 use Rattle.read.specs.Lookup.{lookupValue}
-use Rattle.view.specs.Part.{ValueIn}
+use Rattle.view_part.specs.Part.{ValueIn}
 use Rattle.view.specs.Views.{ValueOf}
 use Rattle.view.proofs.HoldsLaws.{and-left}
 use Rattle.read.specs.declared.lookup.Looked.{Looked}
@@ -61,10 +61,10 @@ use Rattle.read.proofs.lookup.lookup_value as of-lookup-value
 use Rattle.read.proofs.lookup.lookup_value.Symbol as of-lookup-value-def
 use Rattle.read.proofs.lookup.lookup_value.Symbol.{name as #lookup-value}
 use Rattle.read.proofs.lookup.lookup_value.Met as of-lookup-value-thm
-use Rattle.view.proofs.part.value_part as of-value-part
-use Rattle.view.proofs.part.value_part.Symbol as of-value-part-def
-use Rattle.view.proofs.part.value_part.Symbol.{name as #value-part}
-use Rattle.view.proofs.part.value_part.Met as of-value-part-thm
+use Rattle.view_part.proofs.part.value_part as of-value-part
+use Rattle.view_part.proofs.part.value_part.Symbol as of-value-part-def
+use Rattle.view_part.proofs.part.value_part.Symbol.{name as #value-part}
+use Rattle.view_part.proofs.part.value_part.Met as of-value-part-thm
 use Rattle.view.proofs.table.TableView.value.Key.{name as #it}
 use Rattle.view.proofs.table.TableView.value as it
 use Rattle.view.proofs.table.TableView.value.Statement as stated
@@ -78,7 +78,7 @@ module _ {M : Type 1} (𝓤 : URA M) (H : Heap 𝓤) (A : Atoms 𝓤) (mem : Mem
   abbrev Contract-lookup-value : Contract 𝓤
   Contract-lookup-value = tripleOf 𝓤 H A of-lookup-value.signature (of-lookup-value.spec 𝓤 H A mem run)
 
-  -- the contract of `view::part::value_part`
+  -- the contract of `view_part::part::value_part`
   abbrev Contract-value-part : Contract 𝓤
   Contract-value-part = tripleOf 𝓤 H A of-value-part.signature (of-value-part.spec 𝓤 H A mem run)
 
@@ -115,7 +115,7 @@ module _ {M : Type 1} (𝓤 : URA M) (H : Heap 𝓤) (A : Atoms 𝓤) (W : Given
       use1 W (given ((LL.val (DTableView.the-type (namedLft 2 0 tt (κ₀, (κ₁, tt)))) (DTableView′.the-laws (namedLft 2 0 tt (κ₀, (κ₁, tt)))) self) ∷ [] ≡ (LL.val (DTableView.the-type (namedLft 2 0 tt (κ₀, (κ₁, tt)))) (DTableView′.the-laws (namedLft 2 0 tt (κ₀, (κ₁, tt)))) self) ∷ []) (‵ (all-own ((DTableView.the-type (namedLft 2 0 tt (κ₀, (κ₁, tt)))) .parts) (DTableView′.the-laws (namedLft 2 0 tt (κ₀, (κ₁, tt)))) (self .file, (self .start, (self .end, (self .manner, tt))))))) (own-open 𝓤 H A W (DTableView.the-type (namedLft 2 0 tt (κ₀, (κ₁, tt)))) (DTableView′.the-laws (namedLft 2 0 tt (κ₀, (κ₁, tt)))) (self .file, (self .start, (self .end, (self .manner, tt)))) (LL.val (DTableView.the-type (namedLft 2 0 tt (κ₀, (κ₁, tt)))) (DTableView′.the-laws (namedLft 2 0 tt (κ₀, (κ₁, tt)))) self)) $ learn ! (λ _.
       use1 W (‵ (ownAt ((DTableView.the-type (namedLft 2 0 tt (κ₀, (κ₁, tt)))) .parts) (DTableView′.the-laws (namedLft 2 0 tt (κ₀, (κ₁, tt)))) 0 ((self .file))) ⊛ ‵ (rest ((DTableView.the-type (namedLft 2 0 tt (κ₀, (κ₁, tt)))) .parts) (DTableView′.the-laws (namedLft 2 0 tt (κ₀, (κ₁, tt)))) 0 (self .file, (self .start, (self .end, (self .manner, tt)))))) (own-out 𝓤 H A W ((DTableView.the-type (namedLft 2 0 tt (κ₀, (κ₁, tt)))) .parts) (DTableView′.the-laws (namedLft 2 0 tt (κ₀, (κ₁, tt)))) 0 (self .file, (self .start, (self .end, (self .manner, tt))))) $ split ! $ move ! (1 ∷ []) $ drop ! $ done !)
 
-  -- call 2, of `view::part::value_part`: what it is passed, what it asks, and what it says of its result
+  -- call 2, of `view_part::part::value_part`: what it is passed, what it asks, and what it says of its result
   abbrev to-2 : (r1 : Looked) (u1 : Val) → Contract-value-part 𝓤 H A mem run .Ghost
   to-2 r1 u1 = (((κ₀, tt), (q₀, tt), tt, ((self .file), (r1, tt)), ((sliceVal ((self .file) .ptr) (length ((self .file) .now))) ∷ [], (u1 ∷ [], tt))), tt)
 
@@ -150,7 +150,7 @@ module _ {M : Type 1} (𝓤 : URA M) (H : Heap 𝓤) (A : Atoms 𝓤) (W : Given
           split ! $ move ! (1 ∷ []) $ use1 W (raw (fact 𝓤 (r1 ≡ lookupValue (mannerOf (self .manner)) (now (self .file)) (self .start) (self .end) (now key)))) (said-1 r1) $ heard ! (r1 ≡ lookupValue (mannerOf (self .manner)) (now (self .file)) (self .start) (self .end) (now key)) (λ e1. split ! $ split ! $ move ! (1 ∷ []) $ split ! $ move ! (1 ∷ []) $ drop ! $ move ! (2 ∷ []) $ facts ! DLooked.the-row (Is DLooked.the-row) (shows 𝓤 H A DLooked.the-row) r1 (u1 ∷ []) (λ i1.
           land ! (from ! (stop !)) (init ! 16 refl (EL.lawful DLooked.the-type DLooked′.the-laws 𝓤 H A W tt .typed r1 _ i1 .0)) $
           assigns ! (of-opd ! (load ! (from ! (fld ! refl (stop !))) (look-in ! 20 (sub ! 0 refl (whole !))))) (from ! (stop !)) (init ! 4 refl (tt, wt0 .1 .0)) $
-          -- call 2, of `view::part::value_part`
+          -- call 2, of `view_part::part::value_part`
           nothing ! $ owned ! DLooked.the-row (Is DLooked.the-row) (EL.makes DLooked.the-type DLooked′.the-plain 𝓤 H A) r1 (u1 ∷ []) i1 $ fjoin ! $ move ! (3 ∷ []) $ use1 W (‵ ((ShrSlice (named 0) κ₀ u8) .own (self .file) ((sliceVal ((self .file) .ptr) (length ((self .file) .now))) ∷ [])) ⊛ ‵ ((DTableView.the-row (namedLft 2 0 tt (κ₀, (κ₁, tt)))) .own self ((LL.val (DTableView.the-type (namedLft 2 0 tt (κ₀, (κ₁, tt)))) (DTableView′.the-laws (namedLft 2 0 tt (κ₀, (κ₁, tt)))) self) ∷ []))) out-self-0 $ split ! $ move ! (0 ∷ 2 ∷ []) $ fjoin ! $ nothing ! $ move ! (4 ∷ 0 ∷ []) $ join ! $ use2 W (raw (Contract-value-part 𝓤 H A mem run .pre (to-2 r1 u1))) (asked-2 r1 u1) $
           calls-at ! fm (Contract-value-part 𝓤 H A mem run) known-value-part (to-2 r1 u1) (and-then ! (load ! (from ! (stop !)) (look ! 4 refl)) (and-then ! (load ! (from ! (stop !)) (look ! 16 refl)) (no-more !))) (λ u2.
           use1 W (later (some (λ (r2 : RefT (List ℕ)). ((‵ (flft κ₀ q₀) ⊛ ‵ ftrue) ⊛ ‵ ((ShrSlice (named 0) κ₀ u8) .own r2 (u2 ∷ []))) ⊛ raw (ensured 𝓤 H A of-value-part.ended (of-value-part.clauses 𝓤 H A mem run) (κ₀, tt) ((self .file), (r1, tt)) tt r2)))) (id⊢ 𝓤 _) $ await ! tt $ pick ! (λ r2.
@@ -181,4 +181,4 @@ value-spec 𝓤 H 𝓜 𝓖 𝓡 =
     (tables 𝓤 H 𝓜 𝓡 code.env .C) (tables 𝓤 H 𝓜 𝓡 code.env .Λ) #it code.function (code.unfolded 𝓤 H 𝓜 𝓡)
     (it-meets 𝓤 H (𝓖 .A) (givenOf 𝓤 H 𝓜 𝓖) (𝓜 .mem) (𝓡 .run) (tablesOf 𝓤 H 𝓜 (tables 𝓤 H 𝓜 𝓡 code.env))
     (cited 𝓤 H (Contract-lookup-value 𝓤 H (𝓖 .A) (𝓜 .mem) (𝓡 .run)) 𝓜 𝓡 code.env #lookup-value of-lookup-value-def.routine code.calls-read·lookup·lookup-value (of-lookup-value-thm.met 𝓤 H 𝓜 𝓖 𝓡))
-    (cited 𝓤 H (Contract-value-part 𝓤 H (𝓖 .A) (𝓜 .mem) (𝓡 .run)) 𝓜 𝓡 code.env #value-part of-value-part-def.routine code.calls-view·part·value-part (of-value-part-thm.met 𝓤 H 𝓜 𝓖 𝓡)))
+    (cited 𝓤 H (Contract-value-part 𝓤 H (𝓖 .A) (𝓜 .mem) (𝓡 .run)) 𝓜 𝓡 code.env #value-part of-value-part-def.routine code.calls-view-part·part·value-part (of-value-part-thm.met 𝓤 H 𝓜 𝓖 𝓡)))

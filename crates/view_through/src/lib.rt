@@ -1,0 +1,2 @@
+// From a file to a value's bytes, by way of views.
+pub mod through;
