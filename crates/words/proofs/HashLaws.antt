@@ -8,11 +8,13 @@ use native.Mathlib.Nat.{mul-le-mul, le-pred-of-lt, mod-add-mod, add-mod-mod, add
 use lib.ListN.{length, getD, take, drop, drop-of-length-le}
 use lib.Seq.{drop-cons, take-add, take-all}
 use mathlib.Core.Bool.{true, false}
+use mathlib.Core.Logic.{_⊎_, inl, inr}
 use lib.Dec.{ltb}
 use borrow.Author.Tests.{lt-ltb, le-ltb}
 use Rattle.words.specs.Choice.{pick}
 use Rattle.words.specs.declared.hash.Form.{Form}
 use Rattle.words.specs.Hash.{hashStep, hashFrom, hashBy, plain, signed, ruleOf}
+use Rattle.words.proofs.ChoiceLaws.{lt-or-ge}
 
 -- a remainder may be taken of a factor, and of summands, first
 mod-step : (h n : ℕ) → (h % 2 ^ 32 * 33 + n) % 2 ^ 32 ≡ (h * 33 + n) % 2 ^ 32
@@ -122,11 +124,13 @@ signed-high b l = simp (le-ltb b 128 l)
 pub counts-plain : {form : Form} (b : ℕ) {wide : ℕ} → form ≡ Form.Plain → wide ≡ b → wide ≡ ruleOf form b
 counts-plain b e w = w ∙ sym (ap (λ (f : Form). ruleOf f b) e)
 
-pub counts-low : {form : Form} (b : ℕ) {wide : ℕ} → form ≡ Form.Signed → wide ≡ b → wide < 128 → wide ≡ ruleOf form b
-counts-low b e w l = w ∙ sym (ap (λ (f : Form). ruleOf f b) e ∙ signed-low b (omega (arith, w, l)))
-
-pub counts-high : {form : Form} (b : ℕ) {wide : ℕ} → form ≡ Form.Signed → wide ≡ b → 128 ≤ wide → wide + 4294967040 ≡ ruleOf form b
-counts-high b e w l = ap (λ (n : ℕ). n + 4294967040) w ∙ sym (ap (λ (f : Form). ruleOf f b) e ∙ signed-high b (omega (arith, w, l)))
+-- the code of the signed rule: 128 more, modulo 256, and 128 less
+pub counts-signed : {form : Form} (b : ℕ) {wide r : ℕ} → form ≡ Form.Signed → wide ≡ b → wide < 256 → r ≡ ((wide + 128) % 256 + 4294967168) % 2 ^ 32 → r ≡ ruleOf form b
+counts-signed b {wide} {r} e w l told = on (lt-or-ge b 128) ∙ sym (ap (λ (f : Form). ruleOf f b) e)
+  where
+    on : (b < 128) ⊎ (128 ≤ b) → r ≡ signed b
+    on (inl below) = let s = signed-low b below in omega (arith, told, w, l, s)
+    on (inr above) = let s = signed-high b above in omega (arith, told, w, l, s)
 
 -- a signed byte is itself below 128, and from there on to 255 it is 256 less, modulo 2^32
 pub signed-is : (b : ℕ) → (b < 128 → signed b ≡ b) × (128 ≤ b → b < 256 → (signed b + 256 ≡ b + 2 ^ 32) × (signed b < 2 ^ 32))

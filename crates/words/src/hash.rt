@@ -22,14 +22,14 @@ pub fn wrapping_mul(a: u32, b: u32) -> u32
     (wide % 0x1_0000_0000) as u32
 }
 
-// What a byte counts under a form, as a number of 32 bits.
+// What a byte counts under a form, as a number of 32 bits: the signed one turns the two halves of 256 round and takes 128 off, which is one instruction.
 pub fn byte_counts(b: u8, form: Form) -> u32
     ensures { λ r. ⌜ (r ≡ ruleOf form b) × (r < 2 ^ 32) ⌝ }
 {
     let wide = byte_word(b);
     match form {
         Form::Plain => wide,
-        Form::Signed => { if wide < 128 { wide } else { wide + 0xFFFF_FF00 } }
+        Form::Signed => std::num::wrapping_add_u32((wide + 128) % 256, 0xFFFF_FF80),
     }
 }
 

@@ -1,6 +1,6 @@
 -- `words::hash::byte_counts` meets its contract: one law for each case.
 use native.Mathlib.Omega.{arith}
-use Rattle.words.proofs.HashLaws.{counts-plain, counts-low, counts-high}
+use Rattle.words.proofs.HashLaws.{counts-plain, counts-signed}
 use borrow.Author.Needs.{needs}
 use Rattle.words.proofs.hash.byte_counts.Statement.{statement}
 use Rattle.words.proofs.hash.byte_counts.Tie as tie
@@ -14,19 +14,19 @@ enum-told c = search needs
 enum-told-2 : tie.Need-enum-told-2
 enum-told-2 c = search needs
 
-add-result : tie.Need-add-result
-add-result c = search needs
+add-wrapping-add-u32 : tie.Need-add-wrapping-add-u32
+add-wrapping-add-u32 c = search needs
+
+wrapping-add-u32-requires : tie.Need-wrapping-add-u32-requires
+wrapping-add-u32-requires c κs = search needs
 
 returns : tie.Need-returns
 returns c = (counts-plain _ (c .enum-told .given .1) (c .before .before .byte-word .ensures .0), search needs)
 
 returns-2 : tie.Need-returns-2
-returns-2 c = (counts-low _ (c .before .enum-told2 .given .1) (c .before .before .before .byte-word .ensures .0) (c .if1 .taken), search needs)
-
-returns-3 : tie.Need-returns-3
-returns-3 c = (counts-high _ (c .before .enum-told2 .given .1) (c .before .before .before .byte-word .ensures .0) (c .if1 .left), search needs)
+returns-2 c = (counts-signed _ (c .before .enum-told2 .given .1) (c .before .before .before .byte-word .ensures .0) (c .before .before .before .byte-word .ensures .1) (c .wrapping-add-u32 .ensures), search needs)
 
 pub byte-counts-spec : {M : Type 1} → statement M
 byte-counts-spec =
     tie.close
-    (tie.spec byte-word-requires enum-told enum-told-2 add-result returns returns-2 returns-3)
+    (tie.spec byte-word-requires enum-told enum-told-2 add-wrapping-add-u32 wrapping-add-u32-requires returns returns-2)
