@@ -144,7 +144,8 @@ pub fn find_joined(
     if buckets == 0 {
         return Found::Nothing;
     }
-    if bloom_passes(file, table, hash) {
+    let lookup = manner.lookup;
+    if bloom_passes(file, table, hash, lookup) {
         let run = run_of(file, table, word_size(hash) % buckets);
         first_same(file, table, index, size, hash, run, manner)
     } else {

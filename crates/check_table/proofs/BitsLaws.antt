@@ -4,19 +4,17 @@ use mathlib.Core.Path.{_≡_, refl, ap, _∙_}
 use mathlib.Core.List.{List}
 use mathlib.Core.Bool.{Bool, true, false}
 use native.Mathlib.Omega.{arith}
-use native.Mathlib.Nat.{div-self, div-eq-of-lt, pow-suc, mul-mod-left, zero-div}
+use native.Mathlib.Nat.{div-eq-of-lt, pow-suc, mul-mod-left, zero-div}
 use lib.ListN.{length, getD, set, length-set, replicate}
 use lib.Seq.{getD-set-same, getD-set-other}
-use lib.Bits.{bitOr, or-shr, or-mod, or-zero-r}
-use lib.Pow.{pow-pos, pow-lt, pow-add, shl-shr}
+use lib.Bits.{bitOr, or-zero-r}
+use lib.Pow.{pow-lt, pow-add, shl-shr}
 use lib.Dec.{eqb, ltb}
 use borrow.Author.Tests.{ltb-true, ltb-false, eqb-true, eqb-false, eq-eqb}
+use Rattle.words.proofs.BitLaws.{one-bit-same, or-bit, or-one}
 use Rattle.check_table.specs.Bits.{hasBit, withBit}
 
--- a bit of a power of two
-one-bit-same : (b : ℕ) → 2 ^ b / 2 ^ b % 2 ≡ 1
-one-bit-same b = ap (λ (n : ℕ). n % 2) (div-self (pow-pos b))
-
+-- another bit of a power of two
 bit-above : (b c : ℕ) → b < c → 2 ^ b / 2 ^ c % 2 ≡ 0
 bit-above b c h = ap (λ (n : ℕ). n % 2) (div-eq-of-lt (pow-lt h))
 
@@ -36,15 +34,6 @@ one-bit-other b c n = by-case (ltb b c) refl
     by-case : (t : Bool) → ltb b c ≡ t → 2 ^ b / 2 ^ c % 2 ≡ 0
     by-case true e = bit-above b c (ltb-true b c e)
     by-case false e = let l : c ≤ b = ltb-false b c e in bit-below b c (omega arith)
-
--- a bit of two words joined
-or-bit : (a b c : ℕ) → bitOr a b / 2 ^ c % 2 ≡ bitOr (a / 2 ^ c % 2) (b / 2 ^ c % 2)
-or-bit a b c = ap (λ (n : ℕ). n % 2) (or-shr a b c) ∙ or-mod (a / 2 ^ c) (b / 2 ^ c) 1
-
-or-one : (a : ℕ) → a < 2 → bitOr a 1 ≡ 1
-or-one zero h = refl
-or-one (suc zero) h = refl
-or-one (suc (suc a)) h = absurd (omega arith)
 
 -- what is in the set after an index is put in
 module _ (bits : List ℕ) (at : ℕ) (h : at < 64 * length bits) where

@@ -13,3 +13,4 @@ pub mod AnswerLaws
 pub mod Children
 pub mod ChildrenLaws
 pub mod FormLaws
+pub mod StrictLaws

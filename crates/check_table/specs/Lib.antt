@@ -6,3 +6,4 @@ pub mod Sound
 pub mod Broken
 pub mod Children
 pub mod Forms
+pub mod Strict

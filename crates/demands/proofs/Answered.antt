@@ -105,12 +105,12 @@ does m (Call.item-count t) =
       left = (lend (m .words), (lend (m .arena), (t, tt)));
       meets = refl;
     })
-does m (Call.write t buffer manner) =
+does m (Call.write t buffer manner filter) =
     Does.write (record {
       lifetimes = ([], ([], ([], tt)));
-      given = (lend (m .words), (lend (m .arena), (t, (lend buffer, (manner, tt)))));
-      answer = writtenAnswer (writeAnswer (ruleOf (formOf manner)) (m .words) (m .arena) t (length buffer));
-      left = (lend (m .words), (lend (m .arena), (t, (lend (imageAfter (ruleOf (formOf manner)) (m .words) (m .arena) t buffer), (manner, tt)))));
+      given = (lend (m .words), (lend (m .arena), (t, (lend buffer, (manner, (filter, tt))))));
+      answer = writtenAnswer (writeAnswer (ruleOf (formOf manner)) filter (m .words) (m .arena) t (length buffer));
+      left = (lend (m .words), (lend (m .arena), (t, (lend (imageAfter (ruleOf (formOf manner)) filter (m .words) (m .arena) t buffer), (manner, (filter, tt))))));
       meets = (refl, (refl, refl));
     })
 

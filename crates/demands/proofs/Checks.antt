@@ -1,11 +1,11 @@
 -- Demand 3: every table in every image that is laid passes; the check passes exactly the sound tables, and names the first item and rule broken.
-use Prim.Native.Nat.{ℕ, zero, suc}
+use Prim.Native.Nat.{ℕ, zero, suc, _≤_}
 use mathlib.Core.Path.{_≡_, refl, sym, ap, _∙_, subst}
 use mathlib.Core.Bool.{Bool, true, false}
 use mathlib.Core.List.{List}
 use native.Mathlib.Omega.{arith}
 use lib.ListN.{length, take}
-use Rattle.layout.specs.Limits.{deepest}
+use Rattle.layout.specs.Limits.{deepest, mostFilter}
 use Rattle.layout.specs.Sizes.{headerSize}
 use Rattle.layout.proofs.RefusalLaws.{refused-some}
 use Rattle.words.specs.Hash.{ruleOf}
@@ -44,11 +44,11 @@ use Rattle.demands.specs.Last.{Held}
 use Rattle.demands.specs.Demand3.{AllPass, EveryImagePasses, PassesExactlyTheSound, NamesTheFirst, SaysWhy, OpensFirst}
 use Rattle.demands.specs.Readers.{readBy, Listing}
 use Rattle.demands.proofs.Contracts.{opening-is, listing-is, checking-is}
-use Rattle.demands.proofs.Told.{told-pointer}
+use Rattle.demands.proofs.Told.{layBy, told-pointer}
 use Rattle.demands.proofs.HeldLaws.{heldIn}
 use Rattle.demands.proofs.Rows.{ItemOf, item-of, no-item}
 use Rattle.demands.proofs.Write.{success, success-back, success-passes}
-use Rattle.demands.proofs.Demands.{image-is}
+use Rattle.demands.proofs.Demands.{image-read}
 
 -- ---- the check's numbers
 
@@ -124,58 +124,59 @@ placed-none l from to n is e = let z : _≡_ {A = ℕ} 0 (suc n) = sym (ap looke
 same-place : (l : Looked) (a b c d : ℕ) → l ≡ Looked.Pointer a b → l ≡ Looked.Pointer c d → (a ≡ c) × (b ≡ d)
 same-place l a b c d p q = (cc, cc)
 
-module _ (manner : ℕ) (file ws ar : List ℕ) where
+module _ (manner filter : ℕ) (few : filter ≤ mostFilter) (file ws ar : List ℕ) where
   -- a key that answers a nested table is the key of an item that holds one
   record Nests (t : ℕ) (key : List ℕ) : Type 0 where
     pub guest : ℕ
     pub item : ItemOf ws ar t key (Content.nested guest)
 
-  nests : (t at : ℕ) → TableBack (readBy manner) file (stateOf ws ar) t at → (key : List ℕ) (from to : ℕ) → lookupTable (readBy manner) file at (endOf (stateOf ws ar) t at) key ≡ Looked.Pointer from to → Nests t key
+  nests : (t at : ℕ) → TableBack (layBy manner filter few) file (stateOf ws ar) t at → (key : List ℕ) (from to : ℕ) → lookupTable (readBy manner) file at (endOf filter (stateOf ws ar) t at) key ≡ Looked.Pointer from to → Nests t key
   nests t at back key from to is = by-text (isUtf8 key) refl
     where
       by-held : (h : Held) → isUtf8 key ≡ true → heldIn (meaning ws ar .items) t key ≡ h → Nests t key
       by-held Held.nothing text e = absurd (placed-none _ from to 11 is (back .absent key text (no-item ws ar t key e) .table))
       by-held (Held.holds (Content.bytes value)) text e =
           let x = item-of ws ar t key (Content.bytes value) e in
-          absurd (placed-none _ from to 12 is (subst (λ (k : List ℕ). lookedNumber (lookupTable (readBy manner) file at (endOf (stateOf ws ar) t at) k) ≡ 13) (x .key) (back .no-table (x .item) value (x .has) (x .content))))
+          absurd (placed-none _ from to 12 is (subst (λ (k : List ℕ). lookedNumber (lookupTable (readBy manner) file at (endOf filter (stateOf ws ar) t at) k) ≡ 13) (x .key) (back .no-table (x .item) value (x .has) (x .content))))
       by-held (Held.holds (Content.nested u)) text e = record { guest = u; item = item-of ws ar t key (Content.nested u) e }
       by-held (Held.holds Content.container) text e =
           let x = item-of ws ar t key Content.container e in
-          absurd (placed-none _ from to 12 is (subst (λ (k : List ℕ). lookedNumber (lookupTable (readBy manner) file at (endOf (stateOf ws ar) t at) k) ≡ 13) (x .key) (back .containers (x .item) (x .has) (x .content) .table)))
+          absurd (placed-none _ from to 12 is (subst (λ (k : List ℕ). lookedNumber (lookupTable (readBy manner) file at (endOf filter (stateOf ws ar) t at) k) ≡ 13) (x .key) (back .containers (x .item) (x .has) (x .content) .table)))
 
       by-text : (b : Bool) → isUtf8 key ≡ b → Nests t key
       by-text true e = by-held (heldIn (meaning ws ar .items) t key) e refl
       by-text false e = absurd (placed-none _ from to 7 is (back .not-text key e .table))
 
-  pub all-pass : (d t at : ℕ) → AllBack (readBy manner) file (stateOf ws ar) d t at → laid.AllPass (readBy manner) file (stateOf ws ar) d t at → AllPass manner file d at (endOf (stateOf ws ar) t at)
+  pub all-pass : (d t at : ℕ) → AllBack (layBy manner filter few) file (stateOf ws ar) d t at → laid.AllPass (layBy manner filter few) file (stateOf ws ar) d t at → AllPass manner file d at (endOf filter (stateOf ws ar) t at)
   unfolding AllBack laid.AllPass AllPass checkedAnswer checkedNumber
   all-pass zero t at back pass = pass
   all-pass (suc d) t at back pass = (
-    λ r c. ap (λ (x : GvdbCheck). x .number) (checking-is file at (endOf (stateOf ws ar) t at) manner r c) ∙ ap checkedNumber (pass .0),
+    λ r c. ap (λ (x : GvdbCheck). x .number) (checking-is file at (endOf filter (stateOf ws ar) t at) manner r c) ∙ ap checkedNumber (pass .0),
     λ key r g e.
-        let is = told-pointer file at (endOf (stateOf ws ar) t at) key manner r g e in
+        let is = told-pointer file at (endOf filter (stateOf ws ar) t at) key manner r g e in
         let n = nests t at (back .0) key (r .start) (r .end) is in
         let x = n .item in
         let u = n .guest in
         let b = back .1 (x .item) u (x .has) (x .content) in
         let p = pass .1 (x .item) u (x .has) (x .content) in
-        let here : lookupTable (readBy manner) file at (endOf (stateOf ws ar) t at) (stateOf ws ar t .key (x .item)) ≡ Looked.Pointer (r .start) (r .end) =
-        ap (lookupTable (readBy manner) file at (endOf (stateOf ws ar) t at)) (x .key) ∙ is in
-        let pb = same-place _ (b .0) (endOf (stateOf ws ar) u (b .0)) (p .0) (endOf (stateOf ws ar) u (p .0)) (b .1) (p .1) in
-        let pp = same-place _ (p .0) (endOf (stateOf ws ar) u (p .0)) (r .start) (r .end) (p .1) here in
+        let here : lookupTable (readBy manner) file at (endOf filter (stateOf ws ar) t at) (stateOf ws ar t .key (x .item)) ≡ Looked.Pointer (r .start) (r .end) =
+        ap (lookupTable (readBy manner) file at (endOf filter (stateOf ws ar) t at)) (x .key) ∙ is in
+        let pb = same-place _ (b .0) (endOf filter (stateOf ws ar) u (b .0)) (p .0) (endOf filter (stateOf ws ar) u (p .0)) (b .1) (p .1) in
+        let pp = same-place _ (p .0) (endOf filter (stateOf ws ar) u (p .0)) (r .start) (r .end) (p .1) here in
         subst (λ (f : ℕ). AllPass manner file d f (r .end)) (pp .0)
         (subst (AllPass manner file d (p .0)) (pp .1)
-        (all-pass d u (p .0) (subst (AllBack (readBy manner) file (stateOf ws ar) d u) (pb .0) (b .2)) (p .2))),
+        (all-pass d u (p .0) (subst (AllBack (layBy manner filter few) file (stateOf ws ar) d u) (pb .0) (b .2)) (p .2))),
   )
 
 pub every-image-passes : EveryImagePasses
-every-image-passes m t buffer manner start end size after left d =
-    let (is, laid-is) = image-is m t buffer manner start end size after left d in
+every-image-passes m t buffer manner filter start end size after left d reader same =
+    let (is, laid-is) = image-read m t buffer manner filter start end size after left d reader same in
     let ws = m .words in
     let ar = m .arena in
-    let s = success (ruleOf (formOf manner)) ws ar t (length buffer) start end size is in
-    let file = take size (imageAfter (ruleOf (formOf manner)) ws ar t buffer) in
-    subst (λ (bytes : List ℕ). AllPass manner (take size bytes) deepest start end) (sym laid-is)
-    (subst (λ (at : ℕ). AllPass manner file deepest at end) (sym (s .starts))
-    (subst (AllPass manner file deepest headerSize) (sym (s .ends))
-    (all-pass manner file ws ar deepest t headerSize (success-back (readBy manner) ws ar buffer t start end size is) (success-passes (readBy manner) ws ar buffer t start end size is))))
+    let s = success (ruleOf (formOf reader)) filter ws ar t (length buffer) start end size is in
+    let lay = layBy reader filter (s .few) in
+    let file = take size (imageAfter (ruleOf (formOf reader)) filter ws ar t buffer) in
+    subst (λ (bytes : List ℕ). AllPass reader (take size bytes) deepest start end) (sym laid-is)
+    (subst (λ (at : ℕ). AllPass reader file deepest at end) (sym (s .starts))
+    (subst (AllPass reader file deepest headerSize) (sym (s .ends))
+    (all-pass reader filter (s .few) file ws ar deepest t headerSize (success-back lay ws ar buffer t start end size is) (success-passes lay ws ar buffer t start end size is))))

@@ -44,21 +44,21 @@ answers m (Call.new-table separator) = model.added (newTable (m .words) (m .aren
 answers m (Call.insert-value t key value) = model.inserted (insertValue (m .words) (m .arena) t key value .answer)
 answers m (Call.insert-table t key guest) = model.inserted (insertTable (m .words) (m .arena) t key guest .answer)
 answers m (Call.item-count t) = model.counted (itemCount (m .words) (m .arena) t)
-answers m (Call.write t buffer manner) = model.written (writeAnswer (ruleOf (formOf manner)) (m .words) (m .arena) t (length buffer))
+answers m (Call.write t buffer manner filter) = model.written (writeAnswer (ruleOf (formOf manner)) filter (m .words) (m .arena) t (length buffer))
 
 unfoldable pub leaves : Memory → Call → Memory
 leaves m (Call.new-table separator) = newTable (m .words) (m .arena) separator .after
 leaves m (Call.insert-value t key value) = insertValue (m .words) (m .arena) t key value .after
 leaves m (Call.insert-table t key guest) = insertTable (m .words) (m .arena) t key guest .after
 leaves m (Call.item-count t) = m
-leaves m (Call.write t buffer manner) = m
+leaves m (Call.write t buffer manner filter) = m
 
 unfoldable pub leavesLent : Memory → Call → List ℕ
 leavesLent m (Call.new-table separator) = []
 leavesLent m (Call.insert-value t key value) = []
 leavesLent m (Call.insert-table t key guest) = []
 leavesLent m (Call.item-count t) = []
-leavesLent m (Call.write t buffer manner) = imageAfter (ruleOf (formOf manner)) (m .words) (m .arena) t buffer
+leavesLent m (Call.write t buffer manner filter) = imageAfter (ruleOf (formOf manner)) filter (m .words) (m .arena) t buffer
 
 pub record DoesAs (m : Memory) (call : Call) (said : List ℕ) (after : Memory) (left : List ℕ) : Type 0 where
   pub answer : said ≡ answers m call

@@ -1,5 +1,5 @@
 -- Demand 2: what the statement says holds of every history and every write that succeeds.
-use Prim.Native.Nat.{ℕ, zero, suc, _<_}
+use Prim.Native.Nat.{ℕ, zero, suc, _≤_, _<_}
 use mathlib.Core.Path.{_≡_, refl, sym, ap, _∙_, subst}
 use mathlib.Core.Bool.{true}
 use mathlib.Core.List.{List, [], _∷_}
@@ -8,6 +8,7 @@ use borrow.Author.Tests.{lt-ltb, ltb-true}
 use lib.Dec.{ltb}
 use lib.ListN.{length, take, getD}
 use Rattle.words.specs.Hash.{ruleOf}
+use Rattle.words.specs.declared.hash.Form.{Form}
 use Rattle.words.proofs.ChoiceLaws.{both, pick-true}
 use Rattle.text.specs.Utf8.{isUtf8}
 use Rattle.layout.specs.Answer.{openedNumber}
@@ -27,7 +28,7 @@ use Rattle.build_tables.specs.Answer.{countedNumber, countedItems}
 use Rattle.build_rules.specs.Valid.{fullyValid}
 use Rattle.build_rules.proofs.ValidFacts.{whole-facts}
 use Rattle.layout.specs.Sizes.{headerSize}
-use Rattle.layout.specs.Limits.{deepest}
+use Rattle.layout.specs.Limits.{deepest, mostFilter}
 use Rattle.image.specs.Fits.{openedAs}
 use Rattle.laid.specs.Back.{endOf, tableOpened}
 use Rattle.laid.specs.Told.{TableBack, AllBack}
@@ -51,7 +52,7 @@ use Rattle.demands.specs.Last.{Held, held}
 use Rattle.demands.specs.Model.{counted, written}
 use Rattle.demands.specs.Demand2.{Tells, Opens, Answers, Demand2}
 use Rattle.demands.proofs.Contracts.{answers, leavesLent, does-is, opening-is}
-use Rattle.demands.proofs.Told.{value-told, table-told, both-told, bytes-told, pointer-told}
+use Rattle.demands.proofs.Told.{layBy, value-told, table-told, both-told, bytes-told, pointer-told}
 use Rattle.demands.proofs.HeldLaws.{heldIn}
 use Rattle.demands.proofs.Rows.{item-of, no-item}
 use Rattle.demands.proofs.Writable.{holds-guest}
@@ -67,19 +68,27 @@ unfolding written writtenNumber writtenImage
 image-by (Written.Image a b c) start end size e = cc
 image-by (Written.Refused why) start end size e = absurd (refused-some why (let z : 0 ≡ _ = ap (λ (l : List ℕ). getD l 0 0) e in sym z))
 
-pub image-is : (m : Memory) (t : ℕ) (buffer : List ℕ) (manner start end size : ℕ) (after : Memory) (left : List ℕ)
-    → Does m (Call.write t buffer manner) (0 ∷ start ∷ end ∷ size ∷ []) after left
-    → (writeAnswer (ruleOf (formOf manner)) (m .words) (m .arena) t (length buffer) ≡ Written.Image start end size) × (left ≡ imageAfter (ruleOf (formOf manner)) (m .words) (m .arena) t buffer)
+pub image-is : (m : Memory) (t : ℕ) (buffer : List ℕ) (manner filter start end size : ℕ) (after : Memory) (left : List ℕ)
+    → Does m (Call.write t buffer manner filter) (0 ∷ start ∷ end ∷ size ∷ []) after left
+    → (writeAnswer (ruleOf (formOf manner)) filter (m .words) (m .arena) t (length buffer) ≡ Written.Image start end size) × (left ≡ imageAfter (ruleOf (formOf manner)) filter (m .words) (m .arena) t buffer)
 unfolding answers leavesLent
-image-is m t buffer manner start end size after left d =
-    let did = does-is m (Call.write t buffer manner) _ after left d in
+image-is m t buffer manner filter start end size after left d =
+    let did = does-is m (Call.write t buffer manner filter) _ after left d in
     (image-by _ start end size (did .answer), did .lent)
+
+-- by the form of a reader, which is the write's
+pub image-read : (m : Memory) (t : ℕ) (buffer : List ℕ) (manner filter start end size : ℕ) (after : Memory) (left : List ℕ)
+    → Does m (Call.write t buffer manner filter) (0 ∷ start ∷ end ∷ size ∷ []) after left → (reader : ℕ) → formOf reader ≡ formOf manner
+    → (writeAnswer (ruleOf (formOf reader)) filter (m .words) (m .arena) t (length buffer) ≡ Written.Image start end size) × (left ≡ imageAfter (ruleOf (formOf reader)) filter (m .words) (m .arena) t buffer)
+image-read m t buffer manner filter start end size after left d reader same =
+    subst (λ (f : Form). (writeAnswer (ruleOf f) filter (m .words) (m .arena) t (length buffer) ≡ Written.Image start end size) × (left ≡ imageAfter (ruleOf f) filter (m .words) (m .arena) t buffer))
+    (sym same) (image-is m t buffer manner filter start end size after left d)
 
 -- ---- a table of the memory, as a reader finds it
 
-module _ (manner : ℕ) (file ws ar : List ℕ) (t at : ℕ) (back : TableBack (readBy manner) file (stateOf ws ar) t at) where
+module _ (manner filter : ℕ) (few : filter ≤ mostFilter) (file ws ar : List ℕ) (t at : ℕ) (back : TableBack (layBy manner filter few) file (stateOf ws ar) t at) where
   abbrev end : ℕ
-  end = endOf (stateOf ws ar) t at
+  end = endOf filter (stateOf ws ar) t at
 
   -- a key is told what stands under it; `inside` is what holds of a nested table
   told : (inside : ℕ → ℕ → ℕ → Type 0)
@@ -112,10 +121,10 @@ counts ws ar honest t known =
     count-alike ws ar honest t
     ∙ pick-true _ _ (lt-ltb t (length (meaning ws ar .tables)) (omega (arith, length-listed (standingOf ws) (tableTotal ws))))
 
-opens : (m : Memory) → Honest (m .words) (m .arena) → (file : List ℕ) (t at end : ℕ) → t < tableTotal (m .words)
-    → openTable file at end ≡ Opened.Table (tableOpened (stateOf (m .words) (m .arena)) t at) → Opens m t file at end
+opens : (m : Memory) → Honest (m .words) (m .arena) → (file : List ℕ) (filter t at end : ℕ) → t < tableTotal (m .words)
+    → openTable file at end ≡ Opened.Table (tableOpened filter (stateOf (m .words) (m .arena)) t at) → Opens m t file at end
 unfolding Opens openedAnswer openedNumber openedCount openedAs answers counted countedNumber countedItems
-opens m honest file t at end known is r o =
+opens m honest file filter t at end known is r o =
     let e = opening-is file at end r o ∙ ap openedAnswer is in (
       ap (λ (x : GvdbOpened). x .number) e,
       λ said after left d.
@@ -132,7 +141,7 @@ guest-known ws ar whole t i u has is =
 
 -- ---- demand 2
 
-module _ (room : ℕ) (events : List Event) (m : Memory) (h : History room events m) (manner : ℕ) (file : List ℕ) where
+module _ (room : ℕ) (events : List Event) (m : Memory) (h : History room events m) (manner filter : ℕ) (few : filter ≤ mostFilter) (file : List ℕ) where
   abbrev state : State
   state = stateOf (m .words) (m .arena)
 
@@ -140,30 +149,30 @@ module _ (room : ℕ) (events : List Event) (m : Memory) (h : History room event
   holds : (t : ℕ) (key : List ℕ) → heldIn (meant m .items) t key ≡ held t key events
   holds t key = ap (λ (b : Builder). heldIn (b .items) t key) (memory-means-the-builder room events m h) ∙ held-is t key room events m h
 
-  pub reads : fullyValid (m .words) (m .arena) ≡ true → (d t at : ℕ) → t < tableTotal (m .words) → AllBack (readBy manner) file state d t at → Answers manner events m file d t at (endOf state t at)
+  pub reads : fullyValid (m .words) (m .arena) ≡ true → (d t at : ℕ) → t < tableTotal (m .words) → AllBack (layBy manner filter few) file state d t at → Answers manner events m file d t at (endOf filter state t at)
   unfolding AllBack Answers
   reads whole zero t at known back = back
   reads whole (suc d) t at known back = (
-    opens m (reached-honest _ _ (stands room events m h .reached)) file t at (endOf state t at) known (back .0 .opens),
+    opens m (reached-honest _ _ (stands room events m h .reached)) file filter t at (endOf filter state t at) known (back .0 .opens),
     λ key text.
-        subst (Tells manner (λ u from to. Answers manner events m file d u from to) file at (endOf state t at) key) (holds t key)
-        (told manner file (m .words) (m .arena) t at (back .0) (λ u from to. Answers manner events m file d u from to)
+        subst (Tells manner (λ u from to. Answers manner events m file d u from to) file at (endOf filter state t at) key) (holds t key)
+        (told manner filter few file (m .words) (m .arena) t at (back .0) (λ u from to. Answers manner events m file d u from to)
         (λ i u has is.
         let r = back .1 i u has is in
-        (r .0, endOf state u (r .0), r .1, reads whole d u (r .0) (guest-known (m .words) (m .arena) whole t i u has is) (r .2)))
+        (r .0, endOf filter state u (r .0), r .1, reads whole d u (r .0) (guest-known (m .words) (m .arena) whole t i u has is) (r .2)))
         key text (heldIn (meant m .items) t key) refl),
-    λ key bad. both-told file at (endOf state t at) key manner 8 (back .0 .not-text key bad),
+    λ key bad. both-told file at (endOf filter state t at) key manner 8 (back .0 .not-text key bad),
   )
 
 pub demand-2 : Demand2
 unfolding freeStanding
-demand-2 room events m h t buffer manner start end size after left d =
-    let (is, laid) = image-is m t buffer manner start end size after left d in
-    let s = success (ruleOf (formOf manner)) (m .words) (m .arena) t (length buffer) start end size is in
-    let back = success-back (readBy manner) (m .words) (m .arena) buffer t start end size is in
+demand-2 room events m h t buffer manner filter start end size after left d reader same =
+    let (is, laid) = image-read m t buffer manner filter start end size after left d reader same in
+    let s = success (ruleOf (formOf reader)) filter (m .words) (m .arena) t (length buffer) start end size is in
+    let back = success-back (layBy reader filter (s .few)) (m .words) (m .arena) buffer t start end size is in
     let known : t < tableTotal (m .words) = ltb-true _ _ (both (ltb t (tableTotal (m .words))) _ (s .root) .0) in
-    let file = take size (imageAfter (ruleOf (formOf manner)) (m .words) (m .arena) t buffer) in
-    subst (λ (bytes : List ℕ). Answers manner events m (take size bytes) deepest t start end) (sym laid)
-    (subst (λ (at : ℕ). Answers manner events m file deepest t at end) (sym (s .starts))
-    (subst (λ (to : ℕ). Answers manner events m file deepest t headerSize to) (sym (s .ends))
-    (reads room events m h manner file (s .whole) deepest t headerSize known back)))
+    let file = take size (imageAfter (ruleOf (formOf reader)) filter (m .words) (m .arena) t buffer) in
+    subst (λ (bytes : List ℕ). Answers reader events m (take size bytes) deepest t start end) (sym laid)
+    (subst (λ (at : ℕ). Answers reader events m file deepest t at end) (sym (s .starts))
+    (subst (λ (to : ℕ). Answers reader events m file deepest t headerSize to) (sym (s .ends))
+    (reads room events m h reader filter (s .few) file (s .whole) deepest t headerSize known back)))

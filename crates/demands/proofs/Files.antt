@@ -27,6 +27,7 @@ use Rattle.image.specs.Image.{tableBytes, imageOf}
 use Rattle.image.specs.WellFormed.{Writable}
 use Rattle.image.specs.Laid.{Holds}
 use Rattle.image.specs.Fits.{openedAs}
+use Rattle.laid.specs.Back.{Lay}
 use Rattle.laid.specs.Told.{AllBack}
 use Rattle.laid.proofs.ImageBack.{root-back, headed-held}
 use Rattle.laid.proofs.Passes.{root-passes}
@@ -39,14 +40,17 @@ use Rattle.gvdb.specs.Manner.{formOf}
 use Rattle.gvdb.specs.Header.{orderOf, headedAnswer}
 use Rattle.demands.specs.Success.{Success}
 use Rattle.demands.specs.File.{FileLaid, HeaderIsTaken, HeaderReadsBack, Demand2File, Demand3File}
-use Rattle.demands.specs.Readers.{readBy}
 use Rattle.demands.specs.Demand3.{AllPass}
+use Rattle.demands.proofs.Told.{layBy}
 use Rattle.demands.proofs.Contracts.{reading-header-is, laying-header-is}
 use Rattle.demands.proofs.Write.{success, writable, short-image, file-is}
-use Rattle.demands.proofs.Demands.{image-is, reads}
+use Rattle.demands.proofs.Demands.{image-read, reads}
 use Rattle.demands.proofs.Checks.{all-pass}
 
-module _ (m : Memory) (t big manner start end number : ℕ) (file : List ℕ) (f : FileLaid m t big manner start end number file) where
+module _ (m : Memory) (t big manner filter start end number : ℕ) (file : List ℕ) (f : FileLaid m t big manner filter start end number file) (reader : ℕ) (same : formOf reader ≡ formOf manner) where
+  abbrev rule : ℕ → ℕ
+  rule = ruleOf (formOf reader)
+
   abbrev ws : List ℕ
   ws = m .words
 
@@ -57,27 +61,27 @@ module _ (m : Memory) (t big manner start end number : ℕ) (file : List ℕ) (f
   state = stateOf ws ar
 
   abbrev image : List ℕ
-  image = imageOf (ruleOf (formOf manner)) state t
+  image = imageOf rule filter state t
 
-  wrote : (writeAnswer (ruleOf (formOf manner)) ws ar t (length (f .buffer)) ≡ Written.Image start end (f .size)) × (f .left ≡ imageAfter (ruleOf (formOf manner)) ws ar t (f .buffer))
-  wrote = image-is m t (f .buffer) manner start end (f .size) (f .after) (f .left) (f .writes)
+  wrote : (writeAnswer rule filter ws ar t (length (f .buffer)) ≡ Written.Image start end (f .size)) × (f .left ≡ imageAfter rule filter ws ar t (f .buffer))
+  wrote = image-read m t (f .buffer) manner filter start end (f .size) (f .after) (f .left) (f .writes) reader same
 
-  made : Success (ruleOf (formOf manner)) ws ar t (length (f .buffer)) start end (f .size)
-  made = success (ruleOf (formOf manner)) ws ar t (length (f .buffer)) start end (f .size) (wrote .0)
+  pub made : Success rule filter ws ar t (length (f .buffer)) start end (f .size)
+  made = success rule filter ws ar t (length (f .buffer)) start end (f .size) (wrote .0)
 
   -- the target of the header is the image
   target : take (f .size) (f .left) ≡ image
-  target = ap (take (f .size)) (wrote .1) ∙ file-is (ruleOf (formOf manner)) ws ar (f .buffer) t start end (f .size) (wrote .0)
+  target = ap (take (f .size)) (wrote .1) ∙ file-is rule filter ws ar (f .buffer) t start end (f .size) (wrote .0)
 
   good : Writable state deepest t
-  good = writable (ruleOf (formOf manner)) ws ar (f .buffer) t start end (f .size) (wrote .0)
+  good = writable rule filter ws ar (f .buffer) t start end (f .size) (wrote .0)
 
   short : length image ≤ longestFile
-  short = short-image (ruleOf (formOf manner)) ws ar (f .buffer) t start end (f .size) (wrote .0)
+  short = short-image rule filter ws ar (f .buffer) t start end (f .size) (wrote .0)
 
   long : headerSize ≤ length image
   unfolding imageOf
-  long = omega (arith, length-append (zeros headerSize) (tableBytes (ruleOf (formOf manner)) state deepest t headerSize), length-zeros headerSize)
+  long = omega (arith, length-append (zeros headerSize) (tableBytes rule filter state deepest t headerSize), length-zeros headerSize)
 
   abbrev header : List ℕ
   header = headerBytes (orderOf big) start end
@@ -96,11 +100,14 @@ module _ (m : Memory) (t big manner start end number : ℕ) (file : List ℕ) (f
   short-file : length file ≤ longestFile
   short-file = omega (arith, ap length is-headed, length-put image 0 header, short)
 
-  held : Holds file headerSize (tableBytes (ruleOf (formOf manner)) state deepest t headerSize)
-  held = rw is-headed (headed-held (ruleOf (formOf manner)) state t header (length-header (orderOf big) start end))
+  held : Holds file headerSize (tableBytes rule filter state deepest t headerSize)
+  held = rw is-headed (headed-held rule filter state t header (length-header (orderOf big) start end))
 
-  pub back : AllBack (readBy manner) file state deepest t headerSize
-  back = root-back (readBy manner) state t good file short-file held
+  abbrev lay : Lay
+  lay = layBy reader filter (made .few)
+
+  pub back : AllBack lay file state deepest t headerSize
+  back = root-back lay state t good file short-file held
 
   -- the root pointer lies in the file, so each of its numbers is one of four bytes
   end-small : end < 2 ^ 32
@@ -119,11 +126,11 @@ module _ (m : Memory) (t big manner start end number : ℕ) (file : List ℕ) (f
       ap readHeader (did .1 ∙ ap (λ (l : List ℕ). withHeader l (orderOf big) start end) target)
       ∙ laid-is-read image (orderOf big) start end taken start-small end-small
 
-  pub file-passes : AllPass manner file deepest start end
-  file-passes = rw (made .starts, made .ends) (all-pass manner file ws ar deepest t headerSize back (root-passes (readBy manner) state t good file short-file held))
+  pub file-passes : AllPass reader file deepest start end
+  file-passes = rw (made .starts, made .ends) (all-pass reader filter (made .few) file ws ar deepest t headerSize back (root-passes lay state t good file short-file held))
 
 pub header-is-taken : HeaderIsTaken
-header-is-taken m t big manner start end number file f = number-0 m t big manner start end number file f
+header-is-taken m t big manner filter start end number file f = number-0 m t big manner filter start end number file f manner refl
 
 order-number : (big : ℕ) → orderNumber (orderOf big) ≡ pick (eqb big 0) 0 1
 unfolding orderOf pick
@@ -135,16 +142,16 @@ order-number big = by (eqb big 0)
 
 pub header-reads-back : HeaderReadsBack
 unfolding headedAnswer headedNumber headedOrder headedPointer
-header-reads-back m t big manner start end number file f r reading =
-    reading-header-is file r reading ∙ ap headedAnswer (read-again m t big manner start end number file f)
+header-reads-back m t big manner filter start end number file f r reading =
+    reading-header-is file r reading ∙ ap headedAnswer (read-again m t big manner filter start end number file f manner refl)
     ∙ ap (λ (b : ℕ). record { number = 0; big = b; start = start; end = end }) (order-number big)
 
 pub demand-2-file : Demand2File
 unfolding freeStanding
-demand-2-file room events m h t big manner start end number file f =
-    let s = made m t big manner start end number file f in
+demand-2-file room events m h t big manner filter start end number file f reader same =
+    let s = made m t big manner filter start end number file f reader same in
     let known : t < tableTotal (m .words) = ltb-true _ _ (both (ltb t (tableTotal (m .words))) _ (s .root) .0) in
-    rw (s .starts, s .ends) (reads room events m h manner file (s .whole) deepest t headerSize known (back m t big manner start end number file f))
+    rw (s .starts, s .ends) (reads room events m h reader filter (s .few) file (s .whole) deepest t headerSize known (back m t big manner filter start end number file f reader same))
 
 pub demand-3-file : Demand3File
-demand-3-file m t big manner start end number file f = file-passes m t big manner start end number file f
+demand-3-file m t big manner filter start end number file f reader same = file-passes m t big manner filter start end number file f reader same

@@ -78,7 +78,7 @@ module _ (b : Builder) where
   sep-step (Call.insert-value u key value) t = value-took b u key value .seps t
   sep-step (Call.insert-table u key guest) t = table-took b u key guest .seps t
   sep-step (Call.item-count u) t = refl
-  sep-step (Call.write u buffer manner) t = refl
+  sep-step (Call.write u buffer manner filter) t = refl
 
   -- the separator of the table that an insert goes into
   its-sep : (u : ℕ) (key : List ℕ) (t : ℕ) (k : List ℕ) → (eqb u t && among (prefixes (standingAt b u .separator) key) k) ≡ (eqb u t && among (prefixes (standingAt b t .separator) key) k)
@@ -107,7 +107,7 @@ module _ (b : Builder) where
   held-step (Call.insert-value u key value) t k = insert-step u key (Content.bytes value) _ (value-took b u key value) t k
   held-step (Call.insert-table u key guest) t k = insert-step u key (Content.nested guest) _ (table-took b u key guest) t k
   held-step (Call.item-count u) t k = still (Call.item-count u) t k refl refl
-  held-step (Call.write u buffer manner) t k = still (Call.write u buffer manner) t k refl refl
+  held-step (Call.write u buffer manner filter) t k = still (Call.write u buffer manner filter) t k refl refl
 
 -- ---- all calls
 

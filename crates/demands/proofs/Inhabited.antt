@@ -3,6 +3,7 @@ use Prim.Native.Nat.{ℕ, _-_, _≤_}
 use mathlib.Core.Path.{_≡_, refl, sym, ap, _∙_, subst}
 use mathlib.Core.Bool.{Bool, true, false, _||_}
 use mathlib.Core.List.{List, [], _∷_}
+use native.Mathlib.Omega.{arith}
 use borrow.Author.Tests.{le-leb, le-ltb}
 use lib.Dec.{ltb, eqb}
 use lib.ListN.{length, take}
@@ -81,7 +82,7 @@ named-is : hasEmpty (tablesOf b) deepest 0 ≡ false
 unfolding hasEmpty emptyHeld someBelow rowsOf membersBelow entryAt pick itemOf byIndex byBucket runsBelow run bucketOf hashesOf hashBy hashFrom keyOrder sortKeys insertKey precedes
 named-is = refl
 
-size-is : length (imageIn plain b 0) ≡ 104
+size-is : length (imageIn plain 0 b 0) ≡ 104
 unfolding imageIn two
 size-is = lengths .2
 
@@ -97,12 +98,13 @@ base-form : formOf 0 ≡ Form.Plain
 unfolding formOf pick
 base-form = refl
 
-write-says : (buffer : List ℕ) → 104 ≤ length buffer → says b (Call.write 0 buffer 0) ≡ 0 ∷ 24 ∷ 88 ∷ 104 ∷ []
+write-says : (buffer : List ℕ) → 104 ≤ length buffer → says b (Call.write 0 buffer 0 0) ≡ 0 ∷ 24 ∷ 88 ∷ 104 ∷ []
 unfolding says written write writtenNumber writtenImage tooLong chunkSize
 write-says buffer room =
-    ap (λ (f : Form). written (write (ruleOf f) b 0 (length buffer))) base-form
+    ap (λ (f : Form). written (write (ruleOf f) 0 b 0 (length buffer))) base-form
     ∙ ap written
     (pick-true _ _ free-is
+    ∙ pick-false _ _ (le-ltb 1024 0 (omega arith))
     ∙ pick-false _ _ named-is
     ∙ pick-false _ _ (ap (λ (n : ℕ). ltb 16777216 n || ltb (length buffer) n) size-is ∙ le-ltb (length buffer) 104 room)
     ∙ (let z : _ ≡ Written.Image 24 88 104 = rw (size-is, count-is) refl in z))
@@ -137,14 +139,14 @@ module _ (start : Memory) (long : leastWords ≤ length (start .words)) (eight :
 
   module _ (buffer : List ℕ) (room : 104 ≤ length buffer) where
     abbrev left : List ℕ
-    left = leavesLent m2 (Call.write 0 buffer 0)
+    left = leavesLent m2 (Call.write 0 buffer 0 0)
 
-    wrote : Does m2 (Call.write 0 buffer 0) (0 ∷ 24 ∷ 88 ∷ 104 ∷ []) m2 left
+    wrote : Does m2 (Call.write 0 buffer 0 0) (0 ∷ 24 ∷ 88 ∷ 104 ∷ []) m2 left
     unfolding leaves
     wrote =
-        let d = does m2 (Call.write 0 buffer 0) in
-        let e = calls-are-the-models 8 workedEvents m2 history (Call.write 0 buffer 0) _ _ _ d .0 ∙ ap (λ (x : Builder). says x (Call.write 0 buffer 0)) built-is ∙ write-says buffer room in
-        subst (λ (x : List ℕ). Does m2 (Call.write 0 buffer 0) x m2 left) e d
+        let d = does m2 (Call.write 0 buffer 0 0) in
+        let e = calls-are-the-models 8 workedEvents m2 history (Call.write 0 buffer 0 0) _ _ _ d .0 ∙ ap (λ (x : Builder). says x (Call.write 0 buffer 0 0)) built-is ∙ write-says buffer room in
+        subst (λ (x : List ℕ). Does m2 (Call.write 0 buffer 0 0) x m2 left) e d
 
     holds-it : held 0 workedKey workedEvents ≡ Held.holds (Content.bytes (7 ∷ []))
     unfolding held last puts orElse pick sameBytes
@@ -158,7 +160,7 @@ module _ (start : Memory) (long : leastWords ≤ length (start .words)) (eight :
     unfolding Answers Tells
     finds =
         subst (Tells 0 (λ u from to. Answers 0 workedEvents m2 (take 104 left) 7 u from to) (take 104 left) 24 88 workedKey) holds-it
-        (demand-2 8 workedEvents m2 history 0 buffer 0 24 88 104 m2 left wrote .1 workedKey text-it) .0
+        (demand-2 8 workedEvents m2 history 0 buffer 0 0 24 88 104 m2 left wrote 0 refl .1 workedKey text-it) .0
 
 pub worked-history : WorkedHistory
 worked-history start buffer long eight room =

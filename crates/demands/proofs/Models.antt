@@ -5,14 +5,14 @@ use mathlib.Core.Bool.{Bool, true, false}
 use mathlib.Core.List.{List, [], _∷_}
 use native.Mathlib.Omega.{arith}
 use borrow.Author.Tests.{leb-true}
-use lib.Dec.{leb}
+use lib.Dec.{ltb, leb}
 use lib.ListN.{length}
 use Rattle.words.specs.Hash.{ruleOf}
-use Rattle.layout.specs.Limits.{deepest}
+use Rattle.layout.specs.Limits.{deepest, mostFilter}
 use Rattle.layout.specs.Sizes.{chunkSize, headerSize}
 use Rattle.words.specs.Choice.{pick}
 use Rattle.words.proofs.ChoiceLaws.{pick-true}
-use Rattle.layout.specs.declared.refusal.Refusal.the-variants.{MemoryBroken, TableUnknown, EmptyKey, ImageTooLong}
+use Rattle.layout.specs.declared.refusal.Refusal.the-variants.{MemoryBroken, TableUnknown, TooManyFilterWords, EmptyKey, ImageTooLong}
 use Rattle.model.specs.Builder.{Builder}
 use Rattle.build_memory.specs.Memory.{Memory, memory, leastWords, freshWords, freshStart}
 use Rattle.build_memory.specs.Answer.{startedNumber}
@@ -35,13 +35,14 @@ use Rattle.demands.proofs.Contracts.{answers, leaves, leavesLent, does-
 -- ---- one call on honest memory
 
 module _ (m : Memory) (honest : Honest (m .words) (m .arena)) where
-  write-same : (rule : ℕ → ℕ) (t room : ℕ) → writeAnswer rule (m .words) (m .arena) t room ≡ write rule (meant m) t room
+  write-same : (rule : ℕ → ℕ) (filter t room : ℕ) → writeAnswer rule filter (m .words) (m .arena) t room ≡ write rule filter (meant m) t room
   unfolding writeAnswer write imageFor imageIn stateOf freeStanding
-  write-same rule t room =
-      let size = length (imageIn rule (meant m) t) in
+  write-same rule filter t room =
+      let size = length (imageIn rule filter (meant m) t) in
       let named : Written =
-      pick (hasEmpty (tablesOf (meant m)) deepest t) (Written.Refused EmptyKey)
-      (pick (tooLong room size) (Written.Refused ImageTooLong) (Written.Image headerSize (headerSize + chunkSize (length (tablesOf (meant m) t .members))) size)) in
+      pick (ltb mostFilter filter) (Written.Refused TooManyFilterWords)
+      (pick (hasEmpty (tablesOf (meant m)) deepest t) (Written.Refused EmptyKey)
+      (pick (tooLong room size) (Written.Refused ImageTooLong) (Written.Image headerSize (headerSize + chunkSize filter (length (tablesOf (meant m) t .members))) size))) in
       pick-true (pick (freeStanding (m .words) t) named (Written.Refused TableUnknown)) (Written.Refused MemoryBroken) (honest-whole (m .words) (m .arena) honest)
       ∙ ap (λ (b : Bool). pick b named (Written.Refused TableUnknown)) (free-standing-same (m .words) (m .arena) t)
 
@@ -51,7 +52,7 @@ module _ (m : Memory) (honest : Honest (m .words) (m .arena)) where
   says-same (Call.insert-value t key value) = ap inserted (value-alike (m .words) (m .arena) honest t key value .answer)
   says-same (Call.insert-table t key guest) = ap inserted (nest-alike (m .words) (m .arena) honest t key guest .answer)
   says-same (Call.item-count t) = ap counted (count-alike (m .words) (m .arena) honest t)
-  says-same (Call.write t buffer manner) = ap written (write-same (ruleOf (formOf manner)) t (length buffer))
+  says-same (Call.write t buffer manner filter) = ap written (write-same (ruleOf (formOf manner)) filter t (length buffer))
 
   makes-same : (call : Call) → meant (leaves m call) ≡ makes (meant m) call
   unfolding leaves makes
@@ -59,7 +60,7 @@ module _ (m : Memory) (honest : Honest (m .words) (m .arena)) where
   makes-same (Call.insert-value t key value) = value-alike (m .words) (m .arena) honest t key value .after
   makes-same (Call.insert-table t key guest) = nest-alike (m .words) (m .arena) honest t key guest .after
   makes-same (Call.item-count t) = refl
-  makes-same (Call.write t buffer manner) = refl
+  makes-same (Call.write t buffer manner filter) = refl
 
   lays-same : (call : Call) → leavesLent m call ≡ lays (meant m) call
   unfolding leavesLent lays imageAfter imageFor imageIn stateOf
@@ -67,7 +68,7 @@ module _ (m : Memory) (honest : Honest (m .words) (m .arena)) where
   lays-same (Call.insert-value t key value) = refl
   lays-same (Call.insert-table t key guest) = refl
   lays-same (Call.item-count t) = refl
-  lays-same (Call.write t buffer manner) = ap (λ (answer : Written). laidBy answer (imageFor (ruleOf (formOf manner)) (m .words) (m .arena) t) buffer) (write-same (ruleOf (formOf manner)) t (length buffer))
+  lays-same (Call.write t buffer manner filter) = ap (λ (answer : Written). laidBy answer (imageFor (ruleOf (formOf manner)) filter (m .words) (m .arena) t) buffer) (write-same (ruleOf (formOf manner)) filter t (length buffer))
 
 -- ---- all calls
 
@@ -84,7 +85,7 @@ leaves-reached m (Call.new-table separator) r = Reached.new-table _ _ r separato
 leaves-reached m (Call.insert-value t key value) r = Reached.insert-value _ _ r t key value
 leaves-reached m (Call.insert-table t key guest) r = Reached.insert-table _ _ r t key guest
 leaves-reached m (Call.item-count t) r = r
-leaves-reached m (Call.write t buffer manner) r = r
+leaves-reached m (Call.write t buffer manner filter) r = r
 
 -- what a history leaves: memory that calls reach, and that means the builder
 pub record Stands (room : ℕ) (events : List Event) (m : Memory) : Type 0 where

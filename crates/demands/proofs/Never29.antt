@@ -98,14 +98,15 @@ unfolding itemCount countedNumber
 count-other ws ar t ok =
     rw (pick-true _ _ ok) (other-pick countedNumber (λ (a : Counted). a) _ _ _ (record { other = λ e. omega arith }) (record { other = λ e. omega arith }))
 
-write-other : (rule : ℕ → ℕ) (ws ar : List ℕ) (t room : ℕ) → fullyValid ws ar ≡ true → Other writtenNumber (writeAnswer rule ws ar t room)
+write-other : (rule : ℕ → ℕ) (filter : ℕ) (ws ar : List ℕ) (t room : ℕ) → fullyValid ws ar ≡ true → Other writtenNumber (writeAnswer rule filter ws ar t room)
 unfolding writeAnswer writtenNumber
-write-other rule ws ar t room ok =
+write-other rule filter ws ar t room ok =
     let same : Written → Written = λ (a : Written). a in
     rw (pick-true _ _ ok)
     (other-pick writtenNumber same _ _ _
     (other-pick writtenNumber same _ _ _ (record { other = λ e. omega arith })
-    (other-pick writtenNumber same _ _ _ (record { other = λ e. omega arith }) (record { other = λ e. omega arith })))
+    (other-pick writtenNumber same _ _ _ (record { other = λ e. omega arith })
+    (other-pick writtenNumber same _ _ _ (record { other = λ e. omega arith }) (record { other = λ e. omega arith }))))
     (record { other = λ e. omega arith }))
 
 call-other : (m : Memory) → valid (m .words) (length (m .arena)) ≡ true → fullyValid (m .words) (m .arena) ≡ true → (call : Call) → number (answers m call) ≡ 29 → ⊥
@@ -114,7 +115,7 @@ call-other m ok whole (Call.new-table given) e = new-table-other (m .words) (m .
 call-other m ok whole (Call.insert-value t key value) e = value-other (m .words) (m .arena) t key value ok .other e
 call-other m ok whole (Call.insert-table t key guest) e = table-other (m .words) (m .arena) t key guest ok .other e
 call-other m ok whole (Call.item-count t) e = count-other (m .words) (m .arena) t ok .other e
-call-other m ok whole (Call.write t buffer manner) e = write-other (ruleOf (formOf manner)) (m .words) (m .arena) t (length buffer) whole .other e
+call-other m ok whole (Call.write t buffer manner filter) e = write-other (ruleOf (formOf manner)) filter (m .words) (m .arena) t (length buffer) whole .other e
 
 pub never-29 : Never29
 never-29 room events m h call said after left d e =

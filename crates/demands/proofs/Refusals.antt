@@ -81,7 +81,7 @@ call-still m (Call.insert-value t key value) n =
 call-still m (Call.insert-table t key guest) n =
     (inserted-still m (insertTable (m .words) (m .arena) t key guest) (table-still (m .words) (m .arena) t key guest) _ refl n, refl)
 call-still m (Call.item-count t) n = (refl, refl)
-call-still m (Call.write t buffer manner) n = (refl, laid-still (writeAnswer (ruleOf (formOf manner)) (m .words) (m .arena) t (length buffer)) (imageFor (ruleOf (formOf manner)) (m .words) (m .arena) t) buffer n)
+call-still m (Call.write t buffer manner filter) n = (refl, laid-still (writeAnswer (ruleOf (formOf manner)) filter (m .words) (m .arena) t (length buffer)) (imageFor (ruleOf (formOf manner)) filter (m .words) (m .arena) t) buffer n)
 
 pub refusal-changes-nothing : RefusalChangesNothing
 refusal-changes-nothing m call said after left d n =

@@ -1,18 +1,28 @@
 -- What the contracts of the readers tell of an answer that the definitions give.
-use Prim.Native.Nat.{ℕ, _-_}
+use Prim.Native.Nat.{ℕ, _-_, _≤_}
 use mathlib.Core.Path.{_≡_, refl, sym, ap, _∙_}
 use mathlib.Core.List.{List}
+use native.Mathlib.Omega.{arith}
+use Rattle.words.specs.Hash.{ruleOf}
 use Rattle.words.specs.Store.{part}
+use Rattle.layout.specs.Limits.{mostFilter}
 use Rattle.layout.proofs.RefusalLaws.{refused-some}
 use Rattle.read.specs.declared.lookup.Looked.{Looked}
 use Rattle.read.specs.Lookup.{lookupValue, lookupTable}
 use Rattle.read.specs.Answer.{lookedNumber, lookedPointer}
+use Rattle.laid.specs.Back.{Lay}
 use Rattle.laid.specs.Told as laid
+use Rattle.laid.proofs.LayLaws.{layOf}
 use Rattle.gvdb.specs.declared.reading.GvdbPlace.{GvdbPlace}
+use Rattle.gvdb.specs.Manner.{formOf, lookupOf}
 use Rattle.gvdb.specs.Reading.{lookedAnswer}
 use Rattle.demands.specs.Readers.{readBy, Getting, GettingTable}
 use Rattle.demands.specs.Demand2.{Both}
 use Rattle.demands.proofs.Contracts.{getting-is, getting-table-is}
+
+-- the manner that a number names, of tables with so many filter words
+abbrev pub layBy : (manner filter : ℕ) → filter ≤ mostFilter → Lay
+layBy manner filter few = layOf (ruleOf (formOf manner)) (lookupOf manner) filter (omega (arith, few))
 
 -- a lookup's answer with 0 has a pointer
 pointer-of : (l : Looked) → lookedAnswer l .number ≡ 0 → l ≡ Looked.Pointer (lookedAnswer l .start) (lookedAnswer l .end)

@@ -10,8 +10,8 @@ use lib.ListN.{length, take}
 use Rattle.words.specs.Choice.{pick}
 use Rattle.words.specs.Store.{putAt}
 use Rattle.words.proofs.StoreLaws.{part-put}
-use Rattle.layout.specs.declared.refusal.Refusal.the-variants.{MemoryBroken, TableUnknown, EmptyKey, ImageTooLong}
-use Rattle.layout.specs.Limits.{longestFile, deepest}
+use Rattle.layout.specs.declared.refusal.Refusal.the-variants.{MemoryBroken, TableUnknown, TooManyFilterWords, EmptyKey, ImageTooLong}
+use Rattle.layout.specs.Limits.{longestFile, deepest, mostFilter}
 use Rattle.layout.specs.Sizes.{headerSize, chunkSize}
 use Rattle.image.specs.Image.{imageOf}
 use Rattle.image.specs.WellFormed.{Writable}
@@ -28,23 +28,25 @@ use Rattle.demands.proofs.Writable.{free-standing-writable}
 -- ---- what a success says
 
 -- every test passed, and the answer is the one at the end
-record Passed (whole root empty long : Bool) (good answer : Written) : Type 0 where
+record Passed (whole root many empty long : Bool) (good answer : Written) : Type 0 where
   pub whole-is : whole ≡ true
   pub root-is : root ≡ true
+  pub many-is : many ≡ false
   pub empty-is : empty ≡ false
   pub long-is : long ≡ false
   pub answer-is : good ≡ answer
 
 module _ (good : Written) (start end size : ℕ) where
-  passed : (whole root empty long : Bool)
-      → pick whole (pick root (pick empty (Written.Refused EmptyKey) (pick long (Written.Refused ImageTooLong) good)) (Written.Refused TableUnknown)) (Written.Refused MemoryBroken)
-      ≡ Written.Image start end size → Passed whole root empty long good (Written.Image start end size)
+  passed : (whole root many empty long : Bool)
+      → pick whole (pick root (pick many (Written.Refused TooManyFilterWords) (pick empty (Written.Refused EmptyKey) (pick long (Written.Refused ImageTooLong) good))) (Written.Refused TableUnknown)) (Written.Refused MemoryBroken)
+      ≡ Written.Image start end size → Passed whole root many empty long good (Written.Image start end size)
   unfolding pick
-  passed false root empty long e = absurd (let z : _≡_ {A = ℕ} 0 1 = cc in omega arith)
-  passed true false empty long e = absurd (let z : _≡_ {A = ℕ} 0 1 = cc in omega arith)
-  passed true true true long e = absurd (let z : _≡_ {A = ℕ} 0 1 = cc in omega arith)
-  passed true true false true e = absurd (let z : _≡_ {A = ℕ} 0 1 = cc in omega arith)
-  passed true true false false e = record { whole-is = refl; root-is = refl; empty-is = refl; long-is = refl; answer-is = e }
+  passed false root many empty long e = absurd (let z : _≡_ {A = ℕ} 0 1 = cc in omega arith)
+  passed true false many empty long e = absurd (let z : _≡_ {A = ℕ} 0 1 = cc in omega arith)
+  passed true true true empty long e = absurd (let z : _≡_ {A = ℕ} 0 1 = cc in omega arith)
+  passed true true false true long e = absurd (let z : _≡_ {A = ℕ} 0 1 = cc in omega arith)
+  passed true true false false true e = absurd (let z : _≡_ {A = ℕ} 0 1 = cc in omega arith)
+  passed true true false false false e = record { whole-is = refl; root-is = refl; many-is = refl; empty-is = refl; long-is = refl; answer-is = e }
 
 neither : (p q : Bool) → (p || q) ≡ false → (p ≡ false) × (q ≡ false)
 neither true q e = absurd (let z : _≡_ {A = ℕ} 0 1 = cc in omega arith)
@@ -56,10 +58,10 @@ not-too-long room size e = let (file, buffer) = neither (ltb longestFile size) (
 
 pub success : SuccessSays
 unfolding writeAnswer
-success rule ws ar t room start end size e =
-    let image = length (imageFor rule ws ar t) in
-    let good = Written.Image headerSize (headerSize + chunkSize (length (stateOf ws ar t .members))) image in
-    let p = passed good start end size (fullyValid ws ar) (freeStanding ws t) (hasEmpty (stateOf ws ar) deepest t) (tooLong room image) e in
+success rule filter ws ar t room start end size e =
+    let image = length (imageFor rule filter ws ar t) in
+    let good = Written.Image headerSize (headerSize + chunkSize filter (length (stateOf ws ar t .members))) image in
+    let p = passed good start end size (fullyValid ws ar) (freeStanding ws t) (ltb mostFilter filter) (hasEmpty (stateOf ws ar) deepest t) (tooLong room image) e in
     let (short, fits) = not-too-long room image (p .long-is) in
     let is = p .answer-is in
     let long : size ≡ image = cc in record {
@@ -69,6 +71,7 @@ success rule ws ar t room start end size e =
       whole = p .whole-is;
       root = p .root-is;
       named = p .empty-is;
+      few = ltb-false _ _ (p .many-is);
       fits = omega arith;
       short = omega arith;
     }
@@ -76,37 +79,37 @@ success rule ws ar t room start end size e =
 -- ---- the file
 
 -- what stands in the buffer
-after-success : (rule : ℕ → ℕ) (ws ar buffer : List ℕ) (t start end size : ℕ) → writeAnswer rule ws ar t (length buffer) ≡ Written.Image start end size
-    → imageAfter rule ws ar t buffer ≡ putAt buffer 0 (imageFor rule ws ar t)
+after-success : (rule : ℕ → ℕ) (filter : ℕ) (ws ar buffer : List ℕ) (t start end size : ℕ) → writeAnswer rule filter ws ar t (length buffer) ≡ Written.Image start end size
+    → imageAfter rule filter ws ar t buffer ≡ putAt buffer 0 (imageFor rule filter ws ar t)
 unfolding imageAfter laidBy
-after-success rule ws ar buffer t start end size e = ap (λ (answer : Written). laidBy answer (imageFor rule ws ar t) buffer) e
+after-success rule filter ws ar buffer t start end size e = ap (λ (answer : Written). laidBy answer (imageFor rule filter ws ar t) buffer) e
 
 pub success-lays : SuccessLays
-success-lays rule ws ar buffer t start end size e =
-    let s = success rule ws ar t (length buffer) start end size e in
-    rw (after-success rule ws ar buffer t start end size e, s .long) (part-put buffer 0 (imageFor rule ws ar t) (omega arith))
+success-lays rule filter ws ar buffer t start end size e =
+    let s = success rule filter ws ar t (length buffer) start end size e in
+    rw (after-success rule filter ws ar buffer t start end size e, s .long) (part-put buffer 0 (imageFor rule filter ws ar t) (omega arith))
 
-module _ (rule : ℕ → ℕ) (ws ar buffer : List ℕ) (t start end size : ℕ) (e : writeAnswer rule ws ar t (length buffer) ≡ Written.Image start end size) where
-  made : Success rule ws ar t (length buffer) start end size
-  made = success rule ws ar t (length buffer) start end size e
+module _ (rule : ℕ → ℕ) (filter : ℕ) (ws ar buffer : List ℕ) (t start end size : ℕ) (e : writeAnswer rule filter ws ar t (length buffer) ≡ Written.Image start end size) where
+  made : Success rule filter ws ar t (length buffer) start end size
+  made = success rule filter ws ar t (length buffer) start end size e
 
   pub writable : Writable (stateOf ws ar) deepest t
   writable = free-standing-writable ws ar (made .whole) t (made .root)
 
-  pub short-image : length (imageOf rule (stateOf ws ar) t) ≤ longestFile
+  pub short-image : length (imageOf rule filter (stateOf ws ar) t) ≤ longestFile
   unfolding imageFor
   short-image = omega (arith, made .long, made .short)
 
-  pub file-is : take size (imageAfter rule ws ar t buffer) ≡ imageOf rule (stateOf ws ar) t
+  pub file-is : take size (imageAfter rule filter ws ar t buffer) ≡ imageOf rule filter (stateOf ws ar) t
   unfolding imageFor
-  file-is = success-lays rule ws ar buffer t start end size e
+  file-is = success-lays rule filter ws ar buffer t start end size e
 
 -- a file of the bytes laid reads back, with all that is nested in it
 pub success-back : SuccessReadsBack
-success-back manner ws ar buffer t start end size e =
-    rw (file-is (manner .byte) ws ar buffer t start end size e) (alone-back manner (stateOf ws ar) t (writable (manner .byte) ws ar buffer t start end size e) (short-image (manner .byte) ws ar buffer t start end size e))
+success-back lay ws ar buffer t start end size e =
+    rw (file-is (lay .manner .byte) (lay .filter) ws ar buffer t start end size e) (alone-back lay (stateOf ws ar) t (writable (lay .manner .byte) (lay .filter) ws ar buffer t start end size e) (short-image (lay .manner .byte) (lay .filter) ws ar buffer t start end size e))
 
 -- and passes the check
 pub success-passes : SuccessPasses
-success-passes manner ws ar buffer t start end size e =
-    rw (file-is (manner .byte) ws ar buffer t start end size e) (alone-passes manner (stateOf ws ar) t (writable (manner .byte) ws ar buffer t start end size e) (short-image (manner .byte) ws ar buffer t start end size e))
+success-passes lay ws ar buffer t start end size e =
+    rw (file-is (lay .manner .byte) (lay .filter) ws ar buffer t start end size e) (alone-passes lay (stateOf ws ar) t (writable (lay .manner .byte) (lay .filter) ws ar buffer t start end size e) (short-image (lay .manner .byte) (lay .filter) ws ar buffer t start end size e))

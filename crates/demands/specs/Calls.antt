@@ -31,13 +31,13 @@ pub record Met {n : ℕ} (ps : List (PK n)) (r : RK n) (Post : Out n ps r) : Typ
   pub left : AtExit (endedOf n ps r) lifetimes
   pub meets : Post lifetimes given answer left
 
--- a call of the builder with its arguments; a write with the bytes that its lent buffer held, and the number of a manner
+-- a call of the builder with its arguments; a write with the bytes that its lent buffer held, the number of a manner, and how many filter words
 pub data Call : Type 0 where
   new-table : (separator : List ℕ) → Call
   insert-value : (t : ℕ) (key value : List ℕ) → Call
   insert-table : (t : ℕ) (key : List ℕ) (guest : ℕ) → Call
   item-count : (t : ℕ) → Call
-  write : (t : ℕ) (buffer : List ℕ) (manner : ℕ) → Call
+  write : (t : ℕ) (buffer : List ℕ) (manner filter : ℕ) → Call
 
 -- on a memory a call answers some numbers, those of its struct in their order, and leaves a memory, and bytes in the buffer that it was lent besides
 pub data Does : Memory → Call → List ℕ → Memory → List ℕ → Type 0 where
@@ -54,7 +54,7 @@ pub data Does : Memory → Call → List ℕ → Memory → List ℕ → Type 0 
       → Does (memory (now (c .given .0)) (now (c .given .1 .0))) (Call.item-count (c .given .1 .1 .0))
       (c .answer .number ∷ c .answer .count ∷ []) (memory (now (c .given .0)) (now (c .given .1 .0))) []
   write : (c : Met write-kinds.ps write-kinds.r write-reads.Post)
-      → Does (memory (now (c .given .0)) (now (c .given .1 .0))) (Call.write (c .given .1 .1 .0) (now (c .given .1 .1 .1 .0)) (c .given .1 .1 .1 .1 .0))
+      → Does (memory (now (c .given .0)) (now (c .given .1 .0))) (Call.write (c .given .1 .1 .0) (now (c .given .1 .1 .1 .0)) (c .given .1 .1 .1 .1 .0) (c .given .1 .1 .1 .1 .1 .0))
       (c .answer .number ∷ c .answer .start ∷ c .answer .end ∷ c .answer .length ∷ []) (memory (now (c .left .0)) (now (c .given .1 .0))) (now (c .left .1 .1 .1 .0))
 
 -- a fresh start on a memory answers a number and leaves a memory
@@ -68,7 +68,7 @@ lent (Call.new-table separator) = []
 lent (Call.insert-value t key value) = []
 lent (Call.insert-table t key guest) = []
 lent (Call.item-count t) = []
-lent (Call.write t buffer manner) = buffer
+lent (Call.write t buffer manner filter) = buffer
 
 -- the first of the numbers is 0, or the refusal's
 abbrev pub number : List ℕ → ℕ

@@ -1,5 +1,5 @@
 -- DEMAND 2. 'After a write that succeeds, every value key looks up its exact bytes, and a key that the table does not hold is not found.'
--- For every history, every write that succeeds after it and every reader in the manner of that write, whatever was replaced on the way: the image's root opens; under each key a reader finds what the last
+-- For every history, every write that succeeds after it, with however many filter words, and every reader in the form of that write, by either lookup, whatever was replaced on the way: the image's root opens; under each key a reader finds what the last
 -- accepted insert under it put there, said over the calls and their answers; and so in every nested table, to the last level.
 use Prim.Native.Nat.{ℕ, zero, suc, _-_}
 use mathlib.Core.Path.{_≡_}
@@ -13,6 +13,7 @@ use Rattle.layout.specs.Limits.{deepest}
 use Rattle.build_memory.specs.Memory.{Memory}
 use Rattle.gvdb.specs.declared.reading.GvdbOpened.{GvdbOpened}
 use Rattle.gvdb.specs.declared.reading.GvdbPlace.{GvdbPlace}
+use Rattle.gvdb.specs.Manner.{formOf}
 use Rattle.demands.specs.Calls.{Call, Does, Event, History}
 use Rattle.demands.specs.Readers.{Opening, Getting, GettingTable}
 use Rattle.demands.specs.Last.{Held, held}
@@ -51,5 +52,5 @@ Answers manner events m file (suc d) t start end =
 abbrev pub Demand2 : Type 0
 Demand2 =
     (room : ℕ) (events : List Event) (m : Memory) → History room events m
-    → (t : ℕ) (buffer : List ℕ) (manner start end size : ℕ) (after : Memory) (left : List ℕ) → Does m (Call.write t buffer manner) (0 ∷ start ∷ end ∷ size ∷ []) after left
-    → Answers manner events m (take size left) deepest t start end
+    → (t : ℕ) (buffer : List ℕ) (manner filter start end size : ℕ) (after : Memory) (left : List ℕ) → Does m (Call.write t buffer manner filter) (0 ∷ start ∷ end ∷ size ∷ []) after left
+    → (reader : ℕ) → formOf reader ≡ formOf manner → Answers reader events m (take size left) deepest t start end

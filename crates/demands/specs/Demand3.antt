@@ -1,4 +1,4 @@
--- DEMAND 3. 'Every table in every image that our writer lays, nested ones too, after any accepted or refused calls on a fresh builder, passes', in the form in which it is laid. It holds of every memory,
+-- DEMAND 3. 'Every table in every image that our writer lays, nested ones too, after any accepted or refused calls on a fresh builder, passes', in the form in which it is laid, by either lookup and with however many filter words. It holds of every memory,
 -- reached by calls or not. And the check passes exactly the sound tables; where it passes none, it names the first item and the first rule that it breaks,
 -- and for rule 1 what listing that item refuses with.
 use Prim.Native.Nat.{ℕ, zero, suc}
@@ -14,6 +14,7 @@ use Rattle.gvdb.specs.declared.reading.GvdbOpened.{GvdbOpened}
 use Rattle.gvdb.specs.declared.reading.GvdbPlace.{GvdbPlace}
 use Rattle.gvdb.specs.declared.reading.GvdbKey.{GvdbKey}
 use Rattle.gvdb.specs.declared.checking.GvdbCheck.{GvdbCheck}
+use Rattle.gvdb.specs.Manner.{formOf}
 use Rattle.demands.specs.Calls.{Call, Does}
 use Rattle.demands.specs.Readers.{readBy, Opening, GettingTable, Listing, Checking}
 
@@ -26,8 +27,8 @@ AllPass manner file (suc d) start end =
 
 abbrev pub EveryImagePasses : Type 0
 EveryImagePasses =
-    (m : Memory) (t : ℕ) (buffer : List ℕ) (manner start end size : ℕ) (after : Memory) (left : List ℕ)
-    → Does m (Call.write t buffer manner) (0 ∷ start ∷ end ∷ size ∷ []) after left → AllPass manner (take size left) deepest start end
+    (m : Memory) (t : ℕ) (buffer : List ℕ) (manner filter start end size : ℕ) (after : Memory) (left : List ℕ)
+    → Does m (Call.write t buffer manner filter) (0 ∷ start ∷ end ∷ size ∷ []) after left → (reader : ℕ) → formOf reader ≡ formOf manner → AllPass reader (take size left) deepest start end
 
 -- 0 just for a sound table
 abbrev pub PassesExactlyTheSound : Type 0

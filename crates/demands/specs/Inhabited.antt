@@ -34,5 +34,5 @@ workedEvents = event (Call.insert-value 0 workedKey (7 ∷ [])) (0 ∷ 0 ∷ 0 �
 abbrev pub WorkedHistory : Type 0
 WorkedHistory =
     (start : Memory) (buffer : List ℕ) → leastWords ≤ length (start .words) → length (start .arena) ≡ 8 → 104 ≤ length buffer
-    → (m : Memory) × (left : List ℕ) × History 8 workedEvents m × Does m (Call.write 0 buffer 0) (0 ∷ 24 ∷ 88 ∷ 104 ∷ []) m left
+    → (m : Memory) × (left : List ℕ) × History 8 workedEvents m × Does m (Call.write 0 buffer 0 0) (0 ∷ 24 ∷ 88 ∷ 104 ∷ []) m left
     × ((r : GvdbPlace) → Getting (take 104 left) 24 88 workedKey 0 r → (r .number ≡ 0) × (part (take 104 left) (r .start) (r .end - r .start) ≡ 7 ∷ []))

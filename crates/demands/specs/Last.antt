@@ -29,7 +29,7 @@ puts (Call.new-table separator) t k = Held.nothing
 puts (Call.insert-value u key value) t k = pick (eqb u t && sameBytes key k) (Held.holds (Content.bytes value)) Held.nothing
 puts (Call.insert-table u key guest) t k = pick (eqb u t && sameBytes key k) (Held.holds (Content.nested guest)) Held.nothing
 puts (Call.item-count u) t k = Held.nothing
-puts (Call.write u buffer manner) t k = Held.nothing
+puts (Call.write u buffer manner filter) t k = Held.nothing
 
 -- k is one of some keys
 unfoldable pub among : List (List ℕ) → List ℕ → Bool
@@ -42,7 +42,7 @@ passes separator (Call.new-table s) t k = false
 passes separator (Call.insert-value u key value) t k = eqb u t && among (prefixes separator key) k
 passes separator (Call.insert-table u key guest) t k = eqb u t && among (prefixes separator key) k
 passes separator (Call.item-count u) t k = false
-passes separator (Call.write u buffer manner) t k = false
+passes separator (Call.write u buffer manner filter) t k = false
 
 -- ---- over a history, the latest event first
 
@@ -52,7 +52,7 @@ madeBy (Call.new-table separator) said t before = pick (accepted said && eqb (ge
 madeBy (Call.insert-value u key value) said t before = before
 madeBy (Call.insert-table u key guest) said t before = before
 madeBy (Call.item-count u) said t before = before
-madeBy (Call.write u buffer manner) said t before = before
+madeBy (Call.write u buffer manner filter) said t before = before
 
 module _ (t : ℕ) where
   unfoldable pub separator : List Event → ℕ

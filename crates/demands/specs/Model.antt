@@ -4,12 +4,13 @@
 use Prim.Native.Nat.{ℕ, _+_}
 use mathlib.Core.Path.{_≡_}
 use mathlib.Core.List.{List, [], _∷_}
+use lib.Dec.{ltb}
 use lib.ListN.{length}
-use Rattle.layout.specs.Limits.{deepest}
+use Rattle.layout.specs.Limits.{deepest, mostFilter}
 use Rattle.layout.specs.Sizes.{chunkSize, headerSize}
 use Rattle.words.specs.Choice.{pick}
 use Rattle.words.specs.Hash.{ruleOf}
-use Rattle.layout.specs.declared.refusal.Refusal.the-variants.{TableUnknown, EmptyKey, ImageTooLong}
+use Rattle.layout.specs.declared.refusal.Refusal.the-variants.{TableUnknown, TooManyFilterWords, EmptyKey, ImageTooLong}
 use Rattle.model.specs.Table.{State, rowsOf}
 use Rattle.model.specs.declared.Inserted.{Inserted}
 use Rattle.model.specs.declared.Added.{Added}
@@ -25,20 +26,21 @@ use Rattle.gvdb.specs.Manner.{formOf}
 use Rattle.gvdb.specs.Writing.{writtenImage}
 use Rattle.demands.specs.Calls.{Call, Does, Event, History}
 
--- the tables of a builder, and the image of one of them by a rule for a byte of the hash
+-- the tables of a builder, and the image of one of them by a rule for a byte of the hash and a number of filter words
 abbrev pub tablesOf : Builder → State
 tablesOf b = rowsOf (b .items)
 
-unfoldable pub imageIn : (ℕ → ℕ) → Builder → ℕ → List ℕ
-imageIn rule b t = imageOf rule (tablesOf b) t
+unfoldable pub imageIn : (ℕ → ℕ) → ℕ → Builder → ℕ → List ℕ
+imageIn rule filter b t = imageOf rule filter (tablesOf b) t
 
--- a write: 24, 30 anywhere in the table or those nested in it, 31; else the root pointer and the image's length
-unfoldable pub write : (ℕ → ℕ) → Builder → ℕ → ℕ → Written
-write rule b t room =
+-- a write: 24, 33, 30 anywhere in the table or those nested in it, 31; else the root pointer and the image's length
+unfoldable pub write : (ℕ → ℕ) → ℕ → Builder → ℕ → ℕ → Written
+write rule filter b t room =
     pick (freeStanding b t)
+    (pick (ltb mostFilter filter) (Written.Refused TooManyFilterWords)
     (pick (hasEmpty (tablesOf b) deepest t) (Written.Refused EmptyKey)
-    (pick (tooLong room (length (imageIn rule b t))) (Written.Refused ImageTooLong)
-    (Written.Image headerSize (headerSize + chunkSize (length (tablesOf b t .members))) (length (imageIn rule b t)))))
+    (pick (tooLong room (length (imageIn rule filter b t))) (Written.Refused ImageTooLong)
+    (Written.Image headerSize (headerSize + chunkSize filter (length (tablesOf b t .members))) (length (imageIn rule filter b t))))))
     (Written.Refused TableUnknown)
 
 -- each answer as numbers, in the order of its struct
@@ -60,7 +62,7 @@ says b (Call.new-table separator) = added (newTable b separator .answer)
 says b (Call.insert-value t key value) = inserted (insertValue b t key value .answer)
 says b (Call.insert-table t key guest) = inserted (insertTable b t key guest .answer)
 says b (Call.item-count t) = counted (itemCount b t)
-says b (Call.write t buffer manner) = written (write (ruleOf (formOf manner)) b t (length buffer))
+says b (Call.write t buffer manner filter) = written (write (ruleOf (formOf manner)) filter b t (length buffer))
 
 -- the builder that it leaves
 unfoldable pub makes : Builder → Call → Builder
@@ -68,7 +70,7 @@ makes b (Call.new-table separator) = newTable b separator .after
 makes b (Call.insert-value t key value) = insertValue b t key value .after
 makes b (Call.insert-table t key guest) = insertTable b t key guest .after
 makes b (Call.item-count t) = b
-makes b (Call.write t buffer manner) = b
+makes b (Call.write t buffer manner filter) = b
 
 -- what it leaves in the buffer that it was lent besides
 unfoldable pub lays : Builder → Call → List ℕ
@@ -76,7 +78,7 @@ lays b (Call.new-table separator) = []
 lays b (Call.insert-value t key value) = []
 lays b (Call.insert-table t key guest) = []
 lays b (Call.item-count t) = []
-lays b (Call.write t buffer manner) = laidBy (write (ruleOf (formOf manner)) b t (length buffer)) (imageIn (ruleOf (formOf manner)) b t) buffer
+lays b (Call.write t buffer manner filter) = laidBy (write (ruleOf (formOf manner)) filter b t (length buffer)) (imageIn (ruleOf (formOf manner)) filter b t) buffer
 
 -- the builder after a history
 unfoldable pub built : ℕ → List Event → Builder

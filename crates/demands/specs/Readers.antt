@@ -3,7 +3,7 @@ use Prim.Native.Nat.{ℕ}
 use mathlib.Core.List.{List}
 use denote.Ref.{now}
 use Rattle.read.specs.Find.{Manner, mannerOf}
-use Rattle.gvdb.specs.Manner.{formOf}
+use Rattle.gvdb.specs.Manner.{formOf, lookupOf}
 use Rattle.gvdb.specs.declared.header.GvdbHeader.{GvdbHeader}
 use Rattle.gvdb.specs.declared.reading.GvdbOpened.{GvdbOpened}
 use Rattle.gvdb.specs.declared.reading.GvdbPlace.{GvdbPlace}
@@ -27,7 +27,7 @@ use Rattle.demands.specs.Calls.{Met}
 
 -- the manner that a number names
 abbrev pub readBy : ℕ → Manner
-readBy manner = mannerOf (record { form = formOf manner })
+readBy manner = mannerOf (record { form = formOf manner; lookup = lookupOf manner })
 
 -- reading the header of a file
 pub data ReadingHeader : List ℕ → GvdbHeader → Type 0 where

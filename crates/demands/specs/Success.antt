@@ -5,11 +5,10 @@ use mathlib.Core.Path.{_≡_}
 use mathlib.Core.Bool.{true, false}
 use mathlib.Core.List.{List}
 use lib.ListN.{length, take}
-use Rattle.read.specs.Find.{Manner}
-use Rattle.layout.specs.Limits.{longestFile, deepest}
+use Rattle.layout.specs.Limits.{longestFile, deepest, mostFilter}
 use Rattle.layout.specs.Sizes.{headerSize}
 use Rattle.image.specs.WellFormed.{Writable}
-use Rattle.laid.specs.Back.{endOf}
+use Rattle.laid.specs.Back.{Lay, endOf}
 use Rattle.laid.specs.Told.{AllBack}
 use Rattle.laid.specs.Passing.{AllPass}
 use Rattle.build_rules.specs.Valid.{fullyValid}
@@ -23,34 +22,36 @@ abbrev pub FreeStandingWritable : Type 0
 FreeStandingWritable = (ws ar : List ℕ) → fullyValid ws ar ≡ true → (t : ℕ) → freeStanding ws t ≡ true → Writable (stateOf ws ar) deepest t
 
 -- what a success says of the memory, the table, the room and the answer
-pub record Success (rule : ℕ → ℕ) (ws ar : List ℕ) (t room start end size : ℕ) : Type 0 where
+pub record Success (rule : ℕ → ℕ) (filter : ℕ) (ws ar : List ℕ) (t room start end size : ℕ) : Type 0 where
   -- the answer: the pointer of the root table, behind the header, and the length of the image
   pub starts : start ≡ headerSize
-  pub ends : end ≡ endOf (stateOf ws ar) t headerSize
-  pub long : size ≡ length (imageFor rule ws ar t)
+  pub ends : end ≡ endOf filter (stateOf ws ar) t headerSize
+  pub long : size ≡ length (imageFor rule filter ws ar t)
   -- the memory is fully valid, the table is free-standing, and no item in it or in those nested in it has the empty key
   pub whole : fullyValid ws ar ≡ true
   pub root : freeStanding ws t ≡ true
   pub named : hasEmpty (stateOf ws ar) deepest t ≡ false
+  -- no more filter words than a table may have
+  pub few : filter ≤ mostFilter
   -- the image fits the buffer, and is no longer than a file may be
   pub fits : size ≤ room
   pub short : size ≤ longestFile
 
 abbrev pub SuccessSays : Type 0
-SuccessSays = (rule : ℕ → ℕ) (ws ar : List ℕ) (t room start end size : ℕ) → writeAnswer rule ws ar t room ≡ Written.Image start end size → Success rule ws ar t room start end size
+SuccessSays = (rule : ℕ → ℕ) (filter : ℕ) (ws ar : List ℕ) (t room start end size : ℕ) → writeAnswer rule filter ws ar t room ≡ Written.Image start end size → Success rule filter ws ar t room start end size
 
 -- the bytes at the buffer's front, as many as the answer says, are the image: a file of them reads back as the table, and every table in it passes the check
 abbrev pub SuccessLays : Type 0
 SuccessLays =
-    (rule : ℕ → ℕ) (ws ar buffer : List ℕ) (t start end size : ℕ) → writeAnswer rule ws ar t (length buffer) ≡ Written.Image start end size
-    → take size (imageAfter rule ws ar t buffer) ≡ imageFor rule ws ar t
+    (rule : ℕ → ℕ) (filter : ℕ) (ws ar buffer : List ℕ) (t start end size : ℕ) → writeAnswer rule filter ws ar t (length buffer) ≡ Written.Image start end size
+    → take size (imageAfter rule filter ws ar t buffer) ≡ imageFor rule filter ws ar t
 
 abbrev pub SuccessReadsBack : Type 0
 SuccessReadsBack =
-    (manner : Manner) (ws ar buffer : List ℕ) (t start end size : ℕ) → writeAnswer (manner .byte) ws ar t (length buffer) ≡ Written.Image start end size
-    → AllBack manner (take size (imageAfter (manner .byte) ws ar t buffer)) (stateOf ws ar) deepest t headerSize
+    (lay : Lay) (ws ar buffer : List ℕ) (t start end size : ℕ) → writeAnswer (lay .manner .byte) (lay .filter) ws ar t (length buffer) ≡ Written.Image start end size
+    → AllBack lay (take size (imageAfter (lay .manner .byte) (lay .filter) ws ar t buffer)) (stateOf ws ar) deepest t headerSize
 
 abbrev pub SuccessPasses : Type 0
 SuccessPasses =
-    (manner : Manner) (ws ar buffer : List ℕ) (t start end size : ℕ) → writeAnswer (manner .byte) ws ar t (length buffer) ≡ Written.Image start end size
-    → AllPass manner (take size (imageAfter (manner .byte) ws ar t buffer)) (stateOf ws ar) deepest t headerSize
+    (lay : Lay) (ws ar buffer : List ℕ) (t start end size : ℕ) → writeAnswer (lay .manner .byte) (lay .filter) ws ar t (length buffer) ≡ Written.Image start end size
+    → AllPass lay (take size (imageAfter (lay .manner .byte) (lay .filter) ws ar t buffer)) (stateOf ws ar) deepest t headerSize

@@ -8,7 +8,7 @@ use Rattle.layout.specs.Answer.{headedNumber, headedOrder, headedPointer}
 use Rattle.gvdb.specs.declared.header.GvdbHeader.{GvdbHeader}
 
 abbrev pub abi : ℕ
-abi = 6
+abi = 7
 
 -- 0 is little, every other number big
 unfoldable pub orderOf : ℕ → ByteOrder

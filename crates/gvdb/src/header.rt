@@ -10,7 +10,7 @@ ghost use Rattle.layout.specs.Header.{readHeader, headerLaid, withHeader};
 ghost use Rattle.gvdb.specs.Header.{abi, orderOf, headedAnswer};
 
 // Goes up by one with each change of a function or a struct for C.
-const ABI: u32 = 6;
+const ABI: u32 = 7;
 
 // The byte order of the values, 0 little and 1 big, and the root pointer.
 #[repr(C)]

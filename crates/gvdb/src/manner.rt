@@ -1,8 +1,9 @@
-// The number that names how a table is read, checked and laid. Bit 0 is the form of the hash; the other bits are not read.
+// The number that names how a table is read, checked and laid. Bit 0 is the form of the hash, bit 1 the lookup; the other bits are not read.
+use read::manner::Lookup;
 use read::manner::Manner;
 use words::hash::Form;
 ghost use mathlib.Core.Path.{_≡_};
-ghost use Rattle.gvdb.specs.Manner.{formOf, mannerNamed};
+ghost use Rattle.gvdb.specs.Manner.{formOf, lookupOf, mannerNamed};
 
 // The form that a number names.
 pub fn form_of(number: u32) -> Form
@@ -14,10 +15,21 @@ pub fn form_of(number: u32) -> Form
     Form::Signed
 }
 
+// The lookup that a number names.
+fn lookup_of(number: u32) -> Lookup
+    ensures { λ r. ⌜ r ≡ lookupOf number ⌝ }
+{
+    if number / 2 % 2 == 0 {
+        return Lookup::Rust;
+    }
+    Lookup::Strict
+}
+
 // The manner that a number names.
 pub fn manner_of(number: u32) -> Manner
     ensures { λ r. ⌜ r ≡ mannerNamed number ⌝ }
 {
     let form = form_of(number);
-    Manner { form }
+    let lookup = lookup_of(number);
+    Manner { form, lookup }
 }

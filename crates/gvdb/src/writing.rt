@@ -19,8 +19,8 @@ pub struct GvdbImage {
 }
 
 // gvdb-rs: write_to_vec_with_table.
-// The image of a table, laid into the front of `image`. The builder stays as it was (its link words are used and emptied again); a
-// refusal writes nothing.
+// The image of a table, laid into the front of `image`, with `filter` words in every table of it. The builder stays as it was (its link
+// words are used and emptied again); a refusal writes nothing.
 #[no_mangle]
 pub extern "C" fn gvdb_write(
     words: &mut [usize],
@@ -28,13 +28,14 @@ pub extern "C" fn gvdb_write(
     table: u32,
     image: &mut [u8],
     manner: u32,
+    filter: u32,
 ) -> GvdbImage
-    ensures said { λ r. ⌜ r ≡ writtenAnswer (writeAnswer (ruleOf (formOf manner)) (now (words .entry)) (now (arena .entry)) table (length (now (image .entry)))) ⌝ }
+    ensures said { λ r. ⌜ r ≡ writtenAnswer (writeAnswer (ruleOf (formOf manner)) filter (now (words .entry)) (now (arena .entry)) table (length (now (image .entry)))) ⌝ }
     ensures kept { λ _. ⌜ now (words .exit) ≡ now (words .entry) ⌝ }
-    ensures wrote { λ _. ⌜ now (image .exit) ≡ imageAfter (ruleOf (formOf manner)) (now (words .entry)) (now (arena .entry)) table (now (image .entry)) ⌝ }
+    ensures wrote { λ _. ⌜ now (image .exit) ≡ imageAfter (ruleOf (formOf manner)) filter (now (words .entry)) (now (arena .entry)) table (now (image .entry)) ⌝ }
 {
     let form = form_of(manner);
-    match write::write::write(words, arena, table, image, form) {
+    match write::write::write(words, arena, table, image, form, filter) {
         Written::Image { start, end, length } => GvdbImage {
             number: 0,
             start,

@@ -5,5 +5,7 @@ pub mod IndexLaws
 pub mod LaidLaws
 pub mod PlanLaws
 pub mod ChildLaws
+pub mod FilterLaws
 pub mod SameLaws
 pub mod OpenLaws
+pub mod BaseLaws

@@ -1,13 +1,13 @@
 -- A laid plan opens as a table of its items, and each item reads as laid.
 use mathlib.Core.Path.{_≡_}
 use mathlib.Core.List.{List, [], _∷_, _++_}
-use Prim.Native.Nat.{ℕ, _+_, _-_, _*_, _%_, _/_, _≤_, _<_}
+use Prim.Native.Nat.{ℕ, _+_, _-_, _*_, _%_, _/_, _^_, _≤_, _<_}
 use native.Mathlib.Omega.{arith}
 use lib.ListN.{length, getD, length-append}
 use borrow.Author.Tests.{le-ltb}
 use Rattle.words.specs.Choice.{pick}
 use Rattle.words.specs.Field.{spelled, field}
-use Rattle.words.specs.Bits.{bloomCount}
+use Rattle.words.specs.Bits.{bloomCount, bloomShift}
 use Rattle.words.proofs.FieldLaws.{length-spelled}
 use Rattle.layout.specs.Limits.{longestFile}
 use Rattle.layout.specs.Table.{tableOf, tableIn, openTable}
@@ -16,45 +16,55 @@ use Rattle.layout.specs.declared.table.Table.{Table}
 use Rattle.layout.specs.declared.table.Opened.{Opened}
 use Rattle.layout.proofs.AnswerLaws.{pointer-inside-is}
 use Rattle.layout.specs.Sizes.{chunkSize}
-use Rattle.image.specs.Plan.{Plan, word, recordBytes, planBytes}
+use Rattle.image.specs.Plan.{Plan, word, firstWord, recordBytes, planBytes}
 use Rattle.image.specs.Laid.{Holds}
 use Rattle.image.specs.Fits.{PlanFits, openedAs, laidItem}
 use Rattle.image.proofs.LaidLaws.{holds-front, holds-next, holds-first}
 use Rattle.image.proofs.PlanLaws.{field-held, keyStart, valueFrom, chunk-fits, offset-fits, read-mark, read-count, read-record, value-ends}
 
-table-laid : (at n : ℕ) → tableOf at (8 + 28 * n) 0 n ≡ Opened.Table (openedAs at n)
+table-laid : (at w n : ℕ) → tableOf at (8 + 4 * w + 28 * n) w n ≡ Opened.Table (openedAs at w n)
 unfolding tableOf pick openedAs
-table-laid at n =
-    let items : 8 + 28 * n - (8 + 4 * n) ≡ 24 * n = omega arith in
+table-laid at w n =
+    let items : 8 + 4 * w + 28 * n - (8 + 4 * w + 4 * n) ≡ 24 * n = omega arith in
     let even : 24 * n % 24 ≡ 0 = omega arith in
     let count : 24 * n / 24 ≡ n = omega arith in
-    rw (le-ltb (8 + 28 * n) 8 (omega arith), le-ltb (8 + 28 * n) (8 + 4 * n) (omega arith), items, even, count)
+    rw (le-ltb (8 + 4 * w + 28 * n) (8 + 4 * w) (omega arith), le-ltb (8 + 4 * w + 28 * n) (8 + 4 * w + 4 * n) (omega arith), items, even, count)
+
+-- the low 27 bits of the first word are the number of filter words, the top five are 5
+pub mark-count : (w : ℕ) → w < 2 ^ 27 → bloomCount (firstWord w) ≡ w
+unfolding bloomCount
+mark-count w few = omega arith
+
+pub mark-shift : (w : ℕ) → w < 2 ^ 27 → bloomShift (firstWord w) ≡ 5
+unfolding bloomShift
+mark-shift w few = omega arith
 
 module _ (img : List ℕ) (p : Plan) (at : ℕ) (held : Holds img at (planBytes p at)) (short : length img ≤ longestFile) where
   -- the table opens with all its items
-  pub laid-opens : at % 4 ≡ 0 → openTable img at (at + chunkSize (p .count)) ≡ Opened.Table (openedAs at (p .count))
-  unfolding openTable tableIn bloomCount pick chunkSize
-  laid-opens even =
-      let l : at + (8 + 28 * p .count) ≤ length img = chunk-fits img p at held in
-      let size : at + (8 + 28 * p .count) - at ≡ 8 + 28 * p .count = omega arith in
+  pub laid-opens : p .filter < 2 ^ 27 → at % 4 ≡ 0 → openTable img at (at + chunkSize (p .filter) (p .count)) ≡ Opened.Table (openedAs at (p .filter) (p .count))
+  unfolding openTable tableIn pick chunkSize
+  laid-opens few even =
+      let l : at + (8 + 4 * p .filter + 28 * p .count) ≤ length img = chunk-fits img p at held in
+      let long : at + (8 + 4 * p .filter + 28 * p .count) - at ≡ 8 + 4 * p .filter + 28 * p .count = omega arith in
       rw (
         le-ltb longestFile (length img) short,
-        pointer-inside-is (length img) at (at + (8 + 28 * p .count)) 4 (omega arith) even l,
-        size,
-        le-ltb (8 + 28 * p .count) 8 (omega arith),
-        read-mark img p at held,
+        pointer-inside-is (length img) at (at + (8 + 4 * p .filter + 28 * p .count)) 4 (omega arith) even l,
+        long,
+        le-ltb (8 + 4 * p .filter + 28 * p .count) 8 (omega arith),
+        read-mark img p at held few,
+        mark-count (p .filter) few,
         read-count img p at held (omega arith),
       )
-      (table-laid at (p .count))
+      (table-laid at (p .filter) (p .count))
 
   -- each item reads as laid
-  pub laid-item : PlanFits p → (k : ℕ) → k < p .count → itemAt img (openedAs at (p .count)) k ≡ laidItem p at k
+  pub laid-item : PlanFits p → (k : ℕ) → k < p .count → itemAt img (openedAs at (p .filter) (p .count)) k ≡ laidItem p at k
   unfolding itemAt openedAs laidItem recordBytes
   laid-item fits k l =
-      let r = at + (8 + 4 * p .count) + 24 * k in
+      let r = at + (8 + 4 * p .filter + 4 * p .count) + 24 * k in
       let s = keyStart img p at held k in
       let v = valueFrom img p at held k in
-      let here : at + 8 + 4 * p .count + 24 * k ≡ r = omega arith in
+      let here : at + 8 + 4 * p .filter + 4 * p .count + 24 * k ≡ r = omega arith in
       let size = length (p .fragment k) in
       let f0 = word (p .hash k) in
       let f1 = word (p .parent k) in

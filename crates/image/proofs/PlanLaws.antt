@@ -13,7 +13,7 @@ use Rattle.words.specs.Align.{aligned}
 use Rattle.words.proofs.StoreLaws.{length-zeros}
 use Rattle.words.proofs.FieldLaws.{length-spelled, little-endian-spelled}
 use Rattle.layout.specs.Sizes.{chunkSize}
-use Rattle.image.specs.Plan.{Plan, word, wordsOf, valueStart, itemBytes, payload, place, recordBytes, records, planBytes}
+use Rattle.image.specs.Plan.{Plan, word, wordsOf, firstWord, filterWord, filterBytes, valueStart, itemBytes, payload, place, recordBytes, records, planBytes}
 use Rattle.image.specs.Laid.{Holds}
 use Rattle.image.proofs.LaidLaws.{holds-front, holds-back, holds-fits, holds-part}
 
@@ -132,28 +132,31 @@ module _ (p : Plan) where
   records-more at k = rw add-one
 
   -- the table chunk, and what follows it
-  pub length-plan : (at : ℕ) → length (planBytes p at) ≡ chunkSize (p .count) + length (payload p (at + chunkSize (p .count)) (p .count))
+  pub length-plan : (at : ℕ) → length (planBytes p at) ≡ chunkSize (p .filter) (p .count) + length (payload p (at + chunkSize (p .filter) (p .count)) (p .count))
   unfolding planBytes chunkSize
   length-plan at =
-      let base = at + (8 + 28 * p .count) in
+      let base = at + (8 + 4 * p .filter + 28 * p .count) in
       let r = records p base (p .count) in
       let q = payload p base (p .count) in
       let w = wordsOf (p .first) (p .count) in
-      let h = word 0x28000000 ++ word (p .count) in
+      let f = filterBytes p in
+      let h = word (firstWord (p .filter)) ++ word (p .count) in
       omega (
         arith,
-        length-append h (w ++ (r ++ q)),
+        length-append h (f ++ (w ++ (r ++ q))),
+        length-append f (w ++ (r ++ q)),
         length-append w (r ++ q),
         length-append r q,
-        length-append (word 0x28000000) (word (p .count)),
-        length-spelled 4 0x28000000,
+        length-append (word (firstWord (p .filter))) (word (p .count)),
+        length-spelled 4 (firstWord (p .filter)),
         length-spelled 4 (p .count),
+        length-words (λ k. filterWord (p .hash) (p .filter) k (p .count)) (p .filter),
         length-words (p .first) (p .count),
         length-records base (p .count),
       )
 
   -- a plan that is laid at `at` ends where a next item would start
-  pub plan-end : (at : ℕ) → at + length (planBytes p at) ≡ place p (at + chunkSize (p .count)) (p .count)
+  pub plan-end : (at : ℕ) → at + length (planBytes p at) ≡ place p (at + chunkSize (p .filter) (p .count)) (p .count)
   unfolding place
   plan-end at = omega (arith, length-plan at)
 
@@ -183,7 +186,7 @@ module _ (p : Plan) where
 module _ (img : List ℕ) (p : Plan) (at : ℕ) (held : Holds img at (planBytes p at)) where
   -- where the fragments and values start, where the key and the value of item k start
   abbrev pub base : ℕ
-  base = at + chunkSize (p .count)
+  base = at + chunkSize (p .filter) (p .count)
 
   abbrev pub keyStart : ℕ → ℕ
   keyStart k = place p base k
@@ -191,27 +194,39 @@ module _ (img : List ℕ) (p : Plan) (at : ℕ) (held : Holds img at (planBytes 
   abbrev pub valueFrom : ℕ → ℕ
   valueFrom k = valueStart p k (keyStart k)
 
-  parts : Holds img at ((word 0x28000000 ++ word (p .count)) ++ (wordsOf (p .first) (p .count) ++ (records p base (p .count) ++ payload p base (p .count))))
+  -- the first word, and the filter words
+  abbrev pub mark : ℕ
+  mark = firstWord (p .filter)
+
+  abbrev pub bits : ℕ → ℕ
+  bits k = filterWord (p .hash) (p .filter) k (p .count)
+
+  abbrev rest : List ℕ
+  rest = wordsOf (p .first) (p .count) ++ (records p base (p .count) ++ payload p base (p .count))
+
+  parts : Holds img at ((word mark ++ word (p .count)) ++ (wordsOf bits (p .filter) ++ rest))
   unfolding planBytes
   parts = held
 
-  head : Holds img at (word 0x28000000 ++ word (p .count))
-  head = holds-front img at (word 0x28000000 ++ word (p .count)) _ parts
+  head : Holds img at (word mark ++ word (p .count))
+  head = holds-front img at (word mark ++ word (p .count)) _ parts
 
-  after-head : Holds img (at + 8) (wordsOf (p .first) (p .count) ++ (records p base (p .count) ++ payload p base (p .count)))
+  after-head : Holds img (at + 8) (wordsOf bits (p .filter) ++ rest)
   after-head =
-      let e : length (word 0x28000000 ++ word (p .count)) ≡ 8 =
-      length-append (word 0x28000000) (word (p .count)) ∙ omega (arith, length-spelled 4 0x28000000, length-spelled 4 (p .count)) in
-      rw e at (holds-back img at (word 0x28000000 ++ word (p .count)) _ parts)
+      let e : length (word mark ++ word (p .count)) ≡ 8 = length-append (word mark) (word (p .count)) ∙ omega (arith, length-spelled 4 mark, length-spelled 4 (p .count)) in
+      rw e at (holds-back img at (word mark ++ word (p .count)) _ parts)
 
-  after-buckets : Holds img (at + 8 + 4 * p .count) (records p base (p .count) ++ payload p base (p .count))
-  after-buckets = rw (length-words (p .first) (p .count)) at (holds-back img (at + 8) (wordsOf (p .first) (p .count)) _ after-head)
+  after-filter : Holds img (at + 8 + 4 * p .filter) rest
+  after-filter = rw (length-words bits (p .filter)) at (holds-back img (at + 8) (wordsOf bits (p .filter)) _ after-head)
+
+  after-buckets : Holds img (at + 8 + 4 * p .filter + 4 * p .count) (records p base (p .count) ++ payload p base (p .count))
+  after-buckets = rw (length-words (p .first) (p .count)) at (holds-back img (at + 8 + 4 * p .filter) (wordsOf (p .first) (p .count)) _ after-filter)
 
   after-records : Holds img base (payload p base (p .count))
   unfolding chunkSize
   after-records =
-      let e : at + 8 + 4 * p .count + length (records p base (p .count)) ≡ base = omega (arith, length-records p base (p .count)) in
-      rw e at (holds-back img (at + 8 + 4 * p .count) (records p base (p .count)) _ after-buckets)
+      let e : at + 8 + 4 * p .filter + 4 * p .count + length (records p base (p .count)) ≡ base = omega (arith, length-records p base (p .count)) in
+      rw e at (holds-back img (at + 8 + 4 * p .filter + 4 * p .count) (records p base (p .count)) _ after-buckets)
 
   -- the whole lies in the image
   pub end-fits : place p base (p .count) ≤ length img
@@ -227,21 +242,28 @@ module _ (img : List ℕ) (p : Plan) (at : ℕ) (held : Holds img at (planBytes 
   unfolding place
   chunk-fits = omega (arith, end-fits)
 
-  -- the head's words, and a bucket's word
-  pub read-mark : field 4 img at ≡ 0x28000000
-  read-mark = field-held 4 img at 0x28000000 (omega arith) (holds-front img at (word 0x28000000) _ head)
+  -- the head's words, a filter word, and a bucket's word
+  pub read-mark : p .filter < 2 ^ 27 → field 4 img at ≡ mark
+  read-mark few = field-held 4 img at mark (omega arith) (holds-front img at (word mark) _ head)
 
   pub read-count : p .count < 4294967296 → field 4 img (at + 4) ≡ p .count
-  read-count small = field-held 4 img (at + 4) (p .count) (omega arith) (rw (length-spelled 4 0x28000000) at (holds-back img at (word 0x28000000) (word (p .count)) head))
+  read-count small = field-held 4 img (at + 4) (p .count) (omega arith) (rw (length-spelled 4 mark) at (holds-back img at (word mark) (word (p .count)) head))
 
-  pub read-bucket : (b : ℕ) → b < p .count → p .first b < 4294967296 → field 4 img (at + 8 + 4 * b) ≡ p .first b
+  pub read-filter : (k : ℕ) → k < p .filter → bits k < 4294967296 → field 4 img (at + 8 + 4 * k) ≡ bits k
+  read-filter k l small =
+      field-held 4 img (at + 8 + 4 * k) (bits k) (omega arith)
+      (words-held img bits (p .filter) k (at + 8) l (holds-front img (at + 8) (wordsOf bits (p .filter)) _ after-head))
+
+  pub read-bucket : (b : ℕ) → b < p .count → p .first b < 4294967296 → field 4 img (at + 8 + 4 * p .filter + 4 * b) ≡ p .first b
   read-bucket b l small =
-      field-held 4 img (at + 8 + 4 * b) (p .first b) (omega arith)
-      (words-held img (p .first) (p .count) b (at + 8) l (holds-front img (at + 8) (wordsOf (p .first) (p .count)) _ after-head))
+      field-held 4 img (at + 8 + 4 * p .filter + 4 * b) (p .first b) (omega arith)
+      (words-held img (p .first) (p .count) b (at + 8 + 4 * p .filter) l (holds-front img (at + 8 + 4 * p .filter) (wordsOf (p .first) (p .count)) _ after-filter))
 
   -- the record of item k
-  pub read-record : (k : ℕ) → k < p .count → Holds img (at + 8 + 4 * p .count + 24 * k) (recordBytes p k (keyStart k) (valueFrom k))
-  read-record k l = record-held p img base (p .count) k (at + 8 + 4 * p .count) l (holds-front img (at + 8 + 4 * p .count) (records p base (p .count)) _ after-buckets)
+  pub read-record : (k : ℕ) → k < p .count → Holds img (at + 8 + 4 * p .filter + 4 * p .count + 24 * k) (recordBytes p k (keyStart k) (valueFrom k))
+  read-record k l =
+      let from = at + 8 + 4 * p .filter + 4 * p .count in
+      record-held p img base (p .count) k from l (holds-front img from (records p base (p .count)) _ after-buckets)
 
   read-item : (k : ℕ) → k < p .count → Holds img (keyStart k) (itemBytes p k (keyStart k))
   read-item k l = item-held p img base (p .count) k l after-records

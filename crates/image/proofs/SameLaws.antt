@@ -4,7 +4,7 @@ use Prim.Native.Nat.{ℕ, zero, suc, _+_, _≤_, _<_}
 use native.Mathlib.Omega.{arith}
 use lib.ListN.{length}
 use Rattle.layout.specs.Sizes.{chunkSize}
-use Rattle.image.specs.Plan.{Plan, valueStart, itemBytes, payload, place, recordBytes, records, planBytes}
+use Rattle.image.specs.Plan.{Plan, filterWord, valueStart, itemBytes, payload, place, recordBytes, records, planBytes}
 use Rattle.image.specs.Fits.{SamePlan}
 use Rattle.image.proofs.PlanLaws.{words-same}
 
@@ -41,12 +41,20 @@ module _ (p q : Plan) (s : SamePlan p q) where
         record-same k (place q at k) (valueStart q k (place q at k)) l,
       )
 
+  filter-same : (w k n : ℕ) → n ≤ p .count → filterWord (p .hash) w k n ≡ filterWord (q .hash) w k n
+  unfolding filterWord
+  filter-same w k zero l = refl
+  filter-same w k (suc n) l = rw (s .hash n l, filter-same w k n (omega arith))
+
   pub plan-same : (at : ℕ) → planBytes p at ≡ planBytes q at
   unfolding planBytes
   plan-same at =
       rw (
+        words-same (λ k. filterWord (p .hash) (p .filter) k (p .count)) (λ k. filterWord (q .hash) (p .filter) k (p .count)) (p .filter)
+            (λ k l. filter-same (p .filter) k (p .count) (omega arith)),
         words-same (p .first) (q .first) (p .count) (s .first),
-        records-same (at + chunkSize (p .count)) (p .count) (omega arith),
-        payload-same (at + chunkSize (p .count)) (p .count) (omega arith),
+        records-same (at + chunkSize (p .filter) (p .count)) (p .count) (omega arith),
+        payload-same (at + chunkSize (p .filter) (p .count)) (p .count) (omega arith),
         s .count,
+        s .filter,
       )

@@ -40,7 +40,8 @@ module _ (rule : ℕ → ℕ) where
   childWords table [] = []
   childWords table (c ∷ rest) = word (laidIndex rule table c) ++ childWords table rest
 
-  module _ (inner : ℕ → ℕ → List ℕ) (state : State) (table : Rows) where
+  -- with so many filter words in every table
+  module _ (filter : ℕ) (inner : ℕ → ℕ → List ℕ) (state : State) (table : Rows) where
     -- a value's bytes, a nested table with all its chunks, or the children's indices
     unfoldable pub valueOf : ℕ → Content → ℕ → List ℕ
     valueOf i (Content.bytes value) at = value
@@ -50,12 +51,13 @@ module _ (rule : ℕ → ℕ) where
     -- the value pointer of a nested table covers its table chunk only
     unfoldable pub coversOf : ℕ → Content → ℕ
     coversOf i (Content.bytes value) = length value
-    coversOf i (Content.nested t) = chunkSize (length (state t .members))
+    coversOf i (Content.nested t) = chunkSize filter (length (state t .members))
     coversOf i Content.container = 4 * length (childrenOf table i)
 
     unfoldable pub planOf : Plan
     planOf = record {
       count = length (table .members);
+      filter = filter;
       first = bucketStart (hashesOf rule table);
       hash = λ k. hashBy rule (table .key (itemOf rule table k));
       parent = λ k. parentIndex table (itemOf rule table k);
@@ -67,10 +69,10 @@ module _ (rule : ℕ → ℕ) where
     }
 
   -- table t at `at`, with all its chunks; nested tables as deep as d goes
-  unfoldable pub tableBytes : State → ℕ → ℕ → ℕ → List ℕ
-  tableBytes state zero t at = []
-  tableBytes state (suc d) t at = planBytes (planOf (λ u start. tableBytes state d u start) state (state t)) at
+  unfoldable pub tableBytes : ℕ → State → ℕ → ℕ → ℕ → List ℕ
+  tableBytes filter state zero t at = []
+  tableBytes filter state (suc d) t at = planBytes (planOf filter (λ u start. tableBytes filter state d u start) state (state t)) at
 
   -- the whole image: zeros for the header, then the root table
-  unfoldable pub imageOf : State → ℕ → List ℕ
-  imageOf state root = zeros headerSize ++ tableBytes state deepest root headerSize
+  unfoldable pub imageOf : ℕ → State → ℕ → List ℕ
+  imageOf filter state root = zeros headerSize ++ tableBytes filter state deepest root headerSize

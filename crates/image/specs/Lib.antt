@@ -6,3 +6,4 @@ pub mod WellFormed
 pub mod Laid
 pub mod Fits
 pub mod Worked
+pub mod Base

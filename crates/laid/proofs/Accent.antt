@@ -44,11 +44,11 @@ accentFile second =
 unfoldable pub accent : State
 accent = rowsOf (entry 0 (0xC3 ∷ 0xA9 ∷ []) (Content.bytes (1 ∷ 2 ∷ [])) noItem ∷ [])
 
-pub laid-plain : imageOf plain accent 0 ≡ accentFile 0x84
+pub laid-plain : imageOf plain 0 accent 0 ≡ accentFile 0x84
 unfolding accent accentFile pick copies spelled hashBy hashFrom aligned precedes entryAt isChild fragmentAt membersBelow rowsOf insertKey sortKeys keyOrder hashesOf bucketOf run runsBelow byBucket bucketStart byIndex itemOf indexIn laidIndex wordsOf chunkSize valueStart itemBytes payload place recordBytes records planBytes childrenIn childrenOf parentIndex childWords valueOf coversOf planOf tableBytes imageOf
 laid-plain = refl
 
-pub laid-signed : imageOf signed accent 0 ≡ accentFile 0x62
+pub laid-signed : imageOf signed 0 accent 0 ≡ accentFile 0x62
 unfolding accent accentFile signed pick copies spelled hashBy hashFrom aligned precedes entryAt isChild fragmentAt membersBelow rowsOf insertKey sortKeys keyOrder hashesOf bucketOf run runsBelow byBucket bucketStart byIndex itemOf indexIn laidIndex wordsOf chunkSize valueStart itemBytes payload place recordBytes records planBytes childrenIn childrenOf parentIndex childWords valueOf coversOf planOf tableBytes imageOf
 laid-signed = refl
 

@@ -61,45 +61,46 @@ module _ (table : Rows) (low : (i : ℕ) → Has (table .members) i → isAscii 
   words-alike [] = refl
   words-alike (c ∷ l) = ap (λ (n : ℕ). word n ++ childWords signed table l) (laid-alike c) ∙ ap (λ (m : List ℕ). word (laidIndex plain table c) ++ m) (words-alike l)
 
-  module _ (f g : ℕ → ℕ → List ℕ) (state : State) where
-    value-alike : (i : ℕ) (c : Content) (at : ℕ) → ((u : ℕ) → c ≡ Content.nested u → f u at ≡ g u at) → valueOf signed f state table i c at ≡ valueOf plain g state table i c at
+  module _ (filter : ℕ) (f g : ℕ → ℕ → List ℕ) (state : State) where
+    value-alike : (i : ℕ) (c : Content) (at : ℕ) → ((u : ℕ) → c ≡ Content.nested u → f u at ≡ g u at) → valueOf signed filter f state table i c at ≡ valueOf plain filter g state table i c at
     unfolding valueOf
     value-alike i (Content.bytes value) at inner = refl
     value-alike i (Content.nested u) at inner = inner u refl
     value-alike i Content.container at inner = words-alike (childrenOf table i)
 
-    covers-alike : (i : ℕ) (c : Content) → coversOf signed f state table i c ≡ coversOf plain g state table i c
+    covers-alike : (i : ℕ) (c : Content) → coversOf signed filter f state table i c ≡ coversOf plain filter g state table i c
     unfolding coversOf
     covers-alike i (Content.bytes value) = refl
     covers-alike i (Content.nested u) = refl
     covers-alike i Content.container = refl
 
     plan-alike : WellFormed table → ((i u at : ℕ) → Has (table .members) i → table .content i ≡ Content.nested u → f u at ≡ g u at)
-        → SamePlan (planOf signed f state table) (planOf plain g state table)
+        → SamePlan (planOf signed filter f state table) (planOf plain filter g state table)
     unfolding planOf
     plan-alike well inner = record {
       count = refl;
+      filter = refl;
       first = λ b l. ap (λ (h : List ℕ). bucketStart h b) hashes-alike;
       hash = λ k l. ap (λ (i : ℕ). hashBy signed (table .key i)) (item-alike k) ∙ ascii-hash (table .key (itemOf plain table k)) (low (itemOf plain table k) (item-within plain table (well .once) k l));
       parent = λ k l. ap (parentIndex signed table) (item-alike k) ∙ parent-alike (itemOf plain table k);
       fragment = λ k l. ap (fragmentAt table) (item-alike k);
       kind = λ k l. ap (λ (i : ℕ). kindByte (kindOf (table .content i))) (item-alike k);
       align = λ k l. ap (λ (i : ℕ). alignOf (table .content i)) (item-alike k);
-      value = λ k at l. ap (λ (i : ℕ). valueOf signed f state table i (table .content i) at) (item-alike k)
+      value = λ k at l. ap (λ (i : ℕ). valueOf signed filter f state table i (table .content i) at) (item-alike k)
           ∙ value-alike (itemOf plain table k) (table .content (itemOf plain table k)) at (λ u e. inner (itemOf plain table k) u at (item-within plain table (well .once) k l) e);
-      covers = λ k l. ap (λ (i : ℕ). coversOf signed f state table i (table .content i)) (item-alike k)
+      covers = λ k l. ap (λ (i : ℕ). coversOf signed filter f state table i (table .content i)) (item-alike k)
           ∙ covers-alike (itemOf plain table k) (table .content (itemOf plain table k));
     }
 
-tables-alike : (state : State) (d t at : ℕ) → Writable state d t → AsciiBelow state d t → tableBytes signed state d t at ≡ tableBytes plain state d t at
+tables-alike : (filter : ℕ) (state : State) (d t at : ℕ) → Writable state d t → AsciiBelow state d t → tableBytes signed filter state d t at ≡ tableBytes plain filter state d t at
 unfolding tableBytes Writable AsciiBelow
-tables-alike state zero t at good low = refl
-tables-alike state (suc d) t at good low =
-    let f : ℕ → ℕ → List ℕ = λ u start. tableBytes signed state d u start in
-    let g : ℕ → ℕ → List ℕ = λ u start. tableBytes plain state d u start in
-    plan-same (planOf signed f state (state t)) (planOf plain g state (state t))
-    (plan-alike (state t) (low .0) f g state (good .0) (λ i u start has is. tables-alike state d u start (good .1 i u has is) (low .1 i u has is))) at
+tables-alike filter state zero t at good low = refl
+tables-alike filter state (suc d) t at good low =
+    let f : ℕ → ℕ → List ℕ = λ u start. tableBytes signed filter state d u start in
+    let g : ℕ → ℕ → List ℕ = λ u start. tableBytes plain filter state d u start in
+    plan-same (planOf signed filter f state (state t)) (planOf plain filter g state (state t))
+    (plan-alike (state t) (low .0) filter f g state (good .0) (λ i u start has is. tables-alike filter state d u start (good .1 i u has is) (low .1 i u has is))) at
 
 pub ascii-image : AsciiImage
 unfolding imageOf
-ascii-image state t good low = ap (λ (bytes : List ℕ). zeros headerSize ++ bytes) (tables-alike state deepest t headerSize good low)
+ascii-image filter state t good low = ap (λ (bytes : List ℕ). zeros headerSize ++ bytes) (tables-alike filter state deepest t headerSize good low)

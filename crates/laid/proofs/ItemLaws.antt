@@ -1,7 +1,7 @@
 -- Each item of a table that an image holds reads back: its index, its key, its record, and what it holds.
 use mathlib.Core.Path.{_≡_, refl, sym, ap, _∙_}
 use mathlib.Core.List.{List}
-use Prim.Native.Nat.{ℕ, zero, suc, _+_, _%_, _≤_, _<_}
+use Prim.Native.Nat.{ℕ, zero, suc, _+_, _%_, _^_, _≤_, _<_}
 use native.Mathlib.Omega.{arith}
 use lib.ListN.{length}
 use Rattle.words.specs.Align.{aligned}
@@ -13,7 +13,7 @@ use Rattle.layout.specs.Item.{itemAt}
 use Rattle.layout.specs.Kind.{kindByte}
 use Rattle.read.specs.declared.lookup.Found.{Found}
 use Rattle.read.specs.Chain.{Joined, keyOf}
-use Rattle.read.specs.Find.{Manner, findItem}
+use Rattle.read.specs.Find.{findItem}
 use Rattle.model.specs.Table.{Content, State, Has, kindOf}
 use Rattle.image.specs.Index.{indexIn, laidIndex, itemOf}
 use Rattle.layout.specs.Sizes.{chunkSize}
@@ -26,18 +26,18 @@ use Rattle.image.proofs.IndexLaws.{item-within, index-within, item-index}
 use Rattle.image.proofs.PlanLaws.{length-plan, read-value, value-ends}
 use Rattle.image.proofs.OpenLaws.{laid-opens, laid-item}
 use Rattle.laid.specs.Keys.{PlanKeys, PlanRuns}
-use Rattle.laid.specs.Back.{endOf, tableOpened, planAt, valueOffset, coversAt, ItemBack, NestedBack}
+use Rattle.laid.specs.Back.{Lay, endOf, tableOpened, planAt, valueOffset, coversAt, ItemBack, NestedBack}
 use Rattle.laid.proofs.KeyLaws.{key-whole}
-use Rattle.laid.proofs.FindLaws.{find-there, find-nothing}
+use Rattle.laid.proofs.FindLaws.{found-index, find-there, find-nothing}
 use Rattle.laid.proofs.TableLaws.{plan-fits, plan-keys, plan-runs}
 
 -- ---- a table that may be written
 
 -- fills its table chunk
-chunk-room : (rule : ℕ → ℕ) (state : State) (d u at : ℕ) → Writable state d u → chunkSize (length (state u .members)) ≤ length (tableBytes rule state d u at)
+chunk-room : (rule : ℕ → ℕ) (filter : ℕ) (state : State) (d u at : ℕ) → Writable state d u → chunkSize filter (length (state u .members)) ≤ length (tableBytes rule filter state d u at)
 unfolding Writable tableBytes planOf
-chunk-room rule state zero u at good = absurd good
-chunk-room rule state (suc d) u at good = omega (arith, length-plan (planAt rule state d u) at)
+chunk-room rule filter state zero u at good = absurd good
+chunk-room rule filter state (suc d) u at good = omega (arith, length-plan (planAt rule filter state d u) at)
 
 module _ (state : State) (d t : ℕ) (good : Writable state (suc d) t) where
   pub well-formed : WellFormed (state t)
@@ -49,14 +49,16 @@ module _ (state : State) (d t : ℕ) (good : Writable state (suc d) t) where
   nested-writable = good .1
 
   module _ (rule : ℕ → ℕ) where
-    pub fits-plan : PlanFits (planAt rule state d t)
-    fits-plan = plan-fits rule (λ u start. tableBytes rule state d u start) state (state t) well-formed (λ i u l e at. chunk-room rule state d u at (nested-writable i u l e))
+    module _ (filter : ℕ) where
+      pub fits-plan : filter < 2 ^ 27 → PlanFits (planAt rule filter state d t)
+      fits-plan few =
+          plan-fits rule filter (λ u start. tableBytes rule filter state d u start) state (state t) well-formed few (λ i u l e at. chunk-room rule filter state d u at (nested-writable i u l e))
 
-    pub keys-plan : PlanKeys (planAt rule state d t) (λ k. state t .key (itemOf rule (state t) k)) (λ k. indexIn (state t .members) (itemOf rule (state t) k))
-    keys-plan = plan-keys rule (λ u start. tableBytes rule state d u start) state (state t) well-formed
+      pub keys-plan : PlanKeys (planAt rule filter state d t) (λ k. state t .key (itemOf rule (state t) k)) (λ k. indexIn (state t .members) (itemOf rule (state t) k))
+      keys-plan = plan-keys rule filter (λ u start. tableBytes rule filter state d u start) state (state t) well-formed
 
-    pub runs-plan : PlanRuns rule (planAt rule state d t) (λ k. state t .key (itemOf rule (state t) k))
-    runs-plan = plan-runs rule (λ u start. tableBytes rule state d u start) state (state t) well-formed
+      pub runs-plan : PlanRuns rule (planAt rule filter state d t) (λ k. state t .key (itemOf rule (state t) k))
+      runs-plan = plan-runs rule filter (λ u start. tableBytes rule filter state d u start) state (state t) well-formed
 
     -- an item's index, and the item at that index
     pub index-small : (i : ℕ) → Has (state t .members) i → laidIndex rule (state t) i < length (state t .members)
@@ -75,96 +77,113 @@ start-four p k s e = rw e (omega arith)
 
 -- ---- in an image that holds it
 
-module _ (manner : Manner) (img : List ℕ) (state : State) (d t at : ℕ) (held : Holds img at (tableBytes (manner .byte) state (suc d) t at)) (short : length img ≤ longestFile)
+module _ (lay : Lay) (img : List ℕ) (state : State) (d t at : ℕ) (held : Holds img at (tableBytes (lay .manner .byte) (lay .filter) state (suc d) t at)) (short : length img ≤ longestFile)
     (even : at % 4 ≡ 0) (good : Writable state (suc d) t) where
-  plan-held : Holds img at (planBytes (planAt (manner .byte) state d t) at)
+  plan-held : Holds img at (planBytes (planAt (lay .manner .byte) (lay .filter) state d t) at)
   unfolding tableBytes
   plan-held = held
 
+  fits : PlanFits (planAt (lay .manner .byte) (lay .filter) state d t)
+  fits = fits-plan state d t good (lay .manner .byte) (lay .filter) (lay .few)
+
   -- the table opens with all its items
-  pub opens : openTable img at (endOf state t at) ≡ Opened.Table (tableOpened state t at)
+  pub opens : openTable img at (endOf (lay .filter) state t at) ≡ Opened.Table (tableOpened (lay .filter) state t at)
   unfolding planOf
-  opens = laid-opens img (planAt (manner .byte) state d t) at plan-held short even
+  opens = laid-opens img (planAt (lay .manner .byte) (lay .filter) state d t) at plan-held short (lay .few) even
 
   -- the key at an index is the whole key of the item there
   pub key-of-index : (k : ℕ) → k < length (state t .members)
-      → keyOf img (tableOpened state t at) (length (state t .members)) k ≡ Joined.joined (state t .key (itemOf (manner .byte) (state t) k))
+      → keyOf img (tableOpened (lay .filter) state t at) (length (state t .members)) k ≡ Joined.joined (state t .key (itemOf (lay .manner .byte) (state t) k))
   unfolding planOf
-  key-of-index k l = key-whole img (planAt (manner .byte) state d t) at plan-held short (fits-plan state d t good (manner .byte)) _ _ (keys-plan state d t good (manner .byte)) k l
+  key-of-index k l = key-whole img (planAt (lay .manner .byte) (lay .filter) state d t) at plan-held short fits _ _ (keys-plan state d t good (lay .manner .byte) (lay .filter)) k l
 
   pub key-back : (i : ℕ) → Has (state t .members) i
-      → keyOf img (tableOpened state t at) (length (state t .members)) (laidIndex (manner .byte) (state t) i) ≡ Joined.joined (state t .key i)
+      → keyOf img (tableOpened (lay .filter) state t at) (length (state t .members)) (laidIndex (lay .manner .byte) (state t) i) ≡ Joined.joined (state t .key i)
   key-back i l =
-      key-of-index (laidIndex (manner .byte) (state t) i) (index-small state d t good (manner .byte) i l)
-      ∙ ap (λ (j : ℕ). Joined.joined (state t .key j)) (indexed-item state d t good (manner .byte) i l)
+      key-of-index (laidIndex (lay .manner .byte) (state t) i) (index-small state d t good (lay .manner .byte) i l)
+      ∙ ap (λ (j : ℕ). Joined.joined (state t .key j)) (indexed-item state d t good (lay .manner .byte) i l)
 
   -- the key of an item is found at its index, and a key that no item has is not found
-  pub found-back : (i : ℕ) → Has (state t .members) i → findItem manner img (tableOpened state t at) (state t .key i) ≡ Found.At (laidIndex (manner .byte) (state t) i)
+  pub found-back : (i : ℕ) → Has (state t .members) i → findItem (lay .manner) img (tableOpened (lay .filter) state t at) (state t .key i) ≡ Found.At (laidIndex (lay .manner .byte) (state t) i)
   unfolding planOf
   found-back i l =
-      ap (λ (j : ℕ). findItem manner img (tableOpened state t at) (state t .key j)) (sym (indexed-item state d t good (manner .byte) i l))
-      ∙ find-there manner img (planAt (manner .byte) state d t) at plan-held short (fits-plan state d t good (manner .byte)) _ _ (keys-plan state d t good (manner .byte)) (runs-plan state d t good (manner .byte))
-      (laidIndex (manner .byte) (state t) i) (index-small state d t good (manner .byte) i l)
+      ap (λ (j : ℕ). findItem (lay .manner) img (tableOpened (lay .filter) state t at) (state t .key j)) (sym (indexed-item state d t good (lay .manner .byte) i l))
+      ∙ find-there (lay .manner) img (planAt (lay .manner .byte) (lay .filter) state d t) at plan-held short fits _ _ (keys-plan state d t good (lay .manner .byte) (lay .filter)) (runs-plan state d t good (lay .manner .byte) (lay .filter)) (lay .shifts)
+      (laidIndex (lay .manner .byte) (state t) i) (index-small state d t good (lay .manner .byte) i l)
 
-  pub not-found-back : (x : List ℕ) → ((i : ℕ) → Has (state t .members) i → state t .key i ≡ x → ⊥) → findItem manner img (tableOpened state t at) x ≡ Found.Nothing
+  pub not-found-back : (x : List ℕ) → ((i : ℕ) → Has (state t .members) i → state t .key i ≡ x → ⊥) → findItem (lay .manner) img (tableOpened (lay .filter) state t at) x ≡ Found.Nothing
   unfolding planOf
   not-found-back x none =
-      find-nothing manner img (planAt (manner .byte) state d t) at plan-held short (fits-plan state d t good (manner .byte)) _ _ (keys-plan state d t good (manner .byte)) x
-      (λ k l e. none (itemOf (manner .byte) (state t) k) (item-within (manner .byte) (state t) (well-formed state d t good .once) k l) e)
+      find-nothing (lay .manner) img (planAt (lay .manner .byte) (lay .filter) state d t) at plan-held short fits _ _ (keys-plan state d t good (lay .manner .byte) (lay .filter)) x
+      (λ k l e. none (itemOf (lay .manner .byte) (state t) k) (item-within (lay .manner .byte) (state t) (well-formed state d t good .once) k l) e)
+
+  -- what is found is an item's index; and the key at an index is found there
+  pub found-is : (x : List ℕ) (k : ℕ) → findItem (lay .manner) img (tableOpened (lay .filter) state t at) x ≡ Found.At k
+      → (k < length (state t .members)) × (state t .key (itemOf (lay .manner .byte) (state t) k) ≡ x)
+  unfolding planOf
+  found-is x k e =
+      found-index (lay .manner) img (planAt (lay .manner .byte) (lay .filter) state d t) at plan-held short fits _ _ (keys-plan state d t good (lay .manner .byte) (lay .filter)) x k e
+
+  pub found-again : (k : ℕ) → k < length (state t .members)
+      → findItem (lay .manner) img (tableOpened (lay .filter) state t at) (state t .key (itemOf (lay .manner .byte) (state t) k)) ≡ Found.At k
+  unfolding planOf
+  found-again k l =
+      find-there (lay .manner) img (planAt (lay .manner .byte) (lay .filter) state d t) at plan-held short fits _ _ (keys-plan state d t good (lay .manner .byte) (lay .filter))
+      (runs-plan state d t good (lay .manner .byte) (lay .filter)) (lay .shifts) k l
 
   -- the value as laid, and where it ends
   pub value-held : (i : ℕ) → Has (state t .members) i
-      → Holds img (valueOffset (manner .byte) state d t at i)
-      (valueOf (manner .byte) (λ u start. tableBytes (manner .byte) state d u start) state (state t) i (state t .content i) (valueOffset (manner .byte) state d t at i))
+      → Holds img (valueOffset (lay .manner .byte) (lay .filter) state d t at i)
+      (valueOf (lay .manner .byte) (lay .filter) (λ u start. tableBytes (lay .manner .byte) (lay .filter) state d u start) state (state t) i (state t .content i) (valueOffset (lay .manner .byte) (lay .filter) state d t at i))
   unfolding planOf valueOffset
   value-held i l =
-      rw (indexed-item state d t good (manner .byte) i l) at
-      (read-value img (planAt (manner .byte) state d t) at plan-held (laidIndex (manner .byte) (state t) i) (index-small state d t good (manner .byte) i l))
+      rw (indexed-item state d t good (lay .manner .byte) i l) at
+      (read-value img (planAt (lay .manner .byte) (lay .filter) state d t) at plan-held (laidIndex (lay .manner .byte) (state t) i) (index-small state d t good (lay .manner .byte) i l))
 
-  pub value-inside : (i : ℕ) → Has (state t .members) i → valueOffset (manner .byte) state d t at i + coversAt (manner .byte) state d t i ≤ length img
+  pub value-inside : (i : ℕ) → Has (state t .members) i → valueOffset (lay .manner .byte) (lay .filter) state d t at i + coversAt (lay .manner .byte) (lay .filter) state d t i ≤ length img
   unfolding planOf valueOffset
   value-inside i l =
-      let k = laidIndex (manner .byte) (state t) i in
-      let b = index-small state d t good (manner .byte) i l in
-      let p = planAt (manner .byte) state d t in
-      let v = valueStart p k (place p (endOf state t at) k) in
-      let total : v + p .covers k ≤ length img = omega (arith, fits-plan state d t good (manner .byte) .covered k v b, value-ends img p at plan-held k b) in
-      rw (indexed-item state d t good (manner .byte) i l) at total
+      let k = laidIndex (lay .manner .byte) (state t) i in
+      let b = index-small state d t good (lay .manner .byte) i l in
+      let p = planAt (lay .manner .byte) (lay .filter) state d t in
+      let v = valueStart p k (place p (endOf (lay .filter) state t at) k) in
+      let total : v + p .covers k ≤ length img = omega (arith, fits .covered k v b, value-ends img p at plan-held k b) in
+      rw (indexed-item state d t good (lay .manner .byte) i l) at total
 
   -- the record at an item's index
-  pub item-back : (i : ℕ) → Has (state t .members) i → ItemBack (manner .byte) img state d t at i (itemAt img (tableOpened state t at) (laidIndex (manner .byte) (state t) i))
+  pub item-back : (i : ℕ) → Has (state t .members) i → ItemBack (lay .manner .byte) (lay .filter) img state d t at i (itemAt img (tableOpened (lay .filter) state t at) (laidIndex (lay .manner .byte) (state t) i))
   unfolding planOf laidItem valueOffset
   item-back i l =
-      let e = indexed-item state d t good (manner .byte) i l in
-      rw (laid-item img (planAt (manner .byte) state d t) at plan-held short (fits-plan state d t good (manner .byte)) (laidIndex (manner .byte) (state t) i) (index-small state d t good (manner .byte) i l))
+      let e = indexed-item state d t good (lay .manner .byte) i l in
+      rw (laid-item img (planAt (lay .manner .byte) (lay .filter) state d t) at plan-held short fits (laidIndex (lay .manner .byte) (state t) i) (index-small state d t good (lay .manner .byte) i l))
       (record {
-        hash = ap (λ (j : ℕ). hashBy (manner .byte) (state t .key j)) e;
-        parent = ap (λ (j : ℕ). parentIndex (manner .byte) (state t) j) e;
+        hash = ap (λ (j : ℕ). hashBy (lay .manner .byte) (state t .key j)) e;
+        parent = ap (λ (j : ℕ). parentIndex (lay .manner .byte) (state t) j) e;
         kind = ap (λ (j : ℕ). kindByte (kindOf (state t .content j))) e;
         from = refl;
-        to = ap (λ (j : ℕ). valueOffset (manner .byte) state d t at i + coversAt (manner .byte) state d t j) e;
+        to = ap (λ (j : ℕ). valueOffset (lay .manner .byte) (lay .filter) state d t at i + coversAt (lay .manner .byte) (lay .filter) state d t j) e;
         fits = value-inside i l;
       })
 
   -- a value starts at a multiple of 8, a table and a container's children at one of 4
-  align-index : (i : ℕ) → Has (state t .members) i → planAt (manner .byte) state d t .align (laidIndex (manner .byte) (state t) i) ≡ alignOf (state t .content i)
+  align-index : (i : ℕ) → Has (state t .members) i → planAt (lay .manner .byte) (lay .filter) state d t .align (laidIndex (lay .manner .byte) (state t) i) ≡ alignOf (state t .content i)
   unfolding planOf
-  align-index i l = ap (λ (j : ℕ). alignOf (state t .content j)) (indexed-item state d t good (manner .byte) i l)
+  align-index i l = ap (λ (j : ℕ). alignOf (state t .content j)) (indexed-item state d t good (lay .manner .byte) i l)
 
-  pub offset-eight : (i : ℕ) → Has (state t .members) i → alignOf (state t .content i) ≡ 8 → valueOffset (manner .byte) state d t at i % 8 ≡ 0
+  pub offset-eight : (i : ℕ) → Has (state t .members) i → alignOf (state t .content i) ≡ 8 → valueOffset (lay .manner .byte) (lay .filter) state d t at i % 8 ≡ 0
   unfolding valueOffset
-  offset-eight i l e = start-eight (planAt (manner .byte) state d t) (laidIndex (manner .byte) (state t) i) _ (align-index i l ∙ e)
+  offset-eight i l e = start-eight (planAt (lay .manner .byte) (lay .filter) state d t) (laidIndex (lay .manner .byte) (state t) i) _ (align-index i l ∙ e)
 
-  pub offset-four : (i : ℕ) → Has (state t .members) i → alignOf (state t .content i) ≡ 4 → valueOffset (manner .byte) state d t at i % 4 ≡ 0
+  pub offset-four : (i : ℕ) → Has (state t .members) i → alignOf (state t .content i) ≡ 4 → valueOffset (lay .manner .byte) (lay .filter) state d t at i % 4 ≡ 0
   unfolding valueOffset
-  offset-four i l e = start-four (planAt (manner .byte) state d t) (laidIndex (manner .byte) (state t) i) _ (align-index i l ∙ e)
+  offset-four i l e = start-four (planAt (lay .manner .byte) (lay .filter) state d t) (laidIndex (lay .manner .byte) (state t) i) _ (align-index i l ∙ e)
 
   -- what stands at the value pointer of an item that holds bytes, a table, or children
-  pub bytes-held : (i : ℕ) (value : List ℕ) → Has (state t .members) i → state t .content i ≡ Content.bytes value → Holds img (valueOffset (manner .byte) state d t at i) value
+  pub bytes-held : (i : ℕ) (value : List ℕ) → Has (state t .members) i → state t .content i ≡ Content.bytes value → Holds img (valueOffset (lay .manner .byte) (lay .filter) state d t at i) value
   unfolding valueOf
   bytes-held i value l is = rw is at (value-held i l)
 
-  pub nested-held : (i u : ℕ) → Has (state t .members) i → state t .content i ≡ Content.nested u → NestedBack (manner .byte) img state d u (valueOffset (manner .byte) state d t at i)
+  pub nested-held : (i u : ℕ) → Has (state t .members) i → state t .content i ≡ Content.nested u → NestedBack (lay .manner .byte) (lay .filter) img state d u (valueOffset (lay .manner .byte) (lay .filter) state d t at i)
   unfolding valueOf
   nested-held i u l is = record {
     held = rw is at (value-held i l);
@@ -173,13 +192,13 @@ module _ (manner : Manner) (img : List ℕ) (state : State) (d t at : ℕ) (held
   }
 
   pub children-held : (i : ℕ) → Has (state t .members) i → state t .content i ≡ Content.container
-      → Holds img (valueOffset (manner .byte) state d t at i) (childWords (manner .byte) (state t) (childrenOf (state t) i))
+      → Holds img (valueOffset (lay .manner .byte) (lay .filter) state d t at i) (childWords (lay .manner .byte) (state t) (childrenOf (state t) i))
   unfolding valueOf
   children-held i l is = rw is at (value-held i l)
 
 -- a nested table opens, with all its items
-pub nested-opens : (manner : Manner) (img : List ℕ) (state : State) (d u from : ℕ) → length img ≤ longestFile → NestedBack (manner .byte) img state d u from
-    → openTable img from (endOf state u from) ≡ Opened.Table (tableOpened state u from)
+pub nested-opens : (lay : Lay) (img : List ℕ) (state : State) (d u from : ℕ) → length img ≤ longestFile → NestedBack (lay .manner .byte) (lay .filter) img state d u from
+    → openTable img from (endOf (lay .filter) state u from) ≡ Opened.Table (tableOpened (lay .filter) state u from)
 unfolding Writable
-nested-opens manner img state zero u from short n = absurd (n .writable)
-nested-opens manner img state (suc d) u from short n = opens manner img state d u from (n .held) short (n .even) (n .writable)
+nested-opens lay img state zero u from short n = absurd (n .writable)
+nested-opens lay img state (suc d) u from short n = opens lay img state d u from (n .held) short (n .even) (n .writable)

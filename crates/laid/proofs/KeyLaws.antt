@@ -23,7 +23,7 @@ use Rattle.laid.specs.Keys.{PlanKeys}
 
 module _ (img : List ℕ) (p : Plan) (at : ℕ) (held : Holds img at (planBytes p at)) (short : length img ≤ longestFile) (fits : PlanFits p) where
   abbrev table : Table
-  table = openedAs at (p .count)
+  table = openedAs at (p .filter) (p .count)
 
   -- the fragment of item k is the fragment laid, and it lies in the image
   pub laid-fragment : (k : ℕ) → k < p .count → fragmentOf img (itemAt img table k) ≡ p .fragment k

@@ -1,9 +1,11 @@
 pub mod KeyLaws
 pub mod FindLaws
+pub mod LayLaws
 pub mod LookupLaws
 pub mod TableLaws
 pub mod ItemLaws
 pub mod ReadBack
+pub mod AlikeLaws
 pub mod ImageBack
 pub mod WorkedBack
 pub mod ChildLaws

@@ -3,7 +3,7 @@ use mathlib.Core.Path.{_≡_, refl, sym, ap, _∙_}
 use mathlib.Core.Logic.{⊎-elim, _⊎_, inl, inr}
 use mathlib.Core.Bool.{Bool, true, false}
 use mathlib.Core.List.{List, _++_}
-use Prim.Native.Nat.{ℕ, suc, _+_, _%_, _≤_, _<_}
+use Prim.Native.Nat.{ℕ, suc, _+_, _%_, _^_, _≤_, _<_}
 use native.Mathlib.Numerals.{add-one}
 use native.Mathlib.Omega.{arith}
 use lib.Dec.{ltb}
@@ -86,21 +86,22 @@ before-last hashes count b k l h = pick-with (λ (m : ℕ). k < m) (ltb (b + 1) 
 
 -- ---- its plan, where a nested table fills at least its chunk
 
-module _ (rule : ℕ → ℕ) (inner : ℕ → ℕ → List ℕ) (state : State) (table : Rows) (well : WellFormed table) where
+module _ (rule : ℕ → ℕ) (filter : ℕ) (inner : ℕ → ℕ → List ℕ) (state : State) (table : Rows) (well : WellFormed table) where
   item-has : (k : ℕ) → k < length (table .members) → Has (table .members) (itemOf rule table k)
   item-has k l = item-within rule table (well .once) k l
 
-  covers-value : (i : ℕ) (c : Content) (at : ℕ) → ((u : ℕ) → c ≡ Content.nested u → chunkSize (length (state u .members)) ≤ length (inner u at))
-      → coversOf rule inner state table i c ≤ length (valueOf rule inner state table i c at)
+  covers-value : (i : ℕ) (c : Content) (at : ℕ) → ((u : ℕ) → c ≡ Content.nested u → chunkSize filter (length (state u .members)) ≤ length (inner u at))
+      → coversOf rule filter inner state table i c ≤ length (valueOf rule filter inner state table i c at)
   unfolding coversOf valueOf
   covers-value i (Content.bytes value) at room = omega arith
   covers-value i (Content.nested u) at room = room u refl
   covers-value i Content.container at room = omega (arith, length-child-words rule table (childrenOf table i))
 
-  pub plan-fits : ((i u : ℕ) → Has (table .members) i → table .content i ≡ Content.nested u → (at : ℕ) → chunkSize (length (state u .members)) ≤ length (inner u at))
-      → PlanFits (planOf rule inner state table)
+  pub plan-fits : filter < 2 ^ 27 → ((i u : ℕ) → Has (table .members) i → table .content i ≡ Content.nested u → (at : ℕ) → chunkSize filter (length (state u .members)) ≤ length (inner u at))
+      → PlanFits (planOf rule filter inner state table)
   unfolding planOf
-  plan-fits room = record {
+  plan-fits few room = record {
+    filter27 = few;
     first32 = λ b l. omega (arith, first-most rule table b, well .few);
     hash32 = λ k l. hash-below rule (table .key (itemOf rule table k));
     parent32 = λ k l. let i = itemOf rule table k in
@@ -110,7 +111,7 @@ module _ (rule : ℕ → ℕ) (inner : ℕ → ℕ → List ℕ) (state : State)
   }
 
   -- the chains join the whole keys, and the order of creation falls towards the parent
-  pub plan-keys : PlanKeys (planOf rule inner state table) (λ k. table .key (itemOf rule table k)) (λ k. indexIn (table .members) (itemOf rule table k))
+  pub plan-keys : PlanKeys (planOf rule filter inner state table) (λ k. table .key (itemOf rule table k)) (λ k. indexIn (table .members) (itemOf rule table k))
   unfolding planOf
   plan-keys = record {
     few = omega (arith, well .few);
@@ -127,7 +128,7 @@ module _ (rule : ℕ → ℕ) (inner : ℕ → ℕ → List ℕ) (state : State)
   }
 
   -- no key twice, and each index in its bucket's run
-  pub plan-runs : PlanRuns rule (planOf rule inner state table) (λ k. table .key (itemOf rule table k))
+  pub plan-runs : PlanRuns rule (planOf rule filter inner state table) (λ k. table .key (itemOf rule table k))
   unfolding planOf lastOf
   plan-runs = record {
     hashed = λ k l. refl;

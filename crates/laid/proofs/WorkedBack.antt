@@ -16,6 +16,7 @@ use Rattle.text.specs.Utf8.{between, tail, isTwo, startsThree, startsFour, firs
 use Rattle.read.specs.declared.lookup.Looked.{Looked}
 use Rattle.read.specs.Lookup.{lookupValue, lookupTable}
 use Rattle.read.specs.Answer.{lookedBytes}
+use Rattle.read.specs.declared.manner.Lookup.{Lookup}
 use Rattle.read.specs.Find.{rust}
 use Rattle.model.specs.Table.{Content, times, Has, entryAt, isChild, fragmentAt, membersBelow, rowsOf}
 use Rattle.image.specs.Index.{insertKey, sortKeys, keyOrder, hashesOf, bucketOf, run, runsBelow, byBucket, bucketStart, byIndex, itemOf, indexIn, laidIndex}
@@ -27,6 +28,8 @@ use Rattle.words.proofs.ChoiceLaws.{eq-or-ne}
 use Rattle.image.proofs.TimesLaws.{times-here, times-there, times-none, has-cases}
 use Rattle.laid.specs.Told.{Both, AllBack}
 use Rattle.laid.specs.Sample.{sample}
+use Rattle.laid.specs.Back.{Lay}
+use Rattle.laid.proofs.LayLaws.{layOf}
 use Rattle.laid.proofs.ReadBack.{views-bytes}
 use Rattle.laid.proofs.ImageBack.{alone-back}
 
@@ -96,15 +99,19 @@ root-writable = (
       (λ e. let same : 1 ≡ u = cc in rw (← same) (inner-writable 6)) i h,
 )
 
-pub size : length (imageOf plain sample 0) ≡ 176
+pub size : length (imageOf plain 0 sample 0) ≡ 176
 unfolding sample pick copies spelled hashBy hashFrom aligned precedes entryAt isChild fragmentAt membersBelow rowsOf insertKey sortKeys keyOrder hashesOf bucketOf run runsBelow byBucket bucketStart byIndex itemOf indexIn laidIndex wordsOf chunkSize valueStart itemBytes payload place recordBytes records planBytes childrenIn childrenOf parentIndex childWords valueOf coversOf planOf tableBytes imageOf
 size = refl
 
 abbrev image : List ℕ
-image = imageOf plain sample 0
+image = imageOf plain 0 sample 0
 
-all : AllBack rust image sample 8 0 24
-all = alone-back rust sample 0 root-writable (omega (arith, size))
+-- without filter words
+abbrev bare : Lay
+bare = layOf plain Lookup.Rust 0 (omega arith)
+
+all : AllBack bare image sample 8 0 24
+all = alone-back bare sample 0 root-writable (omega (arith, size))
 
 -- "a/b" answers 07, "a/" 13 either way, "a" 12
 pub value-answers : lookedBytes image (lookupValue rust image 24 116 (97 ∷ 47 ∷ 98 ∷ [])) ≡ 7 ∷ []

@@ -7,6 +7,7 @@ use Rattle.words.specs.Choice.{pick}
 use Rattle.words.specs.Hash.{plain}
 use Rattle.read.specs.declared.lookup.Looked.{Looked}
 use Rattle.read.specs.Lookup.{lookupTable}
+use Rattle.read.specs.declared.manner.Lookup.{Lookup}
 use Rattle.read.specs.Find.{rust}
 use Rattle.check_table.specs.declared.check.Checked.{Checked}
 use Rattle.check_table.specs.Rules.{checkTable}
@@ -14,16 +15,22 @@ use Rattle.model.specs.Table.{times, entryAt, membersBelow, rowsOf}
 use Rattle.layout.specs.Sizes.{chunkSize}
 use Rattle.image.specs.Image.{imageOf}
 use Rattle.laid.specs.Sample.{sample}
+use Rattle.laid.specs.Back.{Lay}
+use Rattle.laid.proofs.LayLaws.{layOf}
 use Rattle.laid.proofs.WorkedBack.{root-writable, size}
 use Rattle.laid.specs.Passing.{AllPass}
 use Rattle.laid.proofs.Passes.{alone-passes}
 
 -- "a/" with its child "a/b", which holds 07, and "t", a table that holds "x" with 09
 abbrev image : List ℕ
-image = imageOf plain sample 0
+image = imageOf plain 0 sample 0
 
-all : AllPass rust image sample 8 0 24
-all = alone-passes rust sample 0 root-writable (omega (arith, size))
+-- without filter words
+abbrev bare : Lay
+bare = layOf plain Lookup.Rust 0 (omega arith)
+
+all : AllPass bare image sample 8 0 24
+all = alone-passes bare sample 0 root-writable (omega (arith, size))
 
 -- the root table of three items, from 24 to 116
 pub root-passes : checkTable rust image 24 116 ≡ Checked.Sound

@@ -18,4 +18,4 @@ AsciiBelow state (suc d) t =
 
 -- the statement
 abbrev pub AsciiImage : Type 0
-AsciiImage = (state : State) (t : ℕ) → Writable state deepest t → AsciiBelow state deepest t → imageOf signed state t ≡ imageOf plain state t
+AsciiImage = (filter : ℕ) (state : State) (t : ℕ) → Writable state deepest t → AsciiBelow state deepest t → imageOf signed filter state t ≡ imageOf plain filter state t

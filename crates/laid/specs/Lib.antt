@@ -4,3 +4,4 @@ pub mod Told
 pub mod Sample
 pub mod Passing
 pub mod Forms
+pub mod Alike

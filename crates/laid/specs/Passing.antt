@@ -1,5 +1,5 @@
 -- WHATEVER IS LAID, PASSES THE CHECK: the statements, in the words of document 01 under 'The check's six rules'. Each is for every manner of
--- reading, of tables laid by its rule for a byte, and for every file of at most 16,777,216 bytes.
+-- reading and every number of filter words that agree, of tables laid by its rule for a byte, and for every file of at most 16,777,216 bytes.
 use Prim.Native.Nat.{ℕ, zero, suc, _%_, _≤_}
 use mathlib.Core.Path.{_≡_}
 use mathlib.Core.List.{List}
@@ -12,41 +12,40 @@ use Rattle.check_table.specs.declared.check.Checked.{Checked}
 use Rattle.check_table.specs.Rules.{checkTable}
 use Rattle.model.specs.Table.{Content, State, Has}
 use Rattle.layout.specs.Sizes.{headerSize}
-use Rattle.read.specs.Find.{Manner}
 use Rattle.image.specs.Image.{tableBytes, imageOf}
 use Rattle.image.specs.WellFormed.{Writable}
 use Rattle.image.specs.Laid.{Holds}
-use Rattle.laid.specs.Back.{endOf}
+use Rattle.laid.specs.Back.{Lay, endOf}
 
 -- the check of table t at `at`, by the pointer of its table chunk, passes: it opens, and no item breaks one of the six rules
-abbrev pub Passes : Manner → List ℕ → State → ℕ → ℕ → Type 0
-Passes manner file state t at = checkTable manner file at (endOf state t at) ≡ Checked.Sound
+abbrev pub Passes : Lay → List ℕ → State → ℕ → ℕ → Type 0
+Passes lay file state t at = checkTable (lay .manner) file at (endOf (lay .filter) state t at) ≡ Checked.Sound
 
 -- it passes, and so does every table nested in it, to the last level: the check covers the one table it is given, and lookup of a nested
 -- table's key answers the pointer by which that one is checked
-unfoldable pub AllPass : Manner → List ℕ → State → ℕ → ℕ → ℕ → Type 0
-AllPass manner file state zero t at = ⊥
-AllPass manner file state (suc d) t at =
-    Passes manner file state t at
+unfoldable pub AllPass : Lay → List ℕ → State → ℕ → ℕ → ℕ → Type 0
+AllPass lay file state zero t at = ⊥
+AllPass lay file state (suc d) t at =
+    Passes lay file state t at
     × ((i u : ℕ) → Has (state t .members) i → state t .content i ≡ Content.nested u
-    → (from : ℕ) × (lookupTable manner file at (endOf state t at) (state t .key i) ≡ Looked.Pointer from (endOf state u from))
-    × AllPass manner file state d u from)
+    → (from : ℕ) × (lookupTable (lay .manner) file at (endOf (lay .filter) state t at) (state t .key i) ≡ Looked.Pointer from (endOf (lay .filter) state u from))
+    × AllPass lay file state d u from)
 
 -- a table that may be written, wherever a file holds it at a multiple of 4, passes
 abbrev pub LaidTablePasses : Type 0
 LaidTablePasses =
-    (manner : Manner) (file : List ℕ) (state : State) (d t at : ℕ) → Holds file at (tableBytes (manner .byte) state (suc d) t at) → length file ≤ longestFile → at % 4 ≡ 0
-    → Writable state (suc d) t → Passes manner file state t at
+    (lay : Lay) (file : List ℕ) (state : State) (d t at : ℕ) → Holds file at (tableBytes (lay .manner .byte) (lay .filter) state (suc d) t at) → length file ≤ longestFile → at % 4 ≡ 0
+    → Writable state (suc d) t → Passes lay file state t at
 
 -- with every table nested in it
 abbrev pub LaidTablesAllPass : Type 0
 LaidTablesAllPass =
-    (manner : Manner) (file : List ℕ) (state : State) (d t at : ℕ) → Holds file at (tableBytes (manner .byte) state d t at) → length file ≤ longestFile → at % 4 ≡ 0
-    → Writable state d t → AllPass manner file state d t at
+    (lay : Lay) (file : List ℕ) (state : State) (d t at : ℕ) → Holds file at (tableBytes (lay .manner .byte) (lay .filter) state d t at) → length file ≤ longestFile → at % 4 ≡ 0
+    → Writable state d t → AllPass lay file state d t at
 
--- an image put to the front of a buffer that it fits: the root table, by the root pointer from 24 to 24 + 8 + 28n for n items, passes, and
+-- an image put to the front of a buffer that it fits: the root table, by the root pointer from 24 to 24 + 8 + 4w + 28n for w filter words and n items, passes, and
 -- every table nested in it
 abbrev pub ImagePasses : Type 0
 ImagePasses =
-    (manner : Manner) (state : State) (root : ℕ) → Writable state deepest root → (buffer : List ℕ) → length buffer ≤ longestFile
-    → length (imageOf (manner .byte) state root) ≤ length buffer → AllPass manner (putAt buffer 0 (imageOf (manner .byte) state root)) state deepest root headerSize
+    (lay : Lay) (state : State) (root : ℕ) → Writable state deepest root → (buffer : List ℕ) → length buffer ≤ longestFile
+    → length (imageOf (lay .manner .byte) (lay .filter) state root) ≤ length buffer → AllPass lay (putAt buffer 0 (imageOf (lay .manner .byte) (lay .filter) state root)) state deepest root headerSize

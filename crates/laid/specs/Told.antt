@@ -16,7 +16,7 @@ use Rattle.read.specs.Answer.{lookedNumber}
 use Rattle.read.specs.Find.{Manner}
 use Rattle.model.specs.Table.{Content, State, Has}
 use Rattle.image.specs.Index.{laidIndex}
-use Rattle.laid.specs.Back.{endOf, tableOpened}
+use Rattle.laid.specs.Back.{Lay, endOf, tableOpened}
 
 -- a lookup answers a stretch of the file, and just these bytes stand there: a value view is that stretch and no copy
 pub record Views (file : List ℕ) (looked : Looked) (value : List ℕ) : Type 0 where
@@ -31,32 +31,32 @@ pub record Both (manner : Manner) (file : List ℕ) (start end : ℕ) (key : Lis
   pub table : lookedNumber (lookupTable manner file start end key) ≡ n
 
 -- table t at `at`
-pub record TableBack (manner : Manner) (file : List ℕ) (state : State) (t at : ℕ) : Type 0 where
+pub record TableBack (lay : Lay) (file : List ℕ) (state : State) (t at : ℕ) : Type 0 where
   -- it opens, with as many items as the table has
-  pub opens : openTable file at (endOf state t at) ≡ Opened.Table (tableOpened state t at)
+  pub opens : openTable file at (endOf (lay .filter) state t at) ≡ Opened.Table (tableOpened (lay .filter) state t at)
   -- each item's key is listed at its index
-  pub lists : (i : ℕ) → Has (state t .members) i → keyAt file at (endOf state t at) (laidIndex (manner .byte) (state t) i) ≡ Joined.joined (state t .key i)
+  pub lists : (i : ℕ) → Has (state t .members) i → keyAt file at (endOf (lay .filter) state t at) (laidIndex (lay .manner .byte) (state t) i) ≡ Joined.joined (state t .key i)
   -- a value's key answers a view of its bytes; as a table 13, another kind than asked
   pub values : (i : ℕ) (value : List ℕ) → Has (state t .members) i → state t .content i ≡ Content.bytes value
-      → Views file (lookupValue manner file at (endOf state t at) (state t .key i)) value
+      → Views file (lookupValue (lay .manner) file at (endOf (lay .filter) state t at) (state t .key i)) value
   pub no-table : (i : ℕ) (value : List ℕ) → Has (state t .members) i → state t .content i ≡ Content.bytes value
-      → lookedNumber (lookupTable manner file at (endOf state t at) (state t .key i)) ≡ 13
+      → lookedNumber (lookupTable (lay .manner) file at (endOf (lay .filter) state t at) (state t .key i)) ≡ 13
   -- a nested table's key answers 13 as a value
   pub no-value : (i u : ℕ) → Has (state t .members) i → state t .content i ≡ Content.nested u
-      → lookedNumber (lookupValue manner file at (endOf state t at) (state t .key i)) ≡ 13
+      → lookedNumber (lookupValue (lay .manner) file at (endOf (lay .filter) state t at) (state t .key i)) ≡ 13
   -- a container's key answers 13 as a value and as a table
-  pub containers : (i : ℕ) → Has (state t .members) i → state t .content i ≡ Content.container → Both manner file at (endOf state t at) (state t .key i) 13
+  pub containers : (i : ℕ) → Has (state t .members) i → state t .content i ≡ Content.container → Both (lay .manner) file at (endOf (lay .filter) state t at) (state t .key i) 13
   -- a key that no item has answers 12, key not found
   pub absent : (key : List ℕ) → isUtf8 key ≡ true → ((i : ℕ) → Has (state t .members) i → state t .key i ≡ key → ⊥)
-      → Both manner file at (endOf state t at) key 12
+      → Both (lay .manner) file at (endOf (lay .filter) state t at) key 12
   -- a key that is not UTF-8 answers 8
-  pub not-text : (key : List ℕ) → isUtf8 key ≡ false → Both manner file at (endOf state t at) key 8
+  pub not-text : (key : List ℕ) → isUtf8 key ≡ false → Both (lay .manner) file at (endOf (lay .filter) state t at) key 8
 
 -- table t at `at`, and every table nested in it: its key answers, as a table, the pointer of its table chunk, and the same holds there
-unfoldable pub AllBack : Manner → List ℕ → State → ℕ → ℕ → ℕ → Type 0
-AllBack manner file state zero t at = ⊥
-AllBack manner file state (suc d) t at =
-    TableBack manner file state t at
+unfoldable pub AllBack : Lay → List ℕ → State → ℕ → ℕ → ℕ → Type 0
+AllBack lay file state zero t at = ⊥
+AllBack lay file state (suc d) t at =
+    TableBack lay file state t at
     × ((i u : ℕ) → Has (state t .members) i → state t .content i ≡ Content.nested u
-    → (from : ℕ) × (lookupTable manner file at (endOf state t at) (state t .key i) ≡ Looked.Pointer from (endOf state u from))
-    × AllBack manner file state d u from)
+    → (from : ℕ) × (lookupTable (lay .manner) file at (endOf (lay .filter) state t at) (state t .key i) ≡ Looked.Pointer from (endOf (lay .filter) state u from))
+    × AllBack lay file state d u from)

@@ -1,4 +1,4 @@
--- The limits of document 01.
+-- The limits of document 01, and of document 02 for the filter words.
 use Prim.Native.Nat.{ℕ}
 
 -- the bytes of a file
@@ -20,3 +20,7 @@ mostTables = 64
 -- the height of a table that holds others
 abbrev pub deepest : ℕ
 deepest = 8
+
+-- the filter words of a table that is laid
+abbrev pub mostFilter : ℕ
+mostFilter = 1024

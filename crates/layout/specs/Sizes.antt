@@ -13,10 +13,14 @@ headSize = 8
 abbrev pub bucketSize : ℕ
 bucketSize = 4
 
+-- a word of the filter
+abbrev pub filterSize : ℕ
+filterSize = 4
+
 -- the record of an item
 abbrev pub recordSize : ℕ
 recordSize = 24
 
--- a table as it is laid, without keys and values: a bucket for each of its n items
-unfoldable pub chunkSize : ℕ → ℕ
-chunkSize n = headSize + (bucketSize + recordSize) * n
+-- a table as it is laid, without keys and values: so many filter words, and a bucket for each of its n items
+unfoldable pub chunkSize : ℕ → ℕ → ℕ
+chunkSize filter n = headSize + filterSize * filter + (bucketSize + recordSize) * n

@@ -1,4 +1,4 @@
-// The limits of document 01.
+// The limits of document 01, and of document 02 for the filter words.
 
 // The bytes of a file.
 pub const LONGEST_FILE: usize = 16_777_216;
@@ -14,3 +14,6 @@ pub const MOST_TABLES: usize = 64;
 
 // The height of a table that holds others.
 pub const DEEPEST: usize = 8;
+
+// The filter words of a table that is laid.
+pub const MOST_FILTER: usize = 1024;

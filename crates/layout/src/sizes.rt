@@ -9,6 +9,9 @@ pub const HEAD_SIZE: usize = 8;
 // The word of a bucket.
 pub const BUCKET_SIZE: usize = 4;
 
+// A word of the filter.
+pub const FILTER_SIZE: usize = 4;
+
 // The record of an item.
 pub const RECORD_SIZE: usize = 24;
 

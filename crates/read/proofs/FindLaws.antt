@@ -9,7 +9,7 @@ use lib.Dec.{leb, eqb}
 use borrow.Author.Tests.{leb-true, leb-false, le-leb, lt-leb, eqb-true, eqb-false, eq-eqb, ne-eqb}
 use Rattle.words.specs.Choice.{pick}
 use Rattle.words.specs.Field.{wordAt}
-use Rattle.words.specs.Bits.{bitSet}
+use Rattle.words.specs.Bits.{bitSet, bloomShift}
 use Rattle.words.specs.Hash.{hashBy}
 use Rattle.words.proofs.ChoiceLaws.{pick-with}
 use Rattle.layout.specs.declared.table.Table.{Table}
@@ -17,22 +17,23 @@ use Rattle.layout.specs.declared.item.Item.{Item}
 use Rattle.layout.specs.Item.{itemAt}
 use Rattle.read.specs.declared.lookup.Run.{Run}
 use Rattle.read.specs.declared.lookup.Found.{Found}
+use Rattle.read.specs.declared.manner.Lookup.{Lookup}
 use Rattle.read.specs.Chain.{Joined, keyOf, names}
-use Rattle.read.specs.Find.{Manner, rust, bloomPasses, runOf, itemMatches, firstFrom, firstOf, findItem}
+use Rattle.read.specs.Find.{Manner, shiftOf, bloomPasses, runOf, itemMatches, firstFrom, firstOf, findItem}
 use Rattle.read.proofs.ChainLaws.{names-joined, joined-names}
-
-both-same : (b : Bool) → (b && b) ≡ b
-both-same true = refl
-both-same false = refl
 
 -- ---- the cases of the definition, with the hash at hand
 
-pub bloom-word : (file : List ℕ) (t : Table) (hash : ℕ) {wide word : ℕ} → wide ≡ hash → (t .blooms ≡ 0 → ⊥)
-    → word ≡ wordAt file (t .start + 8 + 4 * (wide / 32 % t .blooms)) → bitSet word (hash % 32) ≡ bloomPasses (rust .shift) file t hash
+-- the strict lookup's shift
+pub strict-shift : {lookup : Lookup} {first by is : ℕ} → lookup ≡ Lookup.Strict → first ≡ is → by ≡ bloomShift first → first < 2 ^ 32 → (by ≡ shiftOf lookup is) × (by < 32)
+unfolding shiftOf bloomShift
+strict-shift strict same e small = (rw (strict, ← same) e, omega arith)
+
+pub bloom-word : (shift : ℕ → ℕ) (file : List ℕ) (t : Table) (hash : ℕ) {wide word by : ℕ} {one two : Bool} → wide ≡ hash → (t .blooms ≡ 0 → ⊥)
+    → word ≡ wordAt file (t .start + 8 + 4 * (wide / 32 % t .blooms)) → by ≡ shift (wordAt file (t .start))
+    → one ≡ bitSet word (hash % 32) → two ≡ bitSet word (hash / 2 ^ by % 32) → (one && two) ≡ bloomPasses shift file t hash
 unfolding bloomPasses pick
-bloom-word file t hash same some e =
-    let none : hash / 2 ^ 0 ≡ hash = omega arith in
-    rw (ne-eqb _ _ some, e, same, none) (sym (both-same (bitSet (wordAt file (t .start + 8 + 4 * (hash / 32 % t .blooms))) (hash % 32))))
+bloom-word shift file t hash same some e shifts first second = rw (ne-eqb _ _ some, first, second, e, same, shifts)
 
 module _ (manner : Manner) (file : List ℕ) (t : Table) (key : List ℕ) where
   -- the test of an item, whose fields are at hand

@@ -5,11 +5,12 @@ use mathlib.Core.Bool.{Bool, true, false, _&&_}
 use lib.Dec.{ltb, leb, eqb}
 use Rattle.words.specs.Choice.{pick}
 use Rattle.words.specs.Field.{wordAt}
-use Rattle.words.specs.Bits.{bitSet}
+use Rattle.words.specs.Bits.{bitSet, bloomShift}
 use Rattle.words.specs.Hash.{hashBy, plain, ruleOf}
 use Rattle.layout.specs.declared.table.Table.{Table}
 use Rattle.layout.specs.Item.{itemAt}
 use Rattle.read.specs.declared.manner.Manner as code
+use Rattle.read.specs.declared.manner.Lookup.{Lookup}
 use Rattle.read.specs.declared.lookup.Run.{Run}
 use Rattle.read.specs.declared.lookup.Found.{Found}
 use Rattle.read.specs.Chain.{keyOf, names}
@@ -19,13 +20,18 @@ pub record Manner : Type 0 where
   pub byte : ℕ → ℕ
   pub shift : ℕ → ℕ
 
--- the Rust's: bytes count 0 to 255, and nothing is shifted, so that the second bit is the first
+-- by how much a lookup shifts: the Rust's not at all, so that the second bit is the first; the strict one by the top five bits of the table's first word
+unfoldable pub shiftOf : Lookup → ℕ → ℕ
+shiftOf Lookup.Rust first = 0
+shiftOf Lookup.Strict first = bloomShift first
+
+-- the Rust's manner: bytes count 0 to 255, and nothing is shifted
 abbrev pub rust : Manner
-rust = record { byte = plain; shift = λ first. 0 }
+rust = record { byte = plain; shift = shiftOf Lookup.Rust }
 
 -- the manner that the code names
 abbrev pub mannerOf : code.Manner → Manner
-mannerOf m = record { byte = ruleOf (m .form); shift = λ first. 0 }
+mannerOf m = record { byte = ruleOf (m .form); shift = shiftOf (m .lookup) }
 
 -- with bloom words, two bits of word (hash / 32) modulo their number have to be set: (hash modulo 32), and (hash shifted) modulo 32
 unfoldable pub bloomPasses : (ℕ → ℕ) → List ℕ → Table → ℕ → Bool

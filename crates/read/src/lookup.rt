@@ -1,5 +1,6 @@
 // Looking a key up: the bloom test, the bucket, its run, and what the item found points to.
 use crate::chain::chain_names;
+use crate::manner::Lookup;
 use crate::manner::Manner;
 use layout::item::Item;
 use layout::item::item_at;
@@ -15,16 +16,18 @@ use text::utf8::first_bad;
 use text::utf8::is_utf8;
 use words::align::Alignment;
 use words::bits::bit_set;
+use words::bits::bloom_shift;
 use words::field::word_at;
 use words::hash::hash_key;
 use words::wide::word_size;
 ghost use mathlib.Core.Path.{_≡_};
 ghost use mathlib.Core.Bool.{true};
 ghost use Prim.Native.Nat.{_<_};
+ghost use Rattle.words.specs.Field.{wordAt};
 ghost use Rattle.words.specs.Hash.{hashBy, ruleOf};
 ghost use Rattle.text.specs.Utf8.{isUtf8};
 ghost use Rattle.layout.specs.Table.{InFile};
-ghost use Rattle.read.specs.Find.{rust, mannerOf, bloomPasses, runOf, itemMatches, firstOf, findItem};
+ghost use Rattle.read.specs.Find.{shiftOf, mannerOf, bloomPasses, runOf, itemMatches, firstOf, findItem};
 ghost use Rattle.read.specs.Lookup.{lookupIn, valueOf, nestedOf, lookupValue, lookupTable, atItem};
 
 // The items of one bucket: the indices from `first` up to `last`.
@@ -51,11 +54,23 @@ pub enum Looked {
     Refused(Refusal),
 }
 
+// gvdb-rs: bloom_shift, which is 0 there.
+// By how much a lookup shifts the hash for the filter's second bit.
+fn shift_of(file: &[u8], table: Table, lookup: Lookup) -> u32
+    requires { ⌜ InFile (now file) table ⌝ }
+    ensures { λ r. ⌜ (r ≡ shiftOf lookup (wordAt (now (file .entry)) (table .start))) × (r < 32) ⌝ }
+{
+    match lookup {
+        Lookup::Rust => 0,
+        Lookup::Strict => bloom_shift(word_at(file, table.start)),
+    }
+}
+
 // gvdb-rs: bloom_filter.
 // Whether a hash may be in the table, by its bloom words.
-pub fn bloom_passes(file: &[u8], table: Table, hash: u32) -> bool
+pub fn bloom_passes(file: &[u8], table: Table, hash: u32, lookup: Lookup) -> bool
     requires { ⌜ InFile (now file) table ⌝ }
-    ensures { λ r. ⌜ r ≡ bloomPasses (rust .shift) (now (file .entry)) table hash ⌝ }
+    ensures { λ r. ⌜ r ≡ bloomPasses (shiftOf lookup) (now (file .entry)) table hash ⌝ }
 {
     let blooms = table.blooms;
     if blooms == 0 {
@@ -63,7 +78,8 @@ pub fn bloom_passes(file: &[u8], table: Table, hash: u32) -> bool
     }
     let position = word_size(hash) / 32 % blooms;
     let word = word_at(file, table.start + 8 + 4 * position);
-    bit_set(word, hash)
+    let shifted = hash >> shift_of(file, table, lookup);
+    bit_set(word, hash) & bit_set(word, shifted)
 }
 
 // The run of a bucket.
@@ -140,8 +156,9 @@ pub fn find_item(file: &[u8], table: Table, key: &[u8], manner: Manner) -> Found
         return Found::Nothing;
     }
     let form = manner.form;
+    let lookup = manner.lookup;
     let hash = hash_key(key, form);
-    if bloom_passes(file, table, hash) {
+    if bloom_passes(file, table, hash, lookup) {
         let run = run_of(file, table, word_size(hash) % buckets);
         first_of(file, table, hash, run, key, manner)
     } else {

@@ -29,9 +29,9 @@ filtered =
     ++ (97 ∷ 65 ∷ 0 ∷ 0 ∷ 1 ∷ 0 ∷ 0 ∷ 0 ∷ 0 ∷ 0 ∷ 0 ∷ 0 ∷ 2 ∷ [])
 
 pub second-word : lookupValue rust filtered 0 68 (65 ∷ []) ≡ Looked.Pointer 80 81
-unfolding filtered openTable openPointer tableIn tableOf bloomCount bitSet field fields.littleEndian pick keyOf joinStep append climbFrom afterPointer parentOf fragmentOf isUtf8 firstBad goodFrom oneMore stepLen sequenceLen firstOf isTwo startsThree startsFour tail between sameBytes itemAt names hashBy hashFrom bloomPasses bucketWord runOf itemMatches firstFrom find.firstOf findItem atFound lookupIn atOpened lookupItem atItem atPointer valueOf lookupValue
+unfolding filtered openTable openPointer tableIn tableOf bloomCount bitSet field fields.littleEndian pick keyOf joinStep append climbFrom afterPointer parentOf fragmentOf isUtf8 firstBad goodFrom oneMore stepLen sequenceLen firstOf isTwo startsThree startsFour tail between sameBytes itemAt names hashBy hashFrom bloomPasses bucketWord runOf itemMatches firstFrom find.shiftOf find.firstOf findItem atFound lookupIn atOpened lookupItem atItem atPointer valueOf lookupValue
 second-word = refl
 
 pub first-word : lookedNumber (lookupValue rust filtered 0 68 (97 ∷ [])) ≡ 12
-unfolding filtered openTable openPointer tableIn tableOf bloomCount bitSet field fields.littleEndian pick keyOf joinStep append climbFrom afterPointer parentOf fragmentOf isUtf8 firstBad goodFrom oneMore stepLen sequenceLen firstOf isTwo startsThree startsFour tail between sameBytes itemAt names hashBy hashFrom bloomPasses bucketWord runOf itemMatches firstFrom find.firstOf findItem atFound lookupIn atOpened lookupItem atItem atPointer valueOf lookupValue lookedNumber
+unfolding filtered openTable openPointer tableIn tableOf bloomCount bitSet field fields.littleEndian pick keyOf joinStep append climbFrom afterPointer parentOf fragmentOf isUtf8 firstBad goodFrom oneMore stepLen sequenceLen firstOf isTwo startsThree startsFour tail between sameBytes itemAt names hashBy hashFrom bloomPasses bucketWord runOf itemMatches firstFrom find.shiftOf find.firstOf findItem atFound lookupIn atOpened lookupItem atItem atPointer valueOf lookupValue lookedNumber
 first-word = refl

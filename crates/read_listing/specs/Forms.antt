@@ -5,13 +5,14 @@ use mathlib.Core.Bool.{true}
 use mathlib.Core.List.{List}
 use Rattle.words.specs.Hash.{signed}
 use Rattle.text.specs.Ascii.{isAscii}
-use Rattle.read.specs.Find.{Manner, rust}
+use Rattle.read.specs.declared.manner.Lookup.{Lookup}
+use Rattle.read.specs.Find.{Manner, shiftOf, rust}
 use Rattle.read.specs.Lookup.{lookupValue, lookupTable}
 use Rattle.read_listing.specs.Children.{nextChild}
 
 -- GLib's: bytes count -128 to 127, and nothing is shifted
 abbrev pub glib : Manner
-glib = record { byte = signed; shift = λ first. 0 }
+glib = record { byte = signed; shift = shiftOf Lookup.Rust }
 
 -- the statement
 abbrev pub AsciiLookups : Type 0

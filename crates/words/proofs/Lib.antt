@@ -4,3 +4,4 @@ pub mod StoreLaws
 pub mod FieldLaws
 pub mod HashLaws
 pub mod AlignLaws
+pub mod BitLaws

@@ -46,7 +46,7 @@ fn said(room: usize, written: GvdbImage) {
 // Writes a table into so many bytes of a buffer, in a manner.
 fn write(words: &mut [usize], arena: &[u8], buffer: &mut [u8], room: usize, manner: u32) {
     if room <= buffer.len() {
-        let written = gvdb_write(words, arena, 0, &mut buffer[..room], manner);
+        let written = gvdb_write(words, arena, 0, &mut buffer[..room], manner, 0);
         said(room, written);
     }
 }
@@ -134,7 +134,7 @@ fn children() {
     start(&mut words, &mut arena, b"/");
     insert(&mut words, &mut arena, 0, b"a/c", b"");
     insert(&mut words, &mut arena, 0, b"a/b", b"");
-    let written = gvdb_write(&mut words, &arena, 0, &mut buffer, 0);
+    let written = gvdb_write(&mut words, &arena, 0, &mut buffer, 0, 0);
     said(160, written);
     child(&buffer, written.start, written.end, 0);
     child(&buffer, written.start, written.end, 1);

@@ -2,6 +2,7 @@
 use crate::say;
 use read::layered::Source;
 use read::layered::lookup_layered;
+use read::manner::Lookup;
 use read::manner::Manner;
 use view_through::through::layered_bytes;
 use words::field::word_at;
@@ -24,7 +25,10 @@ fn lookup<'a, 'k>(
     dend: u32,
     key: &'k [u8],
 ) {
-    let base = Manner { form: Form::Plain };
+    let base = Manner {
+        form: Form::Plain,
+        lookup: Lookup::Rust,
+    };
     let layered = lookup_layered(owner, ostart, oend, district, dstart, dend, key, base, base);
     let from = layered.from;
     let looked = layered.looked;

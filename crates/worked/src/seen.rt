@@ -1,5 +1,6 @@
 // Values as views show them: the bytes themselves, looked up through a view of the file, and none on a refusal.
 use crate::say;
+use read::manner::Lookup;
 use read::manner::Manner;
 use words::hash::Form;
 
@@ -13,7 +14,10 @@ fn value(file: &[u8], start: u32, end: u32, key: &[u8]) {
         start,
         end,
         key,
-        Manner { form: Form::Plain },
+        Manner {
+            form: Form::Plain,
+            lookup: Lookup::Rust,
+        },
     ));
     say::end();
 }
@@ -31,7 +35,10 @@ fn nested(file: &[u8], start: u32, end: u32, table: &[u8], key: &[u8]) {
         end,
         table,
         key,
-        Manner { form: Form::Plain },
+        Manner {
+            form: Form::Plain,
+            lookup: Lookup::Rust,
+        },
     ));
     say::end();
 }

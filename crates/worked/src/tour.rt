@@ -5,6 +5,7 @@ use layout::refusal::Refusal;
 use layout::refusal::bad_at;
 use layout::refusal::number_of;
 use read::lookup::Looked;
+use read::manner::Lookup;
 use read::manner::Manner;
 use read_listing::listing::Cursor;
 use read_listing::listing::Listed;
@@ -88,7 +89,10 @@ fn lookup(file: &[u8], start: u32, end: u32, key: &[u8]) {
     say::text(b"  lookup of ");
     say::bytes(key);
     say::text(b"as a value:");
-    let base = Manner { form: Form::Plain };
+    let base = Manner {
+        form: Form::Plain,
+        lookup: Lookup::Rust,
+    };
     looked(read::lookup::lookup_value(file, start, end, key, base));
     say::text(b"; as a table:");
     looked(read::lookup::lookup_table(file, start, end, key, base));
@@ -98,7 +102,10 @@ fn lookup(file: &[u8], start: u32, end: u32, key: &[u8]) {
 // What the check says of the root table.
 fn check(file: &[u8], start: u32, end: u32) {
     say::text(b"  check: ");
-    let base = Manner { form: Form::Plain };
+    let base = Manner {
+        form: Form::Plain,
+        lookup: Lookup::Rust,
+    };
     match check_table::check::check_table(file, start, end, base) {
         Checked::Sound => say::text(b"sound"),
         Checked::Broken { rule, item } => {

@@ -38,10 +38,11 @@ module _ (numbered arena : List ℕ) (fits : NumberedFits numbered arena) (f g :
       kind-same (slotKind numbered s) (part arena (slotValueWord numbered s) (slotValueSize numbered s)) (f (slotValueWord numbered s) at) (g (slotValueWord numbered s) at)
       (wordsOf (λ j. childWord numbered (slotValueWord numbered s + j)) (slotValueSize numbered s)) (λ e. same (slotValueWord numbered s) at (fits .slots s l .guest e))
 
-  inner-same : (t : ℕ) → t < mostTables → SamePlan (numberedPlan f numbered arena t) (numberedPlan g numbered arena t)
+  inner-same : (filter t : ℕ) → t < mostTables → SamePlan (numberedPlan f numbered arena filter t) (numberedPlan g numbered arena filter t)
   unfolding numberedPlan slotCover
-  inner-same t l = record {
+  inner-same filter t l = record {
     count = refl;
+    filter = refl;
     first = λ b h. refl;
     hash = λ k h. refl;
     parent = λ k h. refl;
@@ -54,20 +55,20 @@ module _ (numbered arena : List ℕ) (fits : NumberedFits numbered arena) (f g :
 
 -- ---- the theorem
 
-module _ {rule : ℕ → ℕ} (ws ar numbered : List ℕ) (s : NumberedAs rule ws ar numbered) where
-  pub numbered-bytes : (d t at : ℕ) → t < mostTables → numberedBytes numbered ar d t at ≡ tableBytes rule (stateOf ws ar) d t at
+module _ {rule : ℕ → ℕ} (filter : ℕ) (ws ar numbered : List ℕ) (s : NumberedAs rule ws ar numbered) where
+  pub numbered-bytes : (d t at : ℕ) → t < mostTables → numberedBytes filter numbered ar d t at ≡ tableBytes rule filter (stateOf ws ar) d t at
   unfolding numberedBytes tableBytes
   numbered-bytes zero t at l = refl
   numbered-bytes (suc d) t at l =
-      let f : ℕ → ℕ → List ℕ = λ u start. numberedBytes numbered ar d u start in
-      let g : ℕ → ℕ → List ℕ = λ u start. tableBytes rule (stateOf ws ar) d u start in
-      plan-same (numberedPlan f numbered ar t) (numberedPlan g numbered ar t) (inner-same numbered ar (s .fits) f g (λ u start h. numbered-bytes d u start h) t l) at
-      ∙ plan-same (numberedPlan g numbered ar t) (planOf rule g (stateOf ws ar) (stateOf ws ar t)) (s .plans g t l) at
+      let f : ℕ → ℕ → List ℕ = λ u start. numberedBytes filter numbered ar d u start in
+      let g : ℕ → ℕ → List ℕ = λ u start. tableBytes rule filter (stateOf ws ar) d u start in
+      plan-same (numberedPlan f numbered ar filter t) (numberedPlan g numbered ar filter t) (inner-same numbered ar (s .fits) f g (λ u start h. numbered-bytes d u start h) filter t l) at
+      ∙ plan-same (numberedPlan g numbered ar filter t) (planOf rule filter g (stateOf ws ar) (stateOf ws ar t)) (s .plans filter g t l) at
 
-  pub numbered-image : (t : ℕ) → t < mostTables → numberedImage numbered ar t ≡ imageFor rule ws ar t
+  pub numbered-image : (t : ℕ) → t < mostTables → numberedImage filter numbered ar t ≡ imageFor rule filter ws ar t
   unfolding numberedImage imageFor imageOf
   numbered-image t l = ap (λ (bytes : List ℕ). zeros headerSize ++ bytes) (numbered-bytes deepest t headerSize l)
 
   pub numbered-count : (t : ℕ) → t < mostTables → slotCount numbered t ≡ length (stateOf ws ar t .members)
   unfolding numberedPlan planOf
-  numbered-count t l = s .plans (λ u at. zeros 0) t l .count
+  numbered-count t l = s .plans filter (λ u at. zeros 0) t l .count

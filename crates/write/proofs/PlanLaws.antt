@@ -137,40 +137,42 @@ module _ (form : Form) (ws ar roster order firsts a b numbered : List ℕ) (r : 
           words-same (λ j. childWord numbered (getD firsts (i + 1) 0 + j)) (λ j. laidIndex (ruleOf form) (stateOf ws ar t) (getD (childItems ws (i + 1) (itemTotal ws)) j 0)) (length (childItems ws (i + 1) (itemTotal ws))) kid-word
           ∙ children-words (ruleOf form) (stateOf ws ar t) (childItems ws (i + 1) (itemTotal ws)) ∙ ap (childWords (ruleOf form) (stateOf ws ar t)) (sym (children-child-items ws ar r t i l own))
 
-      value-is : (inner : ℕ → ℕ → List ℕ) (at : ℕ) → slotValue inner numbered ar s at ≡ valueOf (ruleOf form) inner (stateOf ws ar) (stateOf ws ar t) i (stateOf ws ar t .content i) at
+      value-is : (filter : ℕ) (inner : ℕ → ℕ → List ℕ) (at : ℕ) → slotValue inner numbered ar s at ≡ valueOf (ruleOf form) filter inner (stateOf ws ar) (stateOf ws ar t) i (stateOf ws ar t .content i) at
       unfolding slotValue valueOf
-      value-is inner at =
+      value-is filter inner at =
           rw (w4, w5, w6)
-          (by-content ws ar roster r ro t i l own (λ (x : Content). valueOf (ruleOf form) inner (stateOf ws ar) (stateOf ws ar t) i x at)
+          (by-content ws ar roster r ro t i l own (λ (x : Content). valueOf (ruleOf form) filter inner (stateOf ws ar) (stateOf ws ar t) i x at)
           (part ar (startOf ws firsts i) (sizeOf ws firsts i)) (inner (startOf ws firsts i) at) (wordsOf (λ j. childWord numbered (startOf ws firsts i + j)) (sizeOf ws firsts i))
           (λ e. rw (← (start-value ws firsts i (itemKind ws i) refl e (valueStart ws i) refl), ← (size-value ws firsts i (itemKind ws i) refl e (valueSize ws i) refl)))
           (λ e. rw (← (start-guest ws firsts i (itemKind ws i) refl e (itemGuest ws i) refl)))
           (λ e. rw (siblings-start e, siblings-size e) child-items-words))
 
-      covers-is : (inner : ℕ → ℕ → List ℕ) → slotCover numbered s ≡ coversOf (ruleOf form) inner (stateOf ws ar) (stateOf ws ar t) i (stateOf ws ar t .content i)
+      covers-is : (filter : ℕ) (inner : ℕ → ℕ → List ℕ) → slotCover filter numbered s ≡ coversOf (ruleOf form) filter inner (stateOf ws ar) (stateOf ws ar t) i (stateOf ws ar t .content i)
       unfolding slotCover coversOf
-      covers-is inner =
+      covers-is filter inner =
           rw (w4, w5, w6)
-          (by-content ws ar roster r ro t i l own (λ (x : Content). coversOf (ruleOf form) inner (stateOf ws ar) (stateOf ws ar t) i x)
-          (sizeOf ws firsts i) (chunkSize (slotCount numbered (startOf ws firsts i))) (4 * sizeOf ws firsts i)
+          (by-content ws ar roster r ro t i l own (λ (x : Content). coversOf (ruleOf form) filter inner (stateOf ws ar) (stateOf ws ar t) i x)
+          (sizeOf ws firsts i) (chunkSize filter (slotCount numbered (startOf ws firsts i))) (4 * sizeOf ws firsts i)
           (λ e. sym (size-value ws firsts i (itemKind ws i) refl e (valueSize ws i) refl) ∙ sym (length-part ar (valueStart ws i) (valueSize ws i) (r .value i l e)))
-          (λ e. ap chunkSize (ap (slotCount numbered) (sym (start-guest ws firsts i (itemKind ws i) refl e (itemGuest ws i) refl)) ∙ members-is (itemGuest ws i) (r .guest i l e)))
+          (λ e. ap (chunkSize filter) (ap (slotCount numbered) (sym (start-guest ws firsts i (itemKind ws i) refl e (itemGuest ws i) refl)) ∙ members-is (itemGuest ws i) (r .guest i l e)))
           (λ e. ap (λ (n : ℕ). 4 * n) (siblings-size e ∙ ap length (sym (children-child-items ws ar r t i l own)))))
 
   -- ---- the tables
 
-  plan-is : (inner : ℕ → ℕ → List ℕ) (t : ℕ) → t < mostTables → SamePlan (numberedPlan inner numbered ar t) (planOf (ruleOf form) inner (stateOf ws ar) (stateOf ws ar t))
+  plan-is : (filter : ℕ) (inner : ℕ → ℕ → List ℕ) (t : ℕ) → t < mostTables
+      → SamePlan (numberedPlan inner numbered ar filter t) (planOf (ruleOf form) filter inner (stateOf ws ar) (stateOf ws ar t))
   unfolding numberedPlan planOf
-  plan-is inner t h = record {
+  plan-is filter inner t h = record {
     count = members-is t h;
+    filter = refl;
     first = λ k l. w7 (firstSlot numbered t + k) (it k) (item k l) (slot k l) ∙ ap (λ (n : ℕ). bucketWord roster (n + k)) (first-is t h) ∙ ro .buckets t k h (low k l);
     hash = λ k l. w0 (firstSlot numbered t + k) (it k) (item k l) (slot k l) ∙ hash-is ws ar roster r ro t (it k) (item k l) (own k l) form;
     parent = λ k l. w1 (firstSlot numbered t + k) (it k) (item k l) (slot k l) ∙ parent-is ws ar roster r ro t (it k) (item k l) (own k l);
     fragment = λ k l. rw (w2 (firstSlot numbered t + k) (it k) (item k l) (slot k l), w3 (firstSlot numbered t + k) (it k) (item k l) (slot k l)) (fragment-is ws ar roster r ro t (it k) (item k l) (own k l));
     kind = λ k l. w4 (firstSlot numbered t + k) (it k) (item k l) (slot k l) ∙ kind-is ws ar roster r ro t (it k) (item k l) (own k l);
     align = λ k l. rw (w4 (firstSlot numbered t + k) (it k) (item k l) (slot k l)) (by-content ws ar roster r ro t (it k) (item k l) (own k l) alignOf 8 4 4 (λ e. refl) (λ e. refl) (λ e. refl));
-    value = λ k at l. value-is (firstSlot numbered t + k) (it k) (item k l) (slot k l) t (own k l) inner at;
-    covers = λ k l. covers-is (firstSlot numbered t + k) (it k) (item k l) (slot k l) t (own k l) inner;
+    value = λ k at l. value-is (firstSlot numbered t + k) (it k) (item k l) (slot k l) t (own k l) filter inner at;
+    covers = λ k l. covers-is (firstSlot numbered t + k) (it k) (item k l) (slot k l) t (own k l) filter inner;
   }
     where
       it : ℕ → ℕ

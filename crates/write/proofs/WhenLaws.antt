@@ -14,8 +14,8 @@ use Rattle.words.specs.Store.{putAt, zeros}
 use Rattle.words.proofs.ChoiceLaws.{both}
 use Rattle.words.proofs.BelowLaws.{some-below, below-some}
 use Rattle.words.proofs.StoreLaws.{part-put, drop-after, length-zeros}
-use Rattle.layout.specs.declared.refusal.Refusal.the-variants.{MemoryBroken, TableUnknown, EmptyKey, ImageTooLong}
-use Rattle.layout.specs.Limits.{longestFile, deepest}
+use Rattle.layout.specs.declared.refusal.Refusal.the-variants.{MemoryBroken, TableUnknown, TooManyFilterWords, EmptyKey, ImageTooLong}
+use Rattle.layout.specs.Limits.{longestFile, deepest, mostFilter}
 use Rattle.layout.specs.Sizes.{headerSize}
 use Rattle.model.specs.Table.{Content, State}
 use Rattle.build_memory.specs.Memory.{tableTotal, tablePlaced}
@@ -75,9 +75,10 @@ module _ (state : State) where
       let s = index-stands (state t .members) i has in
       below-some _ (length (state t .members)) (indexIn (state t .members) i) (s .within) (rw (s .is) (held-found d (empty-found d) _ _ why))
 
-pub write-30-plain : (rule : ℕ → ℕ) (ws ar : List ℕ) (t room : ℕ) → fullyValid ws ar ≡ true → t < tableTotal ws → tablePlaced ws t ≡ 0 → EmptyIn (stateOf ws ar) deepest t
-    → writtenNumber (writeAnswer rule ws ar t room) ≡ 30
-write-30-plain rule ws ar t room ok known loose empty = write-30 rule ws ar t room ok known loose (empty-found (stateOf ws ar) deepest t empty)
+pub write-30-plain : (rule : ℕ → ℕ) (filter : ℕ) (ws ar : List ℕ) (t room : ℕ) → fullyValid ws ar ≡ true → t < tableTotal ws → tablePlaced ws t ≡ 0 → filter ≤ mostFilter
+    → EmptyIn (stateOf ws ar) deepest t
+    → writtenNumber (writeAnswer rule filter ws ar t room) ≡ 30
+write-30-plain rule filter ws ar t room ok known loose few empty = write-30 rule filter ws ar t room ok known loose few (empty-found (stateOf ws ar) deepest t empty)
 
 -- ---- exactly when a write succeeds
 
@@ -86,34 +87,38 @@ neither true q e = never (sym e)
 neither false q e = (refl, e)
 
 -- no test refused
-record Passed (whole free empty file room : Bool) : Type 0 where
+record Passed (whole free many empty file room : Bool) : Type 0 where
   pub whole-is : whole ≡ true
   pub free-is : free ≡ true
+  pub many-is : many ≡ false
   pub empty-is : empty ≡ false
   pub file-is : file ≡ false
   pub room-is : room ≡ false
 
-passed : (whole free empty file room : Bool) (good : Written)
-    → writtenNumber (pick whole (pick free (pick empty (Written.Refused EmptyKey) (pick (file || room) (Written.Refused ImageTooLong) good)) (Written.Refused TableUnknown)) (Written.Refused MemoryBroken)) ≡ 0
-    → Passed whole free empty file room
+passed : (whole free many empty file room : Bool) (good : Written)
+    → writtenNumber (pick whole (pick free (pick many (Written.Refused TooManyFilterWords) (pick empty (Written.Refused EmptyKey) (pick (file || room) (Written.Refused ImageTooLong) good)))
+    (Written.Refused TableUnknown)) (Written.Refused MemoryBroken)) ≡ 0
+    → Passed whole free many empty file room
 unfolding writtenNumber pick
-passed false free empty file room good e = absurd (omega (arith, e))
-passed true false empty file room good e = absurd (omega (arith, e))
-passed true true true file room good e = absurd (omega (arith, e))
-passed true true false true room good e = absurd (omega (arith, e))
-passed true true false false true good e = absurd (omega (arith, e))
-passed true true false false false good e = record { whole-is = refl; free-is = refl; empty-is = refl; file-is = refl; room-is = refl }
+passed false free many empty file room good e = absurd (omega (arith, e))
+passed true false many empty file room good e = absurd (omega (arith, e))
+passed true true true empty file room good e = absurd (omega (arith, e))
+passed true true false true file room good e = absurd (omega (arith, e))
+passed true true false false true room good e = absurd (omega (arith, e))
+passed true true false false false true good e = absurd (omega (arith, e))
+passed true true false false false false good e = record { whole-is = refl; free-is = refl; many-is = refl; empty-is = refl; file-is = refl; room-is = refl }
 
-module _ (rule : ℕ → ℕ) (ws ar : List ℕ) (t room : ℕ) where
-  succeeds : writtenNumber (writeAnswer rule ws ar t room) ≡ 0 → MayWrite rule ws ar t room
+module _ (rule : ℕ → ℕ) (filter : ℕ) (ws ar : List ℕ) (t room : ℕ) where
+  succeeds : writtenNumber (writeAnswer rule filter ws ar t room) ≡ 0 → MayWrite rule filter ws ar t room
   unfolding writeAnswer tooLong freeStanding
   succeeds e =
-      let p = passed (fullyValid ws ar) (ltb t (tableTotal ws) && eqb (tablePlaced ws t) 0) (hasEmpty (stateOf ws ar) deepest t) (ltb longestFile (length (imageFor rule ws ar t))) (ltb room (length (imageFor rule ws ar t))) _ e in
+      let p = passed (fullyValid ws ar) (ltb t (tableTotal ws) && eqb (tablePlaced ws t) 0) (ltb mostFilter filter) (hasEmpty (stateOf ws ar) deepest t) (ltb longestFile (length (imageFor rule filter ws ar t))) (ltb room (length (imageFor rule filter ws ar t))) _ e in
       let (known, loose) = both (ltb t (tableTotal ws)) (eqb (tablePlaced ws t) 0) (p .free-is) in
       record {
         whole = p .whole-is;
         known = ltb-true _ _ known;
         loose = eqb-true _ _ loose;
+        few = ltb-false _ _ (p .many-is);
         named = λ empty. never (sym (p .empty-is) ∙ empty-found (stateOf ws ar) deepest t empty);
         short = ltb-false _ _ (p .file-is);
         fits = ltb-false _ _ (p .room-is);
@@ -123,41 +128,41 @@ module _ (rule : ℕ → ℕ) (ws ar : List ℕ) (t room : ℕ) where
   not-empty none true e = absurd (none (empty-says (stateOf ws ar) deepest t e))
   not-empty none false e = e
 
-  written : (m : MayWrite rule ws ar t room) → writeAnswer rule ws ar t room ≡ Written.Image 24 (24 + (8 + 28 * length (stateOf ws ar t .members))) (length (imageFor rule ws ar t))
-  written m = write-0 rule ws ar t room (m .whole) (m .known) (m .loose) (not-empty (m .named) _ refl) (m .short) (m .fits)
+  written : (m : MayWrite rule filter ws ar t room) → writeAnswer rule filter ws ar t room ≡ Written.Image 24 (24 + (8 + 4 * filter + 28 * length (stateOf ws ar t .members))) (length (imageFor rule filter ws ar t))
+  written m = write-0 rule filter ws ar t room (m .whole) (m .known) (m .loose) (m .few) (not-empty (m .named) _ refl) (m .short) (m .fits)
 
 pub succeeds-exactly : SucceedsExactly
 unfolding writtenNumber
-succeeds-exactly rule ws ar t room = (succeeds rule ws ar t room, λ m. ap writtenNumber (written rule ws ar t room m))
+succeeds-exactly rule filter ws ar t room = (succeeds rule filter ws ar t room, λ m. ap writtenNumber (written rule filter ws ar t room m))
 
 -- ---- what it leaves
 
-module _ (rule : ℕ → ℕ) (ws ar buffer : List ℕ) (t start end size : ℕ) (e : writeAnswer rule ws ar t (length buffer) ≡ Written.Image start end size) where
-  may : MayWrite rule ws ar t (length buffer)
+module _ (rule : ℕ → ℕ) (filter : ℕ) (ws ar buffer : List ℕ) (t start end size : ℕ) (e : writeAnswer rule filter ws ar t (length buffer) ≡ Written.Image start end size) where
+  may : MayWrite rule filter ws ar t (length buffer)
   unfolding writtenNumber
-  may = succeeds rule ws ar t (length buffer) (ap writtenNumber e)
+  may = succeeds rule filter ws ar t (length buffer) (ap writtenNumber e)
 
-  size-is : size ≡ length (imageFor rule ws ar t)
-  size-is = let same = sym e ∙ written rule ws ar t (length buffer) may in cc
+  size-is : size ≡ length (imageFor rule filter ws ar t)
+  size-is = let same = sym e ∙ written rule filter ws ar t (length buffer) may in cc
 
-  after-is : imageAfter rule ws ar t buffer ≡ putAt buffer 0 (imageFor rule ws ar t)
+  after-is : imageAfter rule filter ws ar t buffer ≡ putAt buffer 0 (imageFor rule filter ws ar t)
   unfolding imageAfter laidBy
-  after-is = ap (λ (answer : Written). laidBy answer (imageFor rule ws ar t) buffer) e
+  after-is = ap (λ (answer : Written). laidBy answer (imageFor rule filter ws ar t) buffer) e
 
-image-header : (rule : ℕ → ℕ) (ws ar : List ℕ) (t : ℕ) → (24 ≤ length (imageFor rule ws ar t)) × (take 24 (imageFor rule ws ar t) ≡ zeros 24)
+image-header : (rule : ℕ → ℕ) (filter : ℕ) (ws ar : List ℕ) (t : ℕ) → (24 ≤ length (imageFor rule filter ws ar t)) × (take 24 (imageFor rule filter ws ar t) ≡ zeros 24)
 unfolding imageFor imageOf
-image-header rule ws ar t =
-    let table = tableBytes rule (stateOf ws ar) deepest t headerSize in
+image-header rule filter ws ar t =
+    let table = tableBytes rule filter (stateOf ws ar) deepest t headerSize in
     (omega (arith, length-append (zeros 24) table, length-zeros 24), take-at (zeros 24) table 24 (length-zeros 24))
 
 pub success-rest : SuccessKeepsRest
-success-rest rule ws ar buffer t start end size e =
-    ap (drop size) (after-is rule ws ar buffer t start end size e) ∙ drop-after buffer 0 (imageFor rule ws ar t) size (omega (arith, size-is rule ws ar buffer t start end size e))
+success-rest rule filter ws ar buffer t start end size e =
+    ap (drop size) (after-is rule filter ws ar buffer t start end size e) ∙ drop-after buffer 0 (imageFor rule filter ws ar t) size (omega (arith, size-is rule filter ws ar buffer t start end size e))
 
 pub success-header : SuccessClearsHeader
-success-header rule ws ar buffer t start end size e =
-    let (long, clear) = image-header rule ws ar t in
-    let image = imageFor rule ws ar t in
-    let fits = may rule ws ar buffer t start end size e .fits in
-    ap (take 24) (after-is rule ws ar buffer t start end size e) ∙ sym (take-take 24 (length image) (putAt buffer 0 image) long)
+success-header rule filter ws ar buffer t start end size e =
+    let (long, clear) = image-header rule filter ws ar t in
+    let image = imageFor rule filter ws ar t in
+    let fits = may rule filter ws ar buffer t start end size e .fits in
+    ap (take 24) (after-is rule filter ws ar buffer t start end size e) ∙ sym (take-take 24 (length image) (putAt buffer 0 image) long)
     ∙ ap (take 24) (part-put buffer 0 image (omega (arith, fits))) ∙ clear

@@ -12,12 +12,13 @@ use Rattle.write.specs.Write.{hasEmpty, tooLong, imageFor}
 use Rattle.write.specs.declared.Written.{Written}
 
 -- 31, or the answer for an image of some size, of a table of so many items
-unfoldable pub sizeAnswer : ℕ → ℕ → ℕ → Written
-sizeAnswer room count size = pick (tooLong room size) (Written.Refused ImageTooLong) (Written.Image headerSize (headerSize + chunkSize count) size)
+unfoldable pub sizeAnswer : ℕ → ℕ → ℕ → ℕ → Written
+sizeAnswer filter room count size = pick (tooLong room size) (Written.Refused ImageTooLong) (Written.Image headerSize (headerSize + chunkSize filter count) size)
 
-unfoldable pub fitAnswer : List ℕ → List ℕ → ℕ → ℕ → Written
-fitAnswer numbered ar t room = sizeAnswer room (slotCount numbered t) (length (numberedImage numbered ar t))
+unfoldable pub fitAnswer : ℕ → List ℕ → List ℕ → ℕ → ℕ → Written
+fitAnswer filter numbered ar t room = sizeAnswer filter room (slotCount numbered t) (length (numberedImage filter numbered ar t))
 
-unfoldable pub tableAnswer : (ℕ → ℕ) → List ℕ → List ℕ → ℕ → ℕ → Written
-tableAnswer rule ws ar t room =
-    pick (hasEmpty (stateOf ws ar) deepest t) (Written.Refused EmptyKey) (sizeAnswer room (length (stateOf ws ar t .members)) (length (imageFor rule ws ar t)))
+unfoldable pub tableAnswer : (ℕ → ℕ) → ℕ → List ℕ → List ℕ → ℕ → ℕ → Written
+tableAnswer rule filter ws ar t room =
+    pick (hasEmpty (stateOf ws ar) deepest t) (Written.Refused EmptyKey)
+    (sizeAnswer filter room (length (stateOf ws ar t .members)) (length (imageFor rule filter ws ar t)))

@@ -17,11 +17,11 @@ use Rattle.write_bytes.specs.Numbered.{slotsFrom, childrenFrom, numberedSize, s
 use Rattle.write_order.specs.Items.{hashFor}
 use Rattle.write_numbers.specs.Roster.{stateOf, itemIndex, bucketWord, rosterSize}
 
--- every table of the numbered table agrees with the table that the memory means, whatever nested tables are laid as
+-- every table of the numbered table agrees with the table that the memory means, whatever nested tables are laid as and however many filter words there are
 pub record NumberedAs (rule : ℕ → ℕ) (ws ar numbered : List ℕ) : Type 0 where
   pub fits : NumberedFits numbered ar
-  pub plans : (inner : ℕ → ℕ → List ℕ) (t : ℕ) → t < mostTables
-      → SamePlan (numberedPlan inner numbered ar t) (planOf rule inner (stateOf ws ar) (stateOf ws ar t))
+  pub plans : (filter : ℕ) (inner : ℕ → ℕ → List ℕ) (t : ℕ) → t < mostTables
+      → SamePlan (numberedPlan inner numbered ar filter t) (planOf rule filter inner (stateOf ws ar) (stateOf ws ar t))
 
 -- ---- children
 

@@ -12,12 +12,12 @@ use Rattle.image.specs.Laid.{Laid}
 use Rattle.write_bytes.specs.Numbered.{numberedBytes, numberedImage}
 use Rattle.words.proofs.StoreLaws.{put-then}
 
-module _ (numbered arena : List ℕ) (root : ℕ) where
-  pub length-image : length (numberedImage numbered arena root) ≡ headerSize + length (numberedBytes numbered arena deepest root headerSize)
+module _ (filter : ℕ) (numbered arena : List ℕ) (root : ℕ) where
+  pub length-image : length (numberedImage filter numbered arena root) ≡ headerSize + length (numberedBytes filter numbered arena deepest root headerSize)
   unfolding numberedImage
-  length-image = length-append (zeros 24) (numberedBytes numbered arena 8 root 24) ∙ ap (λ (n : ℕ). n + length (numberedBytes numbered arena 8 root 24)) (length-zeros 24)
+  length-image = length-append (zeros 24) (numberedBytes filter numbered arena 8 root 24) ∙ ap (λ (n : ℕ). n + length (numberedBytes filter numbered arena 8 root 24)) (length-zeros 24)
 
-  pub image-laid : (l : List ℕ) {m n : List ℕ} {end : ℕ} → m ≡ putAt l 0 (zeros headerSize) → Laid m n headerSize (numberedBytes numbered arena deepest root headerSize) end
-      → n ≡ putAt l 0 (numberedImage numbered arena root)
+  pub image-laid : (l : List ℕ) {m n : List ℕ} {end : ℕ} → m ≡ putAt l 0 (zeros headerSize) → Laid m n headerSize (numberedBytes filter numbered arena deepest root headerSize) end
+      → n ≡ putAt l 0 (numberedImage filter numbered arena root)
   unfolding numberedImage
-  image-laid l p laid = put-then l 0 (zeros 24) (numberedBytes numbered arena 8 root 24) (omega (arith, length-zeros 24)) p (laid .image-is)
+  image-laid l p laid = put-then l 0 (zeros 24) (numberedBytes filter numbered arena 8 root 24) (omega (arith, length-zeros 24)) p (laid .image-is)

@@ -6,18 +6,16 @@ use Prim.Native.Nat.{ℕ, _+_, _-_, _≤_, _<_, _^_}
 use native.Mathlib.Omega.{arith}
 use lib.ListN.{length, length-append}
 use Rattle.words.specs.Store.{putAt}
-use Rattle.words.proofs.StoreLaws.{length-part}
 use Rattle.image.specs.Laid.{Laid}
 use Rattle.words.proofs.ChoiceLaws.{eq-or-ne}
 use Rattle.image.proofs.LaidLaws.{laid-join}
-use Rattle.image.proofs.PlanLaws.{length-words}
 use Rattle.layout.specs.Kind.{valueKind, tableKind}
-use Rattle.layout.specs.Limits.{mostItems, longestFile}
-use Rattle.write_bytes.specs.Numbered.{slotKind, slotValueWord, slotValueSize, childWord, slotValue, SlotFits, NumberedFits, slotCover}
+use Rattle.layout.specs.Limits.{mostItems, mostFilter, longestFile}
+use Rattle.write_bytes.specs.Numbered.{slotKind, slotValueWord, slotValue, SlotFits, NumberedFits, slotCover}
 use Rattle.write_bytes.specs.Slot.{slotStart, slotRecord, slotKey, plainValue, slotItem, SlotIn, CoverFits, RecordFits}
 use Rattle.write_bytes.proofs.KindLaws.{kind-value, kind-table, kind-container}
 use Rattle.write_bytes.proofs.SlotLaws.{cover-value, cover-table, cover-container, start-above, length-key}
-use Rattle.write_bytes.proofs.PutLaws.{plain-bytes, plain-children}
+use Rattle.write_bytes.proofs.PutLaws.{plain-bytes, plain-children, length-bytes, length-children}
 
 -- a slot of a numbered table that fits
 pub record AtSlot (numbered arena : List ℕ) (s : ℕ) : Type 0 where
@@ -39,11 +37,11 @@ module _ {numbered arena : List ℕ} {s : ℕ} (g : AtSlot numbered arena s) whe
   }
 
   -- a value that is no nested table has the length that its pointer covers
-  pub length-plain : (slotKind numbered s ≡ tableKind → ⊥) → length (plainValue numbered arena s) ≡ slotCover numbered s
-  length-plain m =
+  pub length-plain : (filter : ℕ) → (slotKind numbered s ≡ tableKind → ⊥) → length (plainValue numbered arena s) ≡ slotCover filter numbered s
+  length-plain filter m =
       ⊎-elim
-      (λ e. ap length (plain-bytes numbered arena s e) ∙ length-part arena (slotValueWord numbered s) (slotValueSize numbered s) (slot-fits .value e) ∙ sym (cover-value numbered s e))
-      (λ n. ap length (plain-children numbered arena s n) ∙ length-words (λ j. childWord numbered (slotValueWord numbered s + j)) (slotValueSize numbered s) ∙ sym (cover-container numbered s n m))
+      (λ e. length-bytes numbered arena s e (slot-fits .value e) ∙ sym (cover-value filter numbered s e))
+      (λ n. length-children numbered arena s n ∙ sym (cover-container filter numbered s n m))
       (eq-or-ne (slotKind numbered s) valueKind)
 
   module _ (inner : ℕ → ℕ → List ℕ) where
@@ -69,32 +67,33 @@ module _ {numbered arena : List ℕ} {s : ℕ} (g : AtSlot numbered arena s) whe
         omega (arith, length-append (slotKey numbered arena s at (slotStart numbered s at)) (slotValue inner numbered arena s (slotStart numbered s at)), key-end at)
 
     -- the pointer's end fits its field, also where a nested table is left out for its depth
-    stop-small : (start : ℕ) → start + length (slotValue inner numbered arena s start) ≤ longestFile → start + slotCover numbered s < 2 ^ 32
-    stop-small start h =
+    stop-small : (filter start : ℕ) → filter ≤ mostFilter → start + length (slotValue inner numbered arena s start) ≤ longestFile → start + slotCover filter numbered s < 2 ^ 32
+    stop-small filter start low h =
         ⊎-elim
-        (λ e. omega (arith, cover-table numbered s e, cover-fits .items e))
-        (λ m. omega (arith, ap length (value-plain start m), length-plain m))
+        (λ e. omega (arith, cover-table filter numbered s e, cover-fits .items e))
+        (λ m. omega (arith, ap length (value-plain start m), length-plain filter m))
         (eq-or-ne (slotKind numbered s) tableKind)
 
-    pub record-fits : (at : ℕ) → at + length (slotItem inner numbered arena s at) ≤ longestFile → RecordFits numbered s at (slotStart numbered s at)
-    record-fits at h = record {
+    pub record-fits : (filter at : ℕ) → filter ≤ mostFilter → at + length (slotItem inner numbered arena s at) ≤ longestFile
+        → RecordFits filter numbered s at (slotStart numbered s at)
+    record-fits filter at low h = record {
       hash = slot-fits .hash;
       parent = slot-fits .parent;
       key = omega (arith, item-end at, start-above numbered s at);
       size = slot-fits .size;
       kind = slot-fits .kind;
-      stop = stop-small (slotStart numbered s at) (omega (arith, item-end at));
+      stop = stop-small filter (slotStart numbered s at) low (omega (arith, item-end at));
     }
 
     -- record, key and value laid one after the other
-    pub item-laid : (l : List ℕ) (to at : ℕ) {m n o v : List ℕ} {start end : ℕ} → start ≡ slotStart numbered s at → m ≡ putAt l to (slotRecord numbered s at start)
+    pub item-laid : (filter : ℕ) (l : List ℕ) (to at : ℕ) {m n o v : List ℕ} {start end : ℕ} → start ≡ slotStart numbered s at → m ≡ putAt l to (slotRecord numbered filter s at start)
         → n ≡ putAt m at (slotKey numbered arena s at start) → v ≡ slotValue inner numbered arena s start → Laid n o start v end
-        → Laid (putAt l to (slotRecord numbered s at (slotStart numbered s at))) o at (slotItem inner numbered arena s at) end
+        → Laid (putAt l to (slotRecord numbered filter s at (slotStart numbered s at))) o at (slotItem inner numbered arena s at) end
     unfolding slotItem
-    item-laid l to at {m} {n} {o} {v} {start} {end} e p q f r =
+    item-laid filter l to at {m} {n} {o} {v} {start} {end} e p q f r =
         let from = slotStart numbered s at in
-        let p′ : m ≡ putAt l to (slotRecord numbered s at from) = rw (← e) p in
-        let key : Laid (putAt l to (slotRecord numbered s at from)) n at (slotKey numbered arena s at from) from = record {
+        let p′ : m ≡ putAt l to (slotRecord numbered filter s at from) = rw (← e) p in
+        let key : Laid (putAt l to (slotRecord numbered filter s at from)) n at (slotKey numbered arena s at from) from = record {
           end-is = sym (key-end at);
           image-is = rw (← p′, ← e) q;
         } in
@@ -110,6 +109,10 @@ module _ {numbered arena : List ℕ} {s : ℕ} (g : AtSlot numbered arena s) whe
         → at + length (slotItem inner numbered arena s at) ≡ start + length (inner guest start)
     table-item at {guest} {start} k g e = item-end at ∙ rw (guest-is {guest = guest} {start = start} k g, e)
 
-    pub plain-item : (at : ℕ) {start : ℕ} → (slotKind numbered s ≡ tableKind → ⊥) → start ≡ slotStart numbered s at
-        → at + length (slotItem inner numbered arena s at) ≡ start + slotCover numbered s
-    plain-item at m e = omega (arith, e, item-end at, ap length (value-plain (slotStart numbered s at) m), length-plain m)
+    pub plain-end : (at : ℕ) {start : ℕ} → (slotKind numbered s ≡ tableKind → ⊥) → start ≡ slotStart numbered s at
+        → at + length (slotItem inner numbered arena s at) ≡ start + length (plainValue numbered arena s)
+    plain-end at m e = omega (arith, e, item-end at, ap length (value-plain (slotStart numbered s at) m))
+
+    pub plain-item : (filter at : ℕ) {start : ℕ} → (slotKind numbered s ≡ tableKind → ⊥) → start ≡ slotStart numbered s at
+        → at + length (slotItem inner numbered arena s at) ≡ start + slotCover filter numbered s
+    plain-item filter at m e = omega (arith, plain-end at m e, length-plain filter m)

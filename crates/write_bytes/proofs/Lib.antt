@@ -1,6 +1,7 @@
 pub mod KindLaws
 pub mod SlotLaws
 pub mod PutLaws
+pub mod FilterLaws
 pub mod ItemLaws
 pub mod TableLaws
 pub mod TurnLaws

@@ -11,21 +11,22 @@ use Rattle.words.specs.Field.{spelled}
 use Rattle.words.proofs.StoreLaws.{put-none, put-append, length-part, put-then}
 use Rattle.words.proofs.FieldLaws.{length-spelled}
 use Rattle.image.specs.Laid.{Laid}
-use Rattle.image.specs.Plan.{word, wordsOf}
+use Rattle.image.specs.Plan.{word, wordsOf, firstWord}
 use Rattle.image.proofs.PlanLaws.{length-words, words-more, words-same, fourth-word}
 use Rattle.layout.specs.Kind.{valueKind}
 use Rattle.write_bytes.specs.Numbered.{slotsFrom, slotSize, childrenFrom, slotWord, slotHash, slotParent, slotFragment, slotFragmentSize, slotKind, slotValueWord, slotValueSize, slotBucket, childWord, slotCover}
-use Rattle.write_bytes.specs.Slot.{headBytes, slotRecord, slotKey, plainValue}
+use Rattle.write_bytes.specs.Slot.{headBytes, slotFilter, slotRecord, slotKey, plainValue}
 
 -- ---- words
 
-pub put-head : (l : List ℕ) (at count : ℕ) {m n : List ℕ} → m ≡ putAt l at (word 0x28000000) → n ≡ putAt m (at + 4) (word count) → n ≡ putAt l at (headBytes count)
+pub put-head : (l : List ℕ) (at filter count : ℕ) {m n : List ℕ} → m ≡ putAt l at (word (firstWord filter)) → n ≡ putAt m (at + 4) (word count)
+    → n ≡ putAt l at (headBytes filter count)
 unfolding headBytes
-put-head l at count p q = put-then l at (word 0x28000000) (word count) (ap (λ (n : ℕ). at + n) (sym (length-spelled 4 0x28000000))) p q
+put-head l at filter count p q = put-then l at (word (firstWord filter)) (word count) (ap (λ (n : ℕ). at + n) (sym (length-spelled 4 (firstWord filter)))) p q
 
-pub length-head : (count : ℕ) → length (headBytes count) ≡ 8
+pub length-head : (filter count : ℕ) → length (headBytes filter count) ≡ 8
 unfolding headBytes
-length-head count = length-append (word 0x28000000) (word count) ∙ omega (arith, length-spelled 4 0x28000000, length-spelled 4 count)
+length-head filter count = length-append (word (firstWord filter)) (word count) ∙ omega (arith, length-spelled 4 (firstWord filter), length-spelled 4 count)
 
 -- no word yet, and a word more
 pub words-start : (l : List ℕ) (at : ℕ) (f : ℕ → ℕ) → l ≡ putAt l at (wordsOf f 0)
@@ -52,12 +53,19 @@ pub child-is : (numbered : List ℕ) (start j : ℕ) → childWord numbered (sta
 unfolding childWord
 child-is numbered start j = ap (λ (n : ℕ). getD numbered n 0) (omega arith)
 
--- a table's bucket words behind its head
-pub front-laid : (numbered l : List ℕ) (first count at : ℕ) {m n : List ℕ} {end : ℕ} → m ≡ putAt l at (headBytes count)
-    → Laid m n (at + 8) (wordsOf (λ b. getD numbered (slotsFrom + slotSize * first + 7 + slotSize * b) 0) count) end
-    → n ≡ putAt l at (headBytes count ++ wordsOf (λ b. slotBucket numbered (first + b)) count)
-front-laid numbered l first count at p laid =
-    put-then l at (headBytes count) _ (ap (λ (n : ℕ). at + n) (sym (length-head count))) p (rw (words-same _ _ count (λ b _. bucket-is numbered first b)) (laid .image-is))
+pub length-filter : (numbered : List ℕ) (filter first count : ℕ) → length (slotFilter numbered filter first count) ≡ 4 * filter
+unfolding slotFilter
+length-filter numbered filter first count = length-words _ filter
+
+-- a table's filter words behind its head, and its bucket words behind them
+pub front-laid : (numbered l : List ℕ) (filter first count at : ℕ) {k m n : List ℕ} {end : ℕ} → k ≡ putAt l at (headBytes filter count)
+    → m ≡ putAt k (at + 8) (slotFilter numbered filter first count)
+    → Laid m n (at + 8 + 4 * filter) (wordsOf (λ b. getD numbered (slotsFrom + slotSize * first + 7 + slotSize * b) 0) count) end
+    → n ≡ putAt l at (headBytes filter count ++ (slotFilter numbered filter first count ++ wordsOf (λ b. slotBucket numbered (first + b)) count))
+front-laid numbered l filter first count at p q laid =
+    put-then l at (headBytes filter count) _ (ap (λ (n : ℕ). at + n) (sym (length-head filter count))) p
+    (put-then _ (at + 8) (slotFilter numbered filter first count) _ (ap (λ (n : ℕ). at + 8 + n) (sym (length-filter numbered filter first count))) q
+    (rw (words-same _ _ count (λ b _. bucket-is numbered first b)) (laid .image-is)))
 
 -- ---- a record
 
@@ -72,15 +80,15 @@ put-three l to a b c {m} {n} {o} p q r =
     put-then l to (word a) (word b ++ word c) (ap (λ (k : ℕ). to + k) (sym (length-spelled 4 a))) p two
 
 -- both halves of a record
-pub put-record : (numbered l : List ℕ) (s to at start : ℕ) {hash parent size kind stop : ℕ} {m n : List ℕ}
-    → hash ≡ slotHash numbered s → parent ≡ slotParent numbered s → size ≡ slotFragmentSize numbered s → kind ≡ slotKind numbered s → stop ≡ start + slotCover numbered s
+pub put-record : (filter : ℕ) (numbered l : List ℕ) (s to at start : ℕ) {hash parent size kind stop : ℕ} {m n : List ℕ}
+    → hash ≡ slotHash numbered s → parent ≡ slotParent numbered s → size ≡ slotFragmentSize numbered s → kind ≡ slotKind numbered s → stop ≡ start + slotCover filter numbered s
     → slotFragmentSize numbered s < 65536 → slotKind numbered s < 256
     → m ≡ putAt l to (word hash ++ (word parent ++ word at)) → n ≡ putAt m (to + 12) (word (size + 65536 * kind) ++ (word start ++ word stop))
-    → n ≡ putAt l to (slotRecord numbered s at start)
+    → n ≡ putAt l to (slotRecord numbered filter s at start)
 unfolding slotRecord
-put-record numbered l s to at start {hash} {parent} {size} {kind} {stop} {m} {n} eh ep es ek et small few p q =
+put-record filter numbered l s to at start {hash} {parent} {size} {kind} {stop} {m} {n} eh ep es ek et small few p q =
     let front = word (slotHash numbered s) ++ (word (slotParent numbered s) ++ word at) in
-    let back = (spelled 2 (slotFragmentSize numbered s) ++ (slotKind numbered s ∷ 0 ∷ [])) ++ (word start ++ word (start + slotCover numbered s)) in
+    let back = (spelled 2 (slotFragmentSize numbered s) ++ (slotKind numbered s ∷ 0 ∷ [])) ++ (word start ++ word (start + slotCover filter numbered s)) in
     let p′ : m ≡ putAt l to front = rw (← eh, ← ep) p in
     let q′ : n ≡ putAt m (to + 12) back = rw (← fourth-word (slotFragmentSize numbered s) (slotKind numbered s) small few, ← es, ← ek, ← et) q in
     put-then l to front back (ap (λ (k : ℕ). to + k) (sym (length-three (slotHash numbered s) (slotParent numbered s) at))) p′ q′
@@ -120,6 +128,12 @@ module _ (numbered arena : List ℕ) (s : ℕ) where
   pub plain-children : (slotKind numbered s ≡ valueKind → ⊥) → plainValue numbered arena s ≡ wordsOf (λ j. childWord numbered (slotValueWord numbered s + j)) (slotValueSize numbered s)
   unfolding plainValue pick
   plain-children n = rw (ne-eqb (slotKind numbered s) 118 n)
+
+  pub length-bytes : slotKind numbered s ≡ valueKind → slotValueWord numbered s + slotValueSize numbered s ≤ length arena → length (plainValue numbered arena s) ≡ slotValueSize numbered s
+  length-bytes e fits = ap length (plain-bytes e) ∙ length-part arena (slotValueWord numbered s) (slotValueSize numbered s) fits
+
+  pub length-children : (slotKind numbered s ≡ valueKind → ⊥) → length (plainValue numbered arena s) ≡ 4 * slotValueSize numbered s
+  length-children n = ap length (plain-children n) ∙ length-words (λ j. childWord numbered (slotValueWord numbered s + j)) (slotValueSize numbered s)
 
   pub bytes-laid : {l m : List ℕ} {at start size end : ℕ} → slotKind numbered s ≡ valueKind → start ≡ slotValueWord numbered s → size ≡ slotValueSize numbered s
       → Laid l m at (part arena start size) end → Laid l m at (plainValue numbered arena s) end

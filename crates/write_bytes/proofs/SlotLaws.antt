@@ -14,23 +14,24 @@ use Rattle.write_bytes.specs.Numbered.{slotCount, slotFragment, slotFrag
 use Rattle.write_bytes.specs.Slot.{slotStart, slotKey}
 use Rattle.write_bytes.proofs.KindLaws.{kind-value, kind-table, kind-container}
 
-module _ (numbered : List ℕ) (s : ℕ) where
-  -- ---- what its pointer covers, kind by kind
+-- ---- what its pointer covers, kind by kind
 
-  pub cover-value : slotKind numbered s ≡ valueKind → slotCover numbered s ≡ slotValueSize numbered s
+module _ (filter : ℕ) (numbered : List ℕ) (s : ℕ) where
+  pub cover-value : slotKind numbered s ≡ valueKind → slotCover filter numbered s ≡ slotValueSize numbered s
   unfolding slotCover
   cover-value e = kind-value _ _ _ _ e
 
-  pub cover-table : slotKind numbered s ≡ tableKind → slotCover numbered s ≡ 8 + 28 * slotCount numbered (slotValueWord numbered s)
+  pub cover-table : slotKind numbered s ≡ tableKind → slotCover filter numbered s ≡ 8 + 4 * filter + 28 * slotCount numbered (slotValueWord numbered s)
   unfolding slotCover chunkSize
   cover-table e = kind-table _ _ _ _ e
 
-  pub cover-container : (slotKind numbered s ≡ valueKind → ⊥) → (slotKind numbered s ≡ tableKind → ⊥) → slotCover numbered s ≡ 4 * slotValueSize numbered s
+  pub cover-container : (slotKind numbered s ≡ valueKind → ⊥) → (slotKind numbered s ≡ tableKind → ⊥) → slotCover filter numbered s ≡ 4 * slotValueSize numbered s
   unfolding slotCover
   cover-container n m = kind-container _ _ _ _ n m
 
-  -- ---- its fragment and the zeros behind it
+-- ---- its fragment and the zeros behind it
 
+module _ (numbered : List ℕ) (s : ℕ) where
   pub start-above : (at : ℕ) → at + slotFragmentSize numbered s ≤ slotStart numbered s at
   unfolding slotStart
   start-above at = aligned-above (at + slotFragmentSize numbered s) (byKind (slotKind numbered s) 8 4 4)

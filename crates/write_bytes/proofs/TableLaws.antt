@@ -8,13 +8,13 @@ use lib.ListN.{length, length-append}
 use Rattle.words.specs.Store.{part, putAt}
 use Rattle.words.proofs.StoreLaws.{put-none, put-comm, length-part, put-then}
 use Rattle.layout.specs.Sizes.{chunkSize}
-use Rattle.image.specs.Plan.{Plan, wordsOf, valueStart, itemBytes, payload, place, recordBytes, records, planBytes}
+use Rattle.image.specs.Plan.{Plan, wordsOf, filterWord, filterBytes, valueStart, itemBytes, payload, place, recordBytes, records, planBytes}
 use Rattle.image.specs.Laid.{Laid}
 use Rattle.image.proofs.LaidLaws.{put-both}
 use Rattle.image.proofs.PlanLaws.{length-words, length-record, length-records, length-item, offset-zero, offset-next, offset-rises, payload-more, records-more, plan-end}
 use Rattle.layout.specs.Limits.{mostTables, mostItems}
 use Rattle.write_bytes.specs.Numbered.{firstSlot, slotCount, slotFragment, slotFragmentSize, slotBucket, numberedPlan, numberedBytes, NumberedFits, slotCover}
-use Rattle.write_bytes.specs.Slot.{headBytes, slotStart, slotRecord, slotKey, slotItem}
+use Rattle.write_bytes.specs.Slot.{headBytes, slotFilter, slotStart, slotRecord, slotKey, slotItem}
 use Rattle.write_bytes.proofs.PutLaws.{length-head}
 
 -- ---- a plan, and what a loop over its items has laid
@@ -28,7 +28,8 @@ pub offset-more : (p : Plan) (at k : ℕ) → place p at (k + 1) ≡ place p at 
 offset-more p at k = rw add-one (offset-next p at k ∙ sym (length-item p k (place p at k)))
 
 regroup : (p : Plan) (at : ℕ)
-    → ((headBytes (p .count) ++ wordsOf (p .first) (p .count)) ++ records p (at + chunkSize (p .count)) (p .count)) ++ payload p (at + chunkSize (p .count)) (p .count)
+    → ((headBytes (p .filter) (p .count) ++ (filterBytes p ++ wordsOf (p .first) (p .count))) ++ records p (at + chunkSize (p .filter) (p .count)) (p .count))
+    ++ payload p (at + chunkSize (p .filter) (p .count)) (p .count)
     ≡ planBytes p at
 unfolding planBytes headBytes
 regroup p at = simp append-assoc
@@ -68,29 +69,47 @@ module _ (p : Plan) where
       }
 
   -- front, records, fragments and values are the table
-  pub half-all : (l : List ℕ) (at first : ℕ) {front image : List ℕ} {end : ℕ} → first ≡ at + 8 + 4 * p .count
-      → front ≡ putAt l at (headBytes (p .count) ++ wordsOf (p .first) (p .count)) → Half p front image first (at + chunkSize (p .count)) (p .count) end
+  pub half-all : (l : List ℕ) (at first : ℕ) {front image : List ℕ} {end : ℕ} → first ≡ at + 8 + 4 * p .filter + 4 * p .count
+      → front ≡ putAt l at (headBytes (p .filter) (p .count) ++ (filterBytes p ++ wordsOf (p .first) (p .count)))
+      → Half p front image first (at + chunkSize (p .filter) (p .count)) (p .count) end
       → Laid l image at (planBytes p at) end
   unfolding chunkSize
   half-all l at first {front} {image} {end} ef f h =
       let n = p .count in
-      let base = at + (8 + 28 * n) in
-      let start = headBytes n ++ wordsOf (p .first) n in
-      let long : length start ≡ 8 + 4 * n = length-append (headBytes n) (wordsOf (p .first) n) ∙ omega (arith, length-head n, length-words (p .first) n) in
+      let w = p .filter in
+      let base = at + (8 + 4 * w + 28 * n) in
+      let start = headBytes w n ++ (filterBytes p ++ wordsOf (p .first) n) in
+      let long : length start ≡ 8 + 4 * w + 4 * n =
+      length-append (headBytes w n) (filterBytes p ++ wordsOf (p .first) n)
+      ∙ omega (
+        arith,
+        length-append (filterBytes p) (wordsOf (p .first) n),
+        length-head w n,
+        length-words (λ k. filterWord (p .hash) w k n) w,
+        length-words (p .first) n,
+      ) in
       let a : putAt front first (records p base n) ≡ putAt l at (start ++ records p base n) = put-then l at start (records p base n) (omega (arith, long, ef)) f refl in
-      let size : length (start ++ records p base n) ≡ 8 + 28 * n = length-append start (records p base n) ∙ omega (arith, long, length-records p base n) in
+      let size : length (start ++ records p base n) ≡ 8 + 4 * w + 28 * n = length-append start (records p base n) ∙ omega (arith, long, length-records p base n) in
       let b : image ≡ putAt l at ((start ++ records p base n) ++ payload p base n) =
       put-then l at (start ++ records p base n) (payload p base n) (omega (arith, size)) a (h .image-is) in
       record { end-is = h .end-is ∙ sym (plan-end p at); image-is = b ∙ ap (putAt l at) (regroup p at) }
 
 -- ---- a table of a numbered table as a plan, slot by slot
 
-module _ (inner : ℕ → ℕ → List ℕ) (numbered arena : List ℕ) (t : ℕ) where
-  pub plan-count : numberedPlan inner numbered arena t .count ≡ slotCount numbered t
+module _ (filter : ℕ) (inner : ℕ → ℕ → List ℕ) (numbered arena : List ℕ) (t : ℕ) where
+  pub plan-count : numberedPlan inner numbered arena filter t .count ≡ slotCount numbered t
   unfolding numberedPlan
   plan-count = refl
 
-  pub plan-first : (n : ℕ) → wordsOf (numberedPlan inner numbered arena t .first) n ≡ wordsOf (λ b. slotBucket numbered (firstSlot numbered t + b)) n
+  pub plan-words : numberedPlan inner numbered arena filter t .filter ≡ filter
+  unfolding numberedPlan
+  plan-words = refl
+
+  pub plan-filter : filterBytes (numberedPlan inner numbered arena filter t) ≡ slotFilter numbered filter (firstSlot numbered t) (slotCount numbered t)
+  unfolding numberedPlan slotFilter
+  plan-filter = refl
+
+  pub plan-first : (n : ℕ) → wordsOf (numberedPlan inner numbered arena filter t .first) n ≡ wordsOf (λ b. slotBucket numbered (firstSlot numbered t + b)) n
   unfolding numberedPlan
   plan-first n = refl
 
@@ -101,25 +120,25 @@ module _ (inner : ℕ → ℕ → List ℕ) (numbered arena : List ℕ) (t : ℕ
     fragment-size : length (part arena (slotFragment numbered (firstSlot numbered t + k)) (slotFragmentSize numbered (firstSlot numbered t + k))) ≡ slotFragmentSize numbered (firstSlot numbered t + k)
     fragment-size = length-part arena (slotFragment numbered (firstSlot numbered t + k)) (slotFragmentSize numbered (firstSlot numbered t + k)) (fits .slots (firstSlot numbered t + k) slot-below .fragment)
 
-    pub plan-start : (at : ℕ) → valueStart (numberedPlan inner numbered arena t) k at ≡ slotStart numbered (firstSlot numbered t + k) at
+    pub plan-start : (at : ℕ) → valueStart (numberedPlan inner numbered arena filter t) k at ≡ slotStart numbered (firstSlot numbered t + k) at
     unfolding numberedPlan valueStart slotStart
     plan-start at = rw fragment-size
 
-    pub plan-item : (at : ℕ) → itemBytes (numberedPlan inner numbered arena t) k at ≡ slotItem inner numbered arena (firstSlot numbered t + k) at
+    pub plan-item : (at : ℕ) → itemBytes (numberedPlan inner numbered arena filter t) k at ≡ slotItem inner numbered arena (firstSlot numbered t + k) at
     unfolding numberedPlan itemBytes slotItem slotKey
     plan-item at = rw (plan-start at, fragment-size)
 
-    pub plan-record : (at start : ℕ) → recordBytes (numberedPlan inner numbered arena t) k at start ≡ slotRecord numbered (firstSlot numbered t + k) at start
+    pub plan-record : (at start : ℕ) → recordBytes (numberedPlan inner numbered arena filter t) k at start ≡ slotRecord numbered filter (firstSlot numbered t + k) at start
     unfolding numberedPlan recordBytes slotRecord slotCover
     plan-record at start = rw fragment-size
 
 -- ---- a table by the depth left
 
-module _ (numbered arena : List ℕ) (t at d : ℕ) where
-  pub table-none : d ≡ 0 → numberedBytes numbered arena d t at ≡ []
+module _ (filter : ℕ) (numbered arena : List ℕ) (t at d : ℕ) where
+  pub table-none : d ≡ 0 → numberedBytes filter numbered arena d t at ≡ []
   unfolding numberedBytes
   table-none e = rw e
 
-  pub table-plan : (d ≡ 0 → ⊥) → numberedBytes numbered arena d t at ≡ planBytes (numberedPlan (numberedBytes numbered arena (d - 1)) numbered arena t) at
+  pub table-plan : (d ≡ 0 → ⊥) → numberedBytes filter numbered arena d t at ≡ planBytes (numberedPlan (numberedBytes filter numbered arena (d - 1)) numbered arena filter t) at
   unfolding numberedBytes
-  table-plan n = let e : d ≡ suc (d - 1) = omega arith in ap (λ (m : ℕ). numberedBytes numbered arena m t at) e
+  table-plan n = let e : d ≡ suc (d - 1) = omega arith in ap (λ (m : ℕ). numberedBytes filter numbered arena m t at) e

@@ -25,13 +25,13 @@ numbered =
     ∷ 177689 ∷ 4294967295 ∷ 3 ∷ 1 ∷ 72 ∷ 0 ∷ 0 ∷ 0
     ∷ 177670 ∷ 4294967295 ∷ 0 ∷ 1 ∷ 118 ∷ 4 ∷ 2 ∷ 1 ∷ []))
 
-pub one-image : drop 24 (numberedImage numbered arena 0)
+pub one-image : drop 24 (numberedImage 0 numbered arena 0)
     ≡ 0 ∷ 0 ∷ 0 ∷ 40 ∷ 1 ∷ 0 ∷ 0 ∷ 0 ∷ 0 ∷ 0 ∷ 0 ∷ 0 ∷ 6 ∷ 182 ∷ 2 ∷ 0 ∷ 255 ∷ 255 ∷ 255 ∷ 255 ∷ 60 ∷ 0 ∷ 0 ∷ 0
     ∷ 1 ∷ 0 ∷ 118 ∷ 0 ∷ 64 ∷ 0 ∷ 0 ∷ 0 ∷ 66 ∷ 0 ∷ 0 ∷ 0 ∷ 97 ∷ 0 ∷ 0 ∷ 0 ∷ 1 ∷ 2 ∷ []
 unfolding pick copies spelled aligned wordsOf chunkSize valueStart itemBytes payload place recordBytes records planBytes firstSlot slotCount slotWord childWord byKind slotValue slotCover numberedPlan numberedBytes numberedImage
 one-image = refl
 
-pub two-image : drop 24 (numberedImage numbered arena 1)
+pub two-image : drop 24 (numberedImage 0 numbered arena 1)
     ≡ 0 ∷ 0 ∷ 0 ∷ 40 ∷ 2 ∷ 0 ∷ 0 ∷ 0 ∷ 0 ∷ 0 ∷ 0 ∷ 0 ∷ 0 ∷ 0 ∷ 0 ∷ 0 ∷ 247 ∷ 85 ∷ 136 ∷ 11 ∷ 1 ∷ 0 ∷ 0 ∷ 0
     ∷ 88 ∷ 0 ∷ 0 ∷ 0 ∷ 1 ∷ 0 ∷ 118 ∷ 0 ∷ 96 ∷ 0 ∷ 0 ∷ 0 ∷ 97 ∷ 0 ∷ 0 ∷ 0 ∷ 245 ∷ 118 ∷ 89 ∷ 0 ∷ 255 ∷ 255 ∷ 255 ∷ 255
     ∷ 97 ∷ 0 ∷ 0 ∷ 0 ∷ 2 ∷ 0 ∷ 76 ∷ 0 ∷ 100 ∷ 0 ∷ 0 ∷ 0 ∷ 104 ∷ 0 ∷ 0 ∷ 0 ∷ 98 ∷ 0 ∷ 0 ∷ 0 ∷ 0 ∷ 0 ∷ 0 ∷ 0
@@ -40,7 +40,7 @@ unfolding pick copies spelled aligned wordsOf chunkSize valueStart itemBytes pay
 two-image = refl
 
 -- the guest starts at 92 and its pointer covers 36 bytes; its value starts at 136, a multiple of 8 from the file's start and not from 92
-pub nested-image : drop 24 (numberedImage numbered arena 2)
+pub nested-image : drop 24 (numberedImage 0 numbered arena 2)
     ≡ 0 ∷ 0 ∷ 0 ∷ 40 ∷ 2 ∷ 0 ∷ 0 ∷ 0 ∷ 0 ∷ 0 ∷ 0 ∷ 0 ∷ 1 ∷ 0 ∷ 0 ∷ 0 ∷ 25 ∷ 182 ∷ 2 ∷ 0 ∷ 255 ∷ 255 ∷ 255 ∷ 255
     ∷ 88 ∷ 0 ∷ 0 ∷ 0 ∷ 1 ∷ 0 ∷ 72 ∷ 0 ∷ 92 ∷ 0 ∷ 0 ∷ 0 ∷ 128 ∷ 0 ∷ 0 ∷ 0 ∷ 6 ∷ 182 ∷ 2 ∷ 0 ∷ 255 ∷ 255 ∷ 255 ∷ 255
     ∷ 138 ∷ 0 ∷ 0 ∷ 0 ∷ 1 ∷ 0 ∷ 118 ∷ 0 ∷ 144 ∷ 0 ∷ 0 ∷ 0 ∷ 146 ∷ 0 ∷ 0 ∷ 0 ∷ 116 ∷ 0 ∷ 0 ∷ 0 ∷ 0 ∷ 0 ∷ 0 ∷ 40

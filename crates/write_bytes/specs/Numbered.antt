@@ -77,10 +77,10 @@ module _ (numbered : List ℕ) where
 unfoldable pub byKind : {A : Type 0} → ℕ → A → A → A → A
 byKind kind value table container = pick (eqb kind valueKind) value (pick (eqb kind tableKind) table container)
 
--- the length that the value pointer of slot s covers: of a nested table the table chunk only
-unfoldable pub slotCover : List ℕ → ℕ → ℕ
-slotCover numbered s =
-    byKind (slotKind numbered s) (slotValueSize numbered s) (chunkSize (slotCount numbered (slotValueWord numbered s))) (4 * slotValueSize numbered s)
+-- the length that the value pointer of slot s covers, with so many filter words in every table: of a nested table the table chunk only
+unfoldable pub slotCover : ℕ → List ℕ → ℕ → ℕ
+slotCover filter numbered s =
+    byKind (slotKind numbered s) (slotValueSize numbered s) (chunkSize filter (slotCount numbered (slotValueWord numbered s))) (4 * slotValueSize numbered s)
 
 module _ (inner : ℕ → ℕ → List ℕ) (numbered arena : List ℕ) where
   -- what slot s holds, if it starts at an offset: a value's bytes, a nested table with all its chunks, or the children's indices
@@ -89,10 +89,11 @@ module _ (inner : ℕ → ℕ → List ℕ) (numbered arena : List ℕ) where
       byKind (slotKind numbered s) (part arena (slotValueWord numbered s) (slotValueSize numbered s)) (inner (slotValueWord numbered s) at)
       (wordsOf (λ j. childWord numbered (slotValueWord numbered s + j)) (slotValueSize numbered s))
 
-  -- table t, index by index
-  unfoldable pub numberedPlan : ℕ → Plan
-  numberedPlan t = record {
+  -- table t, index by index, with so many filter words
+  unfoldable pub numberedPlan : ℕ → ℕ → Plan
+  numberedPlan filter t = record {
     count = slotCount numbered t;
+    filter = filter;
     first = λ b. slotBucket numbered (firstSlot numbered t + b);
     hash = λ k. slotHash numbered (firstSlot numbered t + k);
     parent = λ k. slotParent numbered (firstSlot numbered t + k);
@@ -100,17 +101,17 @@ module _ (inner : ℕ → ℕ → List ℕ) (numbered arena : List ℕ) where
     kind = λ k. slotKind numbered (firstSlot numbered t + k);
     align = λ k. byKind (slotKind numbered (firstSlot numbered t + k)) 8 4 4;
     value = λ k at. slotValue (firstSlot numbered t + k) at;
-    covers = λ k. slotCover numbered (firstSlot numbered t + k);
+    covers = λ k. slotCover filter numbered (firstSlot numbered t + k);
   }
 
 -- table t at `at`, with all its chunks; nested tables as deep as d goes
-unfoldable pub numberedBytes : List ℕ → List ℕ → ℕ → ℕ → ℕ → List ℕ
-numberedBytes numbered arena zero t at = []
-numberedBytes numbered arena (suc d) t at = planBytes (numberedPlan (λ u start. numberedBytes numbered arena d u start) numbered arena t) at
+unfoldable pub numberedBytes : ℕ → List ℕ → List ℕ → ℕ → ℕ → ℕ → List ℕ
+numberedBytes filter numbered arena zero t at = []
+numberedBytes filter numbered arena (suc d) t at = planBytes (numberedPlan (λ u start. numberedBytes filter numbered arena d u start) numbered arena filter t) at
 
 -- the whole image: zeros for the header, then the root table
-unfoldable pub numberedImage : List ℕ → List ℕ → ℕ → List ℕ
-numberedImage numbered arena root = zeros headerSize ++ numberedBytes numbered arena deepest root headerSize
+unfoldable pub numberedImage : ℕ → List ℕ → List ℕ → ℕ → List ℕ
+numberedImage filter numbered arena root = zeros headerSize ++ numberedBytes filter numbered arena deepest root headerSize
 
 -- ---- a numbered table that can be laid: every part lies where it should, and every word fits its field
 

@@ -8,25 +8,29 @@ use Rattle.words.specs.Choice.{pick}
 use Rattle.words.specs.Store.{part, zeros}
 use Rattle.words.specs.Field.{spelled}
 use Rattle.words.specs.Align.{aligned}
-use Rattle.image.specs.Plan.{word, wordsOf}
+use Rattle.image.specs.Plan.{word, wordsOf, firstWord, filterWord}
 use Rattle.layout.specs.Kind.{valueKind, tableKind}
 use Rattle.layout.specs.Limits.{mostTables, mostItems}
 use Rattle.write_bytes.specs.Numbered.{numberedSize, slotCount, slotHash, slotParent, slotFragment, slotFragmentSize, slotKind, slotValueWord, slotValueSize, childWord, byKind, slotCover, slotValue}
 
 -- a table's first word and its count of buckets
-unfoldable pub headBytes : ℕ → List ℕ
-headBytes count = word 0x28000000 ++ word count
+unfoldable pub headBytes : ℕ → ℕ → List ℕ
+headBytes filter count = word (firstWord filter) ++ word count
+
+-- the filter words of a table of so many items, the first of them in slot `first`
+unfoldable pub slotFilter : List ℕ → ℕ → ℕ → ℕ → List ℕ
+slotFilter numbered filter first count = wordsOf (λ k. filterWord (λ n. slotHash numbered (first + n)) filter k count) filter
 
 module _ (numbered : List ℕ) where
   -- where the value of slot s starts, if its key starts at `at`
   unfoldable pub slotStart : ℕ → ℕ → ℕ
   slotStart s at = aligned (at + slotFragmentSize numbered s) (byKind (slotKind numbered s) 8 4 4)
 
-  -- its record, the key at `at`, the value at `start`
-  unfoldable pub slotRecord : ℕ → ℕ → ℕ → List ℕ
-  slotRecord s at start =
+  -- its record, the key at `at`, the value at `start`, with so many filter words in every table
+  unfoldable pub slotRecord : ℕ → ℕ → ℕ → ℕ → List ℕ
+  slotRecord filter s at start =
       word (slotHash numbered s) ++ (word (slotParent numbered s) ++ (word at
-      ++ ((spelled 2 (slotFragmentSize numbered s) ++ (slotKind numbered s ∷ 0 ∷ [])) ++ (word start ++ word (start + slotCover numbered s)))))
+      ++ ((spelled 2 (slotFragmentSize numbered s) ++ (slotKind numbered s ∷ 0 ∷ [])) ++ (word start ++ word (start + slotCover filter numbered s)))))
 
 -- its fragment at `at`, and zeros up to the value at `start`
 unfoldable pub slotKey : List ℕ → List ℕ → ℕ → ℕ → ℕ → List ℕ
@@ -56,10 +60,10 @@ pub record CoverFits (numbered : List ℕ) (s : ℕ) : Type 0 where
   pub children : (slotKind numbered s ≡ valueKind → ⊥) → (slotKind numbered s ≡ tableKind → ⊥) → slotValueSize numbered s ≤ mostItems
 
 -- the words of its record fit their fields
-pub record RecordFits (numbered : List ℕ) (s at start : ℕ) : Type 0 where
+pub record RecordFits (filter : ℕ) (numbered : List ℕ) (s at start : ℕ) : Type 0 where
   pub hash : slotHash numbered s < 2 ^ 32
   pub parent : slotParent numbered s < 2 ^ 32
   pub key : at < 2 ^ 32
   pub size : slotFragmentSize numbered s < 65536
   pub kind : slotKind numbered s < 256
-  pub stop : start + slotCover numbered s < 2 ^ 32
+  pub stop : start + slotCover filter numbered s < 2 ^ 32

@@ -10,11 +10,12 @@ use crate::slot::value_start;
 use layout::kind::TABLE_KIND;
 use layout::limits::LONGEST_FILE;
 use layout::sizes::CHUNK_STEP;
+use layout::sizes::FILTER_SIZE;
 use layout::sizes::HEAD_SIZE;
 ghost use mathlib.Core.Path.{_≡_};
 ghost use Prim.Native.Nat.{_+_, _≤_, _<_};
 ghost use lib.ListN.{length};
-ghost use Rattle.layout.specs.Limits.{longestFile, mostTables, mostItems};
+ghost use Rattle.layout.specs.Limits.{longestFile, mostTables, mostItems, mostFilter};
 ghost use Rattle.write_bytes.specs.Numbered.{numberedBytes, NumberedFits};
 ghost use Rattle.write_bytes.specs.Slot.{slotItem};
 ghost use Rattle.write_bytes.specs.Measure.{measured};
@@ -26,23 +27,25 @@ pub fn measure_table(
     table: usize,
     at: usize,
     depth: usize,
+    filter: usize,
 ) -> Measured
     requires { ⌜ NumberedFits (now numbered) (now arena) ⌝ }
-    requires { ⌜ (table < mostTables) × (at ≤ longestFile) ⌝ }
-    ensures { λ r. ⌜ r ≡ measured (at + length (numberedBytes (now (numbered .entry)) (now (arena .entry)) depth table at)) ⌝ }
+    requires { ⌜ (table < mostTables) × (at ≤ longestFile) × (filter ≤ mostFilter) ⌝ }
+    ensures { λ r. ⌜ r ≡ measured (at + length (numberedBytes filter (now (numbered .entry)) (now (arena .entry)) depth table at)) ⌝ }
 {
     if depth == 0 {
         return Measured::End(at);
     }
     let first = first_slot(numbered, table);
     let count = slot_count(numbered, table);
-    let mut end = at + HEAD_SIZE + CHUNK_STEP * count;
+    let mut end = at + HEAD_SIZE + FILTER_SIZE * filter + CHUNK_STEP * count;
     if LONGEST_FILE < end {
         return Measured::TooLong;
     }
     let mut k = 0;
     while k < count {
-        let Measured::End(stop) = measure_item(numbered, arena, first + k, end, depth - 1) else {
+        let Measured::End(stop) = measure_item(numbered, arena, first + k, end, depth - 1, filter)
+        else {
             return Measured::TooLong;
         };
         end = stop;
@@ -52,10 +55,17 @@ pub fn measure_table(
 }
 
 // Measures a slot's fragment at `at` and its value behind it.
-fn measure_item(numbered: &[usize], arena: &[u8], slot: usize, at: usize, depth: usize) -> Measured
+fn measure_item(
+    numbered: &[usize],
+    arena: &[u8],
+    slot: usize,
+    at: usize,
+    depth: usize,
+    filter: usize,
+) -> Measured
     requires { ⌜ NumberedFits (now numbered) (now arena) ⌝ }
-    requires { ⌜ (slot < mostItems) × (at ≤ longestFile) ⌝ }
-    ensures { λ r. ⌜ r ≡ measured (at + length (slotItem (numberedBytes (now (numbered .entry)) (now (arena .entry)) depth) (now (numbered .entry)) (now (arena .entry)) slot at)) ⌝ }
+    requires { ⌜ (slot < mostItems) × (at ≤ longestFile) × (filter ≤ mostFilter) ⌝ }
+    ensures { λ r. ⌜ r ≡ measured (at + length (slotItem (numberedBytes filter (now (numbered .entry)) (now (arena .entry)) depth) (now (numbered .entry)) (now (arena .entry)) slot at)) ⌝ }
 {
     let start = value_start(numbered, slot, at);
     if LONGEST_FILE < start {
@@ -64,9 +74,9 @@ fn measure_item(numbered: &[usize], arena: &[u8], slot: usize, at: usize, depth:
     let kind = slot_word(numbered, slot, KIND);
     if kind == TABLE_KIND {
         let guest = slot_word(numbered, slot, VALUE);
-        return measure_table(numbered, arena, guest, start, depth);
+        return measure_table(numbered, arena, guest, start, depth, filter);
     }
-    let size = cover(numbered, slot);
+    let size = cover(numbered, slot, filter);
     if LONGEST_FILE - start < size {
         return Measured::TooLong;
     }

@@ -13,8 +13,11 @@ use crate::numbered::VALUE_SIZE;
 use crate::numbered::slot_word;
 use crate::slot::cover;
 use layout::kind::VALUE_KIND;
+use layout::sizes::FILTER_SIZE;
 use layout::sizes::HEAD_SIZE;
+use words::bits::put_bit;
 use words::field::put_word;
+use words::field::word_at;
 use words::store::put_bytes;
 use words::store::put_zeros;
 ghost use mathlib.Core.Path.{_≡_};
@@ -22,24 +25,25 @@ ghost use mathlib.Core.List.{_++_};
 ghost use Prim.Native.Nat.{ℕ, _+_, _*_, _≤_, _<_, _^_};
 ghost use lib.ListN.{length, getD};
 ghost use Rattle.words.specs.Store.{part, putAt};
-ghost use Rattle.layout.specs.Sizes.{headSize, bucketSize, recordSize};
+ghost use Rattle.words.specs.Field.{wordAt};
+ghost use Rattle.layout.specs.Sizes.{headSize, filterSize, bucketSize, recordSize};
 ghost use Rattle.image.specs.Laid.{Laid};
-ghost use Rattle.image.specs.Plan.{word, wordsOf};
+ghost use Rattle.image.specs.Plan.{word, wordsOf, withHash};
 ghost use Rattle.layout.specs.Kind.{tableKind};
-ghost use Rattle.layout.specs.Limits.{mostItems};
-ghost use Rattle.write_bytes.specs.Numbered.{slotFragment, slotFragmentSize, slotKind, slotBucket, numberedSize, NumberedFits, slotCover};
-ghost use Rattle.write_bytes.specs.Slot.{headBytes, slotRecord, slotKey, plainValue, SlotIn, CoverFits, RecordFits};
+ghost use Rattle.layout.specs.Limits.{mostItems, mostFilter};
+ghost use Rattle.write_bytes.specs.Numbered.{slotHash, slotFragment, slotFragmentSize, slotKind, slotBucket, numberedSize, NumberedFits};
+ghost use Rattle.write_bytes.specs.Slot.{headBytes, slotFilter, slotRecord, slotKey, plainValue, SlotIn, CoverFits, RecordFits};
 
-// The first word of every table: a shift of 5, and no bloom words.
+// The first word of a table without filter words: a shift of 5.
 const FIRST_WORD: u32 = 0x2800_0000;
 
 // gvdb-rs: HashHeader::new.
 // Lays a table's first word and its count of buckets.
-fn lay_head(image: &mut [u8], count: usize, at: usize)
-    requires { ⌜ (at + headSize ≤ length (now image)) × (count < 2 ^ 32) ⌝ }
-    ensures { λ _. ⌜ now (image .exit) ≡ putAt (now (image .entry)) at (headBytes count) ⌝ }
+fn lay_head(image: &mut [u8], count: usize, at: usize, filter: usize)
+    requires { ⌜ (at + headSize ≤ length (now image)) × (count < 2 ^ 32) × (filter ≤ mostFilter) ⌝ }
+    ensures { λ _. ⌜ now (image .exit) ≡ putAt (now (image .entry)) at (headBytes filter count) ⌝ }
 {
-    put_word(image, at, FIRST_WORD);
+    put_word(image, at, FIRST_WORD + filter as u32);
     put_word(image, at + 4, count as u32);
 }
 
@@ -65,16 +69,66 @@ fn lay_words(
     at + 4 * count
 }
 
-// Lays what stands before a table's records: its head and its bucket words.
-pub fn lay_front(numbered: &[usize], image: &mut [u8], first: usize, count: usize, at: usize)
-    requires { ⌜ (length (now numbered) ≡ numberedSize) × (first + count ≤ mostItems) ⌝ }
-    requires { ⌜ ((b : ℕ) → b < count → slotBucket (now numbered) (first + b) < 2 ^ 32) ⌝ }
-    requires { ⌜ at + headSize + bucketSize * count ≤ length (now image) ⌝ }
-    ensures { λ _. ⌜ now (image .exit) ≡ putAt (now (image .entry)) at (headBytes count ++ wordsOf (λ b. slotBucket (now (numbered .entry)) (first + b)) count) ⌝ }
+// Sets the two bits of a hash in the filter word at an offset of the image.
+fn add_hash(image: &mut [u8], at: usize, hash: u32)
+    requires { ⌜ at + 4 ≤ length (now image) ⌝ }
+    ensures { λ _. ⌜ now (image .exit) ≡ putAt (now (image .entry)) at (word (withHash (wordAt (now (image .entry)) at) hash)) ⌝ }
 {
-    lay_head(image, count, at);
+    let first = put_bit(word_at(image, at), hash);
+    put_word(image, at, put_bit(first, hash / 32));
+}
+
+// Lays a table's filter words: zeros first, then each item sets its two bits in the word that its hash falls to.
+fn lay_filter(
+    numbered: &[usize],
+    image: &mut [u8],
+    first: usize,
+    count: usize,
+    at: usize,
+    filter: usize,
+)
+    requires { ⌜ (length (now numbered) ≡ numberedSize) × (first + count ≤ mostItems) ⌝ }
+    requires { ⌜ ((k : ℕ) → k < count → slotHash (now numbered) (first + k) < 2 ^ 32) ⌝ }
+    requires { ⌜ at + filterSize * filter ≤ length (now image) ⌝ }
+    ensures { λ _. ⌜ now (image .exit) ≡ putAt (now (image .entry)) at (slotFilter (now (numbered .entry)) filter first count) ⌝ }
+{
+    if filter == 0 {
+        return;
+    }
+    put_zeros(image, at, FILTER_SIZE * filter);
+    let mut k = 0;
+    while k < count {
+        let hash = slot_word(numbered, first + k, HASH);
+        add_hash(image, at + FILTER_SIZE * (hash / 32 % filter), hash as u32);
+        k += 1;
+    }
+}
+
+// Lays what stands before a table's records: its head, its filter words and its bucket words.
+pub fn lay_front(
+    numbered: &[usize],
+    image: &mut [u8],
+    first: usize,
+    count: usize,
+    at: usize,
+    filter: usize,
+)
+    requires { ⌜ (length (now numbered) ≡ numberedSize) × (first + count ≤ mostItems) × (filter ≤ mostFilter) ⌝ }
+    requires { ⌜ ((b : ℕ) → b < count → (slotHash (now numbered) (first + b) < 2 ^ 32) × (slotBucket (now numbered) (first + b) < 2 ^ 32)) ⌝ }
+    requires { ⌜ at + headSize + filterSize * filter + bucketSize * count ≤ length (now image) ⌝ }
+    ensures { λ _. ⌜ now (image .exit) ≡ putAt (now (image .entry)) at (headBytes filter count ++ (slotFilter (now (numbered .entry)) filter first count ++ wordsOf (λ b. slotBucket (now (numbered .entry)) (first + b)) count)) ⌝ }
+{
+    lay_head(image, count, at, filter);
+    lay_filter(numbered, image, first, count, at + HEAD_SIZE, filter);
     let from = SLOTS_FROM + SLOT_SIZE * first + BUCKET;
-    lay_words(numbered, image, from, SLOT_SIZE, count, at + HEAD_SIZE);
+    lay_words(
+        numbered,
+        image,
+        from,
+        SLOT_SIZE,
+        count,
+        at + HEAD_SIZE + FILTER_SIZE * filter,
+    );
 }
 
 // Lays three words.
@@ -97,19 +151,21 @@ pub fn lay_record(
     to: usize,
     at: usize,
     start: usize,
+    filter: usize,
 )
     requires { ⌜ SlotIn (now numbered) slot ⌝ }
     requires { ⌜ CoverFits (now numbered) slot ⌝ }
-    requires { ⌜ RecordFits (now numbered) slot at start ⌝ }
+    requires { ⌜ RecordFits filter (now numbered) slot at start ⌝ }
+    requires { ⌜ filter ≤ mostFilter ⌝ }
     requires { ⌜ to + recordSize ≤ length (now image) ⌝ }
-    ensures { λ _. ⌜ now (image .exit) ≡ putAt (now (image .entry)) to (slotRecord (now (numbered .entry)) slot at start) ⌝ }
+    ensures { λ _. ⌜ now (image .exit) ≡ putAt (now (image .entry)) to (slotRecord (now (numbered .entry)) filter slot at start) ⌝ }
 {
     let hash = slot_word(numbered, slot, HASH);
     let parent = slot_word(numbered, slot, PARENT);
     lay_three(image, to, hash, parent, at);
     let size = slot_word(numbered, slot, FRAGMENT_SIZE);
     let kind = slot_word(numbered, slot, KIND);
-    let stop = start + cover(numbered, slot);
+    let stop = start + cover(numbered, slot, filter);
     lay_three(image, to + 12, size + 65536 * kind, start, stop);
 }
 
@@ -158,7 +214,7 @@ pub fn lay_plain(
     requires { ⌜ NumberedFits (now numbered) (now arena) ⌝ }
     requires { ⌜ slot < mostItems ⌝ }
     requires { ⌜ (slotKind (now numbered) slot ≡ tableKind → ⊥) ⌝ }
-    requires { ⌜ at + slotCover (now numbered) slot ≤ length (now image) ⌝ }
+    requires { ⌜ at + length (plainValue (now numbered) (now arena) slot) ≤ length (now image) ⌝ }
     ensures { λ r. ⌜ Laid (now (image .entry)) (now (image .exit)) at (plainValue (now (numbered .entry)) (now (arena .entry)) slot) r ⌝ }
 {
     let kind = slot_word(numbered, slot, KIND);

@@ -8,13 +8,14 @@ use crate::numbered::slot_word;
 use layout::kind::TABLE_KIND;
 use layout::kind::VALUE_KIND;
 use layout::sizes::CHUNK_STEP;
+use layout::sizes::FILTER_SIZE;
 use layout::sizes::HEAD_SIZE;
 use words::align::Alignment;
 use words::align::align_offset;
 ghost use mathlib.Core.Path.{_≡_};
 ghost use Prim.Native.Nat.{_≤_, _<_};
 ghost use Rattle.words.specs.Align.{alignmentOf};
-ghost use Rattle.layout.specs.Limits.{longestFile};
+ghost use Rattle.layout.specs.Limits.{longestFile, mostFilter};
 ghost use Rattle.write_bytes.specs.Numbered.{slotFragmentSize, byKind, slotCover};
 ghost use Rattle.write_bytes.specs.Slot.{slotStart, SlotIn, CoverFits};
 
@@ -42,11 +43,12 @@ pub fn value_start(numbered: &[usize], slot: usize, at: usize) -> usize
 }
 
 // gvdb-rs: Pointer::size.
-// The length that a slot's value pointer covers: of a nested table its table chunk only.
-pub fn cover(numbered: &[usize], slot: usize) -> usize
+// The length that a slot's value pointer covers, with so many filter words in every table: of a nested table its table chunk only.
+pub fn cover(numbered: &[usize], slot: usize, filter: usize) -> usize
     requires { ⌜ SlotIn (now numbered) slot ⌝ }
     requires { ⌜ CoverFits (now numbered) slot ⌝ }
-    ensures { λ r. ⌜ r ≡ slotCover (now (numbered .entry)) slot ⌝ }
+    requires { ⌜ filter ≤ mostFilter ⌝ }
+    ensures { λ r. ⌜ r ≡ slotCover filter (now (numbered .entry)) slot ⌝ }
 {
     let kind = slot_word(numbered, slot, KIND);
     let size = slot_word(numbered, slot, VALUE_SIZE);
@@ -55,7 +57,7 @@ pub fn cover(numbered: &[usize], slot: usize) -> usize
     }
     if kind == TABLE_KIND {
         let guest = slot_word(numbered, slot, VALUE);
-        return HEAD_SIZE + CHUNK_STEP * slot_count(numbered, guest);
+        return HEAD_SIZE + FILTER_SIZE * filter + CHUNK_STEP * slot_count(numbered, guest);
     }
     4 * size
 }

@@ -11,13 +11,14 @@ use crate::put::lay_record;
 use crate::slot::value_start;
 use layout::kind::TABLE_KIND;
 use layout::sizes::BUCKET_SIZE;
+use layout::sizes::FILTER_SIZE;
 use layout::sizes::HEAD_SIZE;
 use layout::sizes::RECORD_SIZE;
 ghost use Prim.Native.Nat.{_+_, _≤_, _<_};
 ghost use lib.ListN.{length};
 ghost use Rattle.words.specs.Store.{putAt};
 ghost use Rattle.image.specs.Laid.{Laid};
-ghost use Rattle.layout.specs.Limits.{longestFile, mostTables, mostItems};
+ghost use Rattle.layout.specs.Limits.{longestFile, mostTables, mostItems, mostFilter};
 ghost use Rattle.layout.specs.Sizes.{recordSize};
 ghost use Rattle.write_bytes.specs.Numbered.{numberedBytes, NumberedFits};
 ghost use Rattle.write_bytes.specs.Slot.{slotStart, slotRecord, slotItem};
@@ -31,19 +32,20 @@ pub fn lay_table(
     table: usize,
     at: usize,
     depth: usize,
+    filter: usize,
 ) -> usize
     requires { ⌜ NumberedFits (now numbered) (now arena) ⌝ }
-    requires { ⌜ table < mostTables ⌝ }
-    requires { ⌜ (at + length (numberedBytes (now numbered) (now arena) depth table at) ≤ length (now image)) × (length (now image) ≤ longestFile) ⌝ }
-    ensures { λ r. ⌜ Laid (now (image .entry)) (now (image .exit)) at (numberedBytes (now (numbered .entry)) (now (arena .entry)) depth table at) r ⌝ }
+    requires { ⌜ (table < mostTables) × (filter ≤ mostFilter) ⌝ }
+    requires { ⌜ (at + length (numberedBytes filter (now numbered) (now arena) depth table at) ≤ length (now image)) × (length (now image) ≤ longestFile) ⌝ }
+    ensures { λ r. ⌜ Laid (now (image .entry)) (now (image .exit)) at (numberedBytes filter (now (numbered .entry)) (now (arena .entry)) depth table at) r ⌝ }
 {
     if depth == 0 {
         return at;
     }
     let first = first_slot(numbered, table);
     let count = slot_count(numbered, table);
-    lay_front(numbered, image, first, count, at);
-    let records = at + HEAD_SIZE + BUCKET_SIZE * count;
+    lay_front(numbered, image, first, count, at, filter);
+    let records = at + HEAD_SIZE + FILTER_SIZE * filter + BUCKET_SIZE * count;
     let mut end = records + RECORD_SIZE * count;
     let mut k = 0;
     while k < count {
@@ -55,6 +57,7 @@ pub fn lay_table(
             records + RECORD_SIZE * k,
             end,
             depth - 1,
+            filter,
         );
         k += 1;
     }
@@ -71,19 +74,20 @@ fn lay_item(
     to: usize,
     at: usize,
     depth: usize,
+    filter: usize,
 ) -> usize
     requires { ⌜ NumberedFits (now numbered) (now arena) ⌝ }
-    requires { ⌜ (slot < mostItems) × (to + recordSize ≤ at) ⌝ }
-    requires { ⌜ (at + length (slotItem (numberedBytes (now numbered) (now arena) depth) (now numbered) (now arena) slot at) ≤ length (now image)) × (length (now image) ≤ longestFile) ⌝ }
-    ensures { λ r. ⌜ Laid (putAt (now (image .entry)) to (slotRecord (now (numbered .entry)) slot at (slotStart (now (numbered .entry)) slot at))) (now (image .exit)) at (slotItem (numberedBytes (now (numbered .entry)) (now (arena .entry)) depth) (now (numbered .entry)) (now (arena .entry)) slot at) r ⌝ }
+    requires { ⌜ (slot < mostItems) × (to + recordSize ≤ at) × (filter ≤ mostFilter) ⌝ }
+    requires { ⌜ (at + length (slotItem (numberedBytes filter (now numbered) (now arena) depth) (now numbered) (now arena) slot at) ≤ length (now image)) × (length (now image) ≤ longestFile) ⌝ }
+    ensures { λ r. ⌜ Laid (putAt (now (image .entry)) to (slotRecord (now (numbered .entry)) filter slot at (slotStart (now (numbered .entry)) slot at))) (now (image .exit)) at (slotItem (numberedBytes filter (now (numbered .entry)) (now (arena .entry)) depth) (now (numbered .entry)) (now (arena .entry)) slot at) r ⌝ }
 {
     let start = value_start(numbered, slot, at);
-    lay_record(numbered, image, slot, to, at, start);
+    lay_record(numbered, image, slot, to, at, start, filter);
     lay_key(numbered, arena, image, slot, at, start);
     let kind = slot_word(numbered, slot, KIND);
     if kind == TABLE_KIND {
         let guest = slot_word(numbered, slot, VALUE);
-        return lay_table(numbered, arena, image, guest, start, depth);
+        return lay_table(numbered, arena, image, guest, start, depth, filter);
     }
     lay_plain(numbered, arena, image, slot, start)
 }

@@ -9,28 +9,28 @@ ghost use mathlib.Core.Path.{_≡_};
 ghost use Prim.Native.Nat.{_≤_, _<_};
 ghost use lib.ListN.{length};
 ghost use Rattle.words.specs.Store.{putAt};
-ghost use Rattle.layout.specs.Limits.{longestFile, mostTables};
+ghost use Rattle.layout.specs.Limits.{longestFile, mostTables, mostFilter};
 ghost use Rattle.write_bytes.specs.Numbered.{numberedImage, NumberedFits};
 ghost use Rattle.write_bytes.specs.Measure.{measured};
 
 // gvdb-rs: file_size.
-// Measures the image of a table.
-pub fn measure(numbered: &[usize], arena: &[u8], table: usize) -> Measured
+// Measures the image of a table, with so many filter words in every table of it.
+pub fn measure(numbered: &[usize], arena: &[u8], table: usize, filter: usize) -> Measured
     requires { ⌜ NumberedFits (now numbered) (now arena) ⌝ }
-    requires { ⌜ table < mostTables ⌝ }
-    ensures { λ r. ⌜ r ≡ measured (length (numberedImage (now (numbered .entry)) (now (arena .entry)) table)) ⌝ }
+    requires { ⌜ (table < mostTables) × (filter ≤ mostFilter) ⌝ }
+    ensures { λ r. ⌜ r ≡ measured (length (numberedImage filter (now (numbered .entry)) (now (arena .entry)) table)) ⌝ }
 {
-    measure_table(numbered, arena, table, HEADER_SIZE, DEEPEST)
+    measure_table(numbered, arena, table, HEADER_SIZE, DEEPEST, filter)
 }
 
 // gvdb-rs: serialize, and allocate_empty_chunk for the header.
-// Lays the image of a table at the front of a buffer that has room for it.
-pub fn lay_image(numbered: &[usize], arena: &[u8], table: usize, image: &mut [u8])
+// Lays the image of a table at the front of a buffer that has room for it, with so many filter words in every table of it.
+pub fn lay_image(numbered: &[usize], arena: &[u8], table: usize, image: &mut [u8], filter: usize)
     requires { ⌜ NumberedFits (now numbered) (now arena) ⌝ }
-    requires { ⌜ table < mostTables ⌝ }
-    requires { ⌜ (length (numberedImage (now numbered) (now arena) table) ≤ length (now image)) × (length (now image) ≤ longestFile) ⌝ }
-    ensures { λ _. ⌜ now (image .exit) ≡ putAt (now (image .entry)) 0 (numberedImage (now (numbered .entry)) (now (arena .entry)) table) ⌝ }
+    requires { ⌜ (table < mostTables) × (filter ≤ mostFilter) ⌝ }
+    requires { ⌜ (length (numberedImage filter (now numbered) (now arena) table) ≤ length (now image)) × (length (now image) ≤ longestFile) ⌝ }
+    ensures { λ _. ⌜ now (image .exit) ≡ putAt (now (image .entry)) 0 (numberedImage filter (now (numbered .entry)) (now (arena .entry)) table) ⌝ }
 {
     put_zeros(image, 0, HEADER_SIZE);
-    lay_table(numbered, arena, image, table, HEADER_SIZE, DEEPEST);
+    lay_table(numbered, arena, image, table, HEADER_SIZE, DEEPEST, filter);
 }

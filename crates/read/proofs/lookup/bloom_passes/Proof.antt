@@ -1,6 +1,5 @@
 -- `read::lookup::bloom_passes` meets its contract: a remainder by the number of bloom words is below it, so its word lies in the file.
 use Prim.Native.Nat.{_<_, _/_}
-use mathlib.Core.Path.{_∙_}
 use native.Mathlib.Omega.{arith}
 use native.Mathlib.Nat.{mod-lt}
 use borrow.Author.Needs.{needs}
@@ -39,11 +38,22 @@ word-at-requires c κs =
     let some : 0 < c .before .before .before .before .args .table .blooms = omega arith in
     omega (arith, mod-lt (c .before .word-size .result / 32) some)
 
+shift-of-requires : tie.Need-shift-of-requires
+shift-of-requires c κs = search needs
+
+shr-shifted : tie.Need-shr-shifted
+shr-shifted c = search needs
+
 bit-set-requires : tie.Need-bit-set-requires
 bit-set-requires c κs = search needs
 
+bit-set-requires-2 : tie.Need-bit-set-requires-2
+bit-set-requires-2 c κs = search needs
+
 returns-2 : tie.Need-returns-2
-returns-2 c = c .bit-set .ensures ∙ bloom-word _ _ _ (c .before .before .before .word-size .ensures .0) (c .before .before .before .before .if1 .left) (c .before .word-at .ensures)
+returns-2 c =
+    bloom-word _ _ _ _ (c .before .before .before .before .before .word-size .ensures .0) (c .before .before .before .before .before .before .if1 .left) (c .before .before .before .word-at .ensures)
+    (c .before .before .shift-of .ensures .0) (c .before .bit-set .ensures) (c .bit-set2 .ensures)
 
 pub bloom-passes-spec : {M : Type 1} → statement M
 bloom-passes-spec =
@@ -56,5 +66,8 @@ bloom-passes-spec =
     mul-word-at
     add-word-at-2
     word-at-requires
+    shift-of-requires
+    shr-shifted
     bit-set-requires
+    bit-set-requires-2
     returns-2)

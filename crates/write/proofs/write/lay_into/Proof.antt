@@ -21,7 +21,7 @@ lay-image-requires c κs =
     let a = c .before .before .before .before .args in
     let p = c .before .before .before .before .pre in
     let n = length-take-le (a .size) (a .image .now) (p .1 .1 .0) in
-    (p .0, (p .1 .0 .0, (omega (arith, n, p .1 .0 .1), omega (arith, n, p .1 .1 .1))))
+    (p .0, ((p .1 .0 .0, p .1 .0 .1), (omega (arith, n, p .1 .0 .2), omega (arith, n, p .1 .1 .1))))
 
 same-length : tie.Need-same-length
 same-length c = search needs
@@ -30,7 +30,7 @@ returns : tie.Need-returns
 returns c =
     let a = c .before .before .before .before .before .before .before .args in
     let p = c .before .before .before .before .before .before .before .pre in
-    laid-front (a .size) (a .image .now) _ _ (omega (arith, p .1 .0 .1)) (c .before .before .lay-image .ensures)
+    laid-front (a .size) (a .image .now) _ _ (omega (arith, p .1 .0 .2)) (c .before .before .lay-image .ensures)
 
 pub lay-into-spec : {M : Type 1} → statement M
 lay-into-spec =

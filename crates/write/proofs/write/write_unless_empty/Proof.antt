@@ -15,7 +15,7 @@ returns : tie.Need-returns
 returns c =
     let a = c .before .before .before .before .before .before .args in
     let p = c .before .before .before .before .before .before .pre in
-    let g = table-empty (ruleOf (a .form)) (a .words .now) (a .arena .now) (a .image .now) (a .table) (c .before .has-empty .ensures) (c .if1 .taken) in
+    let g = table-empty (ruleOf (a .form)) (a .filter) (a .words .now) (a .arena .now) (a .image .now) (a .table) (c .before .has-empty .ensures) (c .if1 .taken) in
     (g .answers, g .lays)
 
 slice-aggregate-fill-numbered : tie.Need-slice-aggregate-fill-numbered
@@ -37,7 +37,7 @@ returns-2 : tie.Need-returns-2
 returns-2 c =
     let a = c .before .before .before .before .before .before .before .before .before .before .before .before .before .before .args in
     let p = c .before .before .before .before .before .before .before .before .before .before .before .before .before .before .pre in
-    let g = table-indexed (ruleOf (a .form)) (a .words .now) (a .arena .now) (a .image .now) (a .table) (c .before .before .before .before .before .before .before .before .before .has-empty .ensures) (c .before .before .before .before .before .before .before .before .if1 .left) _ _ _ (c .before .before .before .before .before .before .fill-numbered .ensures) (p .1 .1) (c .before .before .write-if-fits .ensures .0) (c .before .before .write-if-fits .ensures .1) in
+    let g = table-indexed (ruleOf (a .form)) (a .filter) (a .words .now) (a .arena .now) (a .image .now) (a .table) (c .before .before .before .before .before .before .before .before .before .has-empty .ensures) (c .before .before .before .before .before .before .before .before .if1 .left) _ _ _ (c .before .before .before .before .before .before .fill-numbered .ensures) (p .1 .1 .0) (c .before .before .write-if-fits .ensures .0) (c .before .before .write-if-fits .ensures .1) in
     (g .answers, g .lays)
 
 pub write-unless-empty-spec : {M : Type 1} → statement M

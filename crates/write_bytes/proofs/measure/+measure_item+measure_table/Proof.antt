@@ -7,7 +7,7 @@ use borrow.Author.Needs.{needs}
 use borrow.Fn.Kinds.{In}
 use borrow.Fn.PlainCycle.{Measures, is, falls, and}
 use lib.ListN.{length}
-use Rattle.layout.specs.Limits.{mostItems, longestFile}
+use Rattle.layout.specs.Limits.{mostItems, mostFilter, longestFile}
 use Rattle.image.specs.Plan.{place}
 use Rattle.layout.specs.Kind.{tableKind}
 use Rattle.write_bytes.specs.Numbered.{slotKind, numberedBytes}
@@ -82,7 +82,7 @@ measure-item-returns t c =
     let g = measure-item-given t s in
     let numbered = s .args .numbered .now in
     let arena = s .args .arena .now in
-    let inner = numberedBytes numbered arena (s .args .depth) in
+    let inner = numberedBytes (s .args .filter) numbered arena (s .args .depth) in
     let ends = item-end g inner (s .args .at) in
     sym (beyond _ (omega (arith, ends, c .before .value-start .ensures, c .if1 .taken)))
 
@@ -101,7 +101,7 @@ measure-item-measure-table-requires t c κs =
     let s = c .before .before .before .before .before .before .before in
     let kind = sym (c .before .before .slot-word .ensures) ∙ c .before .if2 .taken in
     let fits = s .pre .1 .0 in
-    (omega (arith, s .pre .0), (fits, (omega (arith, c .slot-word2 .ensures, slot-fits (measure-item-given t s) .guest kind), omega (arith, c .before .before .before .if1 .left))))
+    (omega (arith, s .pre .0), (fits, (omega (arith, c .slot-word2 .ensures, slot-fits (measure-item-given t s) .guest kind), omega (arith, c .before .before .before .if1 .left), s .pre .1 .1 .2)))
 
 measure-item-returns-2 : (t : ℕ) → measure-item-lts.Need-returns-2 (measure-item-claims t) (measure-item-at t) measure-item.Post
 measure-item-returns-2 t c =
@@ -109,7 +109,7 @@ measure-item-returns-2 t c =
     let g = measure-item-given t s in
     let numbered = s .args .numbered .now in
     let arena = s .args .arena .now in
-    let inner = numberedBytes numbered arena (s .args .depth) in
+    let inner = numberedBytes (s .args .filter) numbered arena (s .args .depth) in
     let kind = sym (c .before .before .before .slot-word .ensures) ∙ c .before .before .if2 .taken in
     let ends = table-item g inner (s .args .at) kind (c .before .slot-word2 .ensures) (c .before .before .before .before .before .value-start .ensures) in
     rw ends (c .measure-table .ensures)
@@ -118,7 +118,7 @@ measure-item-cover-requires : (t : ℕ) → measure-item-lts.Need-cover-requires
 measure-item-cover-requires t c κs =
     let s = c .before .before .before .before .before .before in
     let g = measure-item-given t s in
-    (slot-in g, cover-fits g)
+    (slot-in g, (cover-fits g, s .pre .1 .1 .2))
 
 measure-item-returns-3 : (t : ℕ) → measure-item-lts.Need-returns-3 (measure-item-claims t) (measure-item-at t) measure-item.Post
 measure-item-returns-3 t c =
@@ -126,13 +126,13 @@ measure-item-returns-3 t c =
     let g = measure-item-given t s in
     let numbered = s .args .numbered .now in
     let arena = s .args .arena .now in
-    let inner = numberedBytes numbered arena (s .args .depth) in
+    let inner = numberedBytes (s .args .filter) numbered arena (s .args .depth) in
     let plain : slotKind numbered (s .args .slot) ≡ tableKind → ⊥ = λ e. c .before .before .if2 .left (c .before .before .before .slot-word .ensures ∙ e) in
-    let ends = plain-item g inner (s .args .at) plain (c .before .before .before .before .before .value-start .ensures) in
+    let ends = plain-item g inner (s .args .filter) (s .args .at) plain (c .before .before .before .before .before .value-start .ensures) in
     sym (beyond _ (omega (arith, ends, c .before .cover .ensures, c .if3 .taken, c .before .before .before .before .if1 .left)))
 
-measure-item-add-t11 : (t : ℕ) → measure-item-lts.Need-add-t11 (measure-item-claims t) (measure-item-at t) measure-item.Post
-measure-item-add-t11 t c = omega (arith, c .if3 .left, c .before .before .before .before .if1 .left)
+measure-item-add-t12 : (t : ℕ) → measure-item-lts.Need-add-t12 (measure-item-claims t) (measure-item-at t) measure-item.Post
+measure-item-add-t12 t c = omega (arith, c .if3 .left, c .before .before .before .before .if1 .left)
 
 measure-item-returns-4 : (t : ℕ) → measure-item-lts.Need-returns-4 (measure-item-claims t) (measure-item-at t) measure-item.Post
 measure-item-returns-4 t c =
@@ -140,25 +140,26 @@ measure-item-returns-4 t c =
     let g = measure-item-given t s in
     let numbered = s .args .numbered .now in
     let arena = s .args .arena .now in
-    let inner = numberedBytes numbered arena (s .args .depth) in
+    let inner = numberedBytes (s .args .filter) numbered arena (s .args .depth) in
     let plain : slotKind numbered (s .args .slot) ≡ tableKind → ⊥ = λ e. c .before .before .if2 .left (c .before .before .before .slot-word .ensures ∙ e) in
-    let ends = plain-item g inner (s .args .at) plain (c .before .before .before .before .before .value-start .ensures) in
+    let ends = plain-item g inner (s .args .filter) (s .args .at) plain (c .before .before .before .before .before .value-start .ensures) in
     let e : c .before .before .before .before .before .value-start .result + c .before .cover .result ≡ s .args .at + length (slotItem inner numbered arena (s .args .slot) (s .args .at)) = omega (arith, ends, c .before .cover .ensures) in
     sym (ap measured (sym e) ∙ within _ (omega (arith, c .if3 .left, c .before .before .before .before .if1 .left)))
 
 abbrev measure-table-Inv-loop : measure-table-lts.InvT-loop
-measure-table-Inv-loop numbered arena table at depth first count end₀ k₀ end k = (k ≤ count) × (end ≤ longestFile) × (end ≡ place (planAt numbered arena depth table) (baseAt numbered arena depth table at) k)
+measure-table-Inv-loop numbered arena table at depth filter first count end₀ k₀ end k = (k ≤ count) × (end ≤ longestFile) × (end ≡ place (planAt filter numbered arena depth table) (baseAt filter numbered arena depth table at) k)
 
 abbrev measure-table-μ-loop : measure-table-lts.MeasureT-loop
-measure-table-μ-loop numbered arena table at depth first count end₀ k₀ end k = count - k
+measure-table-μ-loop numbered arena table at depth filter first count end₀ k₀ end k = count - k
 
 measure-table-given : (t : ℕ) (c : measure-table-lts.After-slot-count (measure-table-claims t) (measure-table-at t) measure-table.Post measure-table-Inv-loop measure-table-μ-loop)
-    → AtTable (c .before .before .before .before .before .args .numbered .now) (c .before .before .before .before .before .args .arena .now) (c .before .before .before .before .before .args .table) (c .before .before .before .before .before .args .at) (c .before .before .before .before .before .args .depth) (c .before .first-slot .result) (c .slot-count .result)
+    → AtTable (c .before .before .before .before .before .args .filter) (c .before .before .before .before .before .args .numbered .now) (c .before .before .before .before .before .args .arena .now) (c .before .before .before .before .before .args .table) (c .before .before .before .before .before .args .at) (c .before .before .before .before .before .args .depth) (c .before .first-slot .result) (c .slot-count .result)
 measure-table-given t c =
     let s = c .before .before .before .before .before in
     record {
       fits = s .pre .1 .0;
       known = s .pre .1 .1 .0;
+      low = s .pre .1 .1 .2;
       deep = c .before .before .if1 .left;
       first-is = c .before .first-slot .ensures;
       count-is = c .slot-count .ensures;
@@ -167,7 +168,7 @@ measure-table-given t c =
 measure-table-returns : (t : ℕ) → measure-table-lts.Need-returns (measure-table-claims t) (measure-table-at t) measure-table.Post measure-table-Inv-loop measure-table-μ-loop
 measure-table-returns t c =
     let s = c .before .before .before in
-    sym (ap measured (nothing-long (s .args .numbered .now) (s .args .arena .now) (s .args .table) (s .args .at) (s .args .depth) (c .if1 .taken)) ∙ within _ (s .pre .1 .1 .1))
+    sym (ap measured (nothing-long (s .args .filter) (s .args .numbered .now) (s .args .arena .now) (s .args .table) (s .args .at) (s .args .depth) (c .if1 .taken)) ∙ within _ (s .pre .1 .1 .1))
 
 measure-table-first-slot-requires : (t : ℕ) → measure-table-lts.Need-first-slot-requires (measure-table-claims t) (measure-table-at t) measure-table.Post measure-table-Inv-loop measure-table-μ-loop
 measure-table-first-slot-requires t c κs =
@@ -180,8 +181,8 @@ measure-table-slot-count-requires t c κs =
     omega (arith, s .pre .1 .0 .long, s .pre .1 .1)
 
 measure-table-few : (t : ℕ) (c : measure-table-lts.After-slot-count (measure-table-claims t) (measure-table-at t) measure-table.Post measure-table-Inv-loop measure-table-μ-loop)
-    → (c .slot-count .result ≤ mostItems) × (c .before .before .before .before .before .args .at ≤ longestFile)
-measure-table-few t c = (omega (arith, few (measure-table-given t c)), c .before .before .before .before .before .pre .1 .1 .1)
+    → (c .slot-count .result ≤ mostItems) × (c .before .before .before .before .before .args .at ≤ longestFile) × (c .before .before .before .before .before .args .filter ≤ mostFilter)
+measure-table-few t c = let s = c .before .before .before .before .before in (omega (arith, few (measure-table-given t c)), s .pre .1 .1 .1, s .pre .1 .1 .2)
 
 measure-table-add-end : (t : ℕ) → measure-table-lts.Need-add-end (measure-table-claims t) (measure-table-at t) measure-table.Post measure-table-Inv-loop measure-table-μ-loop
 measure-table-add-end t c = omega (arith, measure-table-few t c)
@@ -191,6 +192,12 @@ measure-table-mul-end t c = omega (arith, measure-table-few t c)
 
 measure-table-add-end-2 : (t : ℕ) → measure-table-lts.Need-add-end-2 (measure-table-claims t) (measure-table-at t) measure-table.Post measure-table-Inv-loop measure-table-μ-loop
 measure-table-add-end-2 t c = omega (arith, measure-table-few t c)
+
+measure-table-mul-end-2 : (t : ℕ) → measure-table-lts.Need-mul-end-2 (measure-table-claims t) (measure-table-at t) measure-table.Post measure-table-Inv-loop measure-table-μ-loop
+measure-table-mul-end-2 t c = omega (arith, measure-table-few t c)
+
+measure-table-add-end-3 : (t : ℕ) → measure-table-lts.Need-add-end-3 (measure-table-claims t) (measure-table-at t) measure-table.Post measure-table-Inv-loop measure-table-μ-loop
+measure-table-add-end-3 t c = omega (arith, measure-table-few t c)
 
 measure-table-returns-2 : (t : ℕ) → measure-table-lts.Need-returns-2 (measure-table-claims t) (measure-table-at t) measure-table.Post measure-table-Inv-loop measure-table-μ-loop
 measure-table-returns-2 t c =
@@ -216,7 +223,7 @@ measure-table-measure-item-requires t c κs =
     let g = measure-table-given t (c .before .before .before) in
     let fits = s .pre .1 .0 in
     let deep = c .before .before .before .before .before .if1 .left in
-    (omega (arith, s .pre .0, deep), (fits, (omega (arith, few g, c .loop-test .taken), c .before .loop .inv .1)))
+    (omega (arith, s .pre .0, deep), (fits, (omega (arith, few g, c .loop-test .taken), c .before .loop .inv .1, g .low)))
 
 measure-table-enum-known-stop : (t : ℕ) → measure-table-lts.Need-enum-known-stop (measure-table-claims t) (measure-table-at t) measure-table.Post measure-table-Inv-loop measure-table-μ-loop
 measure-table-enum-known-stop t c = search needs
@@ -254,7 +261,7 @@ measure-table-returns-4 t c =
     let arena = s .args .arena .now in
     let at = c .before .loop in
     let all : at .k ≡ c .before .before .before .slot-count .result = omega (arith, at .inv .0, c .loop-test .left) in
-    let ends : s .args .at + length (numberedBytes numbered arena (s .args .depth) (s .args .table) (s .args .at)) ≡ at .end =
+    let ends : s .args .at + length (numberedBytes (s .args .filter) numbered arena (s .args .depth) (s .args .table) (s .args .at)) ≡ at .end =
     table-ends g ∙ sym (rw all at (at .inv .2)) in
     sym (ap measured ends ∙ within _ (at .inv .1))
 
@@ -271,7 +278,7 @@ pub +measure-item+measure-table-spec : {M : Type 1} → statement M
     (measure-item-returns-2 t)
     (measure-item-cover-requires t)
     (measure-item-returns-3 t)
-    (measure-item-add-t11 t)
+    (measure-item-add-t12 t)
     (measure-item-returns-4 t))
     λ t. measure-table-lts.spec (measure-table-claims t)
     (measure-table-at t)
@@ -284,6 +291,8 @@ pub +measure-item+measure-table-spec : {M : Type 1} → statement M
     (measure-table-add-end t)
     (measure-table-mul-end t)
     (measure-table-add-end-2 t)
+    (measure-table-mul-end-2 t)
+    (measure-table-add-end-3 t)
     (measure-table-returns-2 t)
     (measure-table-loop-holds t)
     (measure-table-add-measure-item t)

@@ -5,8 +5,7 @@ use native.Mathlib.Omega.{arith}
 use borrow.Author.Needs.{needs}
 use Rattle.layout.specs.Kind.{valueKind}
 use Rattle.write_bytes.specs.Numbered.{slotKind}
-use Rattle.write_bytes.proofs.SlotLaws.{cover-value, cover-container}
-use Rattle.write_bytes.proofs.PutLaws.{bytes-laid, children-laid, child-is}
+use Rattle.write_bytes.proofs.PutLaws.{length-bytes, length-children, bytes-laid, children-laid, child-is}
 use Rattle.write_bytes.proofs.put.lay_plain.Statement.{statement}
 use Rattle.write_bytes.proofs.put.lay_plain.Tie as tie
 
@@ -22,9 +21,10 @@ slot-word-requires-3 c κs = search needs
 lay-part-requires : tie.Need-lay-part-requires
 lay-part-requires c κs =
     let s = c .before .before .before .before .before .before .before .before in
-    let kind = sym (c .before .before .before .before .slot-word .ensures) ∙ c .before .if1 .taken in (
-      omega (arith, s .pre .0 .slots (s .args .slot) (s .pre .1 .0) .value kind, c .before .before .before .slot-word2 .ensures, c .before .before .slot-word3 .ensures),
-      omega (arith, s .pre .1 .1 .1, cover-value (s .args .numbered .now) (s .args .slot) kind, c .before .before .slot-word3 .ensures),
+    let kind = sym (c .before .before .before .before .slot-word .ensures) ∙ c .before .if1 .taken in
+    let inside = s .pre .0 .slots (s .args .slot) (s .pre .1 .0) .value kind in (
+      omega (arith, inside, c .before .before .before .slot-word2 .ensures, c .before .before .slot-word3 .ensures),
+      omega (arith, s .pre .1 .1 .1, length-bytes (s .args .numbered .now) (s .args .arena .now) (s .args .slot) kind inside, c .before .before .slot-word3 .ensures),
     )
 
 same-length : tie.Need-same-length
@@ -51,7 +51,7 @@ lay-words-requires c κs =
         omega (arith, fits .long, room, from .ensures, count),
         omega (arith, child-is (s .args .numbered .now) (from .result) j, fits .children (from .result + j) (omega (arith, room, from .ensures, count))),
       ),
-      omega (arith, s .pre .1 .1 .1, cover-container (s .args .numbered .now) (s .args .slot) other (s .pre .1 .1 .0), count),
+      omega (arith, s .pre .1 .1 .1, length-children (s .args .numbered .now) (s .args .arena .now) (s .args .slot) other, count),
     )
 
 same-length-2 : tie.Need-same-length-2

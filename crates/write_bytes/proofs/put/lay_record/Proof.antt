@@ -46,7 +46,7 @@ returns : tie.Need-returns
 returns c =
     let s = c .before .before .before .before .before .before .before .before .before .before .before .before .before .before .before in
     let args = s .args in
-    put-record (args .numbered .now) (args .image .now) (args .slot) (args .to) (args .at) (args .start) (c .before .before .before .before .before .before .before .before .before .before .before .before .slot-word .ensures) (c .before .before .before .before .before .before .before .before .before .before .before .slot-word2 .ensures)
+    put-record (args .filter) (args .numbered .now) (args .image .now) (args .slot) (args .to) (args .at) (args .start) (c .before .before .before .before .before .before .before .before .before .before .before .before .slot-word .ensures) (c .before .before .before .before .before .before .before .before .before .before .before .slot-word2 .ensures)
     (c .before .before .before .before .before .before .slot-word3 .ensures) (c .before .before .before .before .before .slot-word4 .ensures) (ap (λ (n : ℕ). args .start + n) (c .before .before .before .before .cover .ensures)) (s .pre .1 .1 .0 .size) (s .pre .1 .1 .0 .kind)
     (c .before .before .before .before .before .before .before .before .before .lay-three .ensures) (c .before .before .lay-three2 .ensures)
 

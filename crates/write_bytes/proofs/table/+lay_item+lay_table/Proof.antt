@@ -11,9 +11,9 @@ use lib.ListN.{length}
 use Rattle.layout.specs.Kind.{tableKind}
 use Rattle.write_bytes.specs.Numbered.{slotKind, numberedBytes}
 use Rattle.write_bytes.proofs.SlotLaws.{start-above}
-use Rattle.write_bytes.proofs.ItemLaws.{AtSlot, slot-in, slot-fits, cover-fits, item-end, record-fits, item-laid, guest-is, table-item, plain-item, value-plain}
+use Rattle.write_bytes.proofs.ItemLaws.{AtSlot, slot-in, slot-fits, cover-fits, item-end, record-fits, item-laid, guest-is, table-item, plain-end, value-plain}
 use Rattle.write_bytes.proofs.TableLaws.{Half}
-use Rattle.write_bytes.proofs.TurnLaws.{AtTable, planAt, baseAt, nothing-laid, table-least, few, buckets-fit, turn, begun, more, whole}
+use Rattle.write_bytes.proofs.TurnLaws.{AtTable, planAt, baseAt, nothing-laid, table-least, few, front-fits, turn, begun, more, whole}
 use Rattle.write_bytes.proofs.table.lay_item.Reads as lay-item
 use Rattle.write_bytes.proofs.table.lay_item.Kinds as lay-item-kinds
 use Rattle.write_bytes.proofs.table.+lay_item+lay_table.Lts-lay_item as lay-item-lts
@@ -73,13 +73,13 @@ lay-item-lay-record-requires t c κs =
     let g = lay-item-given t s in
     let numbered = s .args .numbered .now in
     let arena = s .args .arena .now in
-    let inner = numberedBytes numbered arena (s .args .depth) in (
+    let inner = numberedBytes (s .args .filter) numbered arena (s .args .depth) in (
       slot-in g,
       (
         cover-fits g,
         (
-          rw (c .before .value-start .ensures) (record-fits g inner (s .args .at) (omega (arith, s .pre .1 .1 .1))),
-          omega (arith, s .pre .1 .1),
+          rw (c .before .value-start .ensures) (record-fits g inner (s .args .filter) (s .args .at) (s .pre .1 .1 .0 .2) (omega (arith, s .pre .1 .1 .1))),
+          (s .pre .1 .1 .0 .2, omega (arith, s .pre .1 .1)),
         ),
       ),
     )
@@ -90,7 +90,7 @@ lay-item-lay-key-requires t c κs =
     let g = lay-item-given t s in
     let numbered = s .args .numbered .now in
     let arena = s .args .arena .now in
-    let inner = numberedBytes numbered arena (s .args .depth) in (
+    let inner = numberedBytes (s .args .filter) numbered arena (s .args .depth) in (
       slot-in g,
       (
         slot-fits g .fragment,
@@ -118,7 +118,7 @@ lay-item-lay-table-requires t c κs =
     let numbered = s .args .numbered .now in
     let arena = s .args .arena .now in
     let fits = s .pre .1 .0 in
-    let inner = numberedBytes numbered arena (s .args .depth) in
+    let inner = numberedBytes (s .args .filter) numbered arena (s .args .depth) in
     let kind = sym (c .before .before .before .slot-word .ensures) ∙ c .before .before .if1 .taken in
     let guest = c .before .slot-word2 .ensures in
     let ends = table-item g inner (s .args .at) kind guest (c .before .before .before .before .before .before .before .before .before .before .before .before .value-start .ensures) in (
@@ -126,7 +126,7 @@ lay-item-lay-table-requires t c κs =
       (
         fits,
         (
-          omega (arith, guest, slot-fits g .guest kind),
+          (omega (arith, guest, slot-fits g .guest kind), s .pre .1 .1 .0 .2),
           (
             omega (arith, ends, s .pre .1 .1 .1, c .before .before .before .before .before .before .lay-key .kept, c .before .before .before .before .before .before .before .before .before .before .lay-record .kept),
             omega (arith, s .pre .1 .1 .1, c .before .before .before .before .before .before .lay-key .kept, c .before .before .before .before .before .before .before .before .before .before .lay-record .kept),
@@ -144,9 +144,9 @@ lay-item-returns t c =
     let g = lay-item-given t s in
     let numbered = s .args .numbered .now in
     let arena = s .args .arena .now in
-    let inner = numberedBytes numbered arena (s .args .depth) in
+    let inner = numberedBytes (s .args .filter) numbered arena (s .args .depth) in
     let kind = sym (c .before .before .before .before .before .before .slot-word .ensures) ∙ c .before .before .before .before .before .if1 .taken in
-    item-laid g inner (s .args .image .now) (s .args .to) (s .args .at) (c .before .before .before .before .before .before .before .before .before .before .before .before .before .before .before .value-start .ensures) (c .before .before .before .before .before .before .before .before .before .before .before .before .before .lay-record .ensures)
+    item-laid g inner (s .args .filter) (s .args .image .now) (s .args .to) (s .args .at) (c .before .before .before .before .before .before .before .before .before .before .before .before .before .before .before .value-start .ensures) (c .before .before .before .before .before .before .before .before .before .before .before .before .before .lay-record .ensures)
     (c .before .before .before .before .before .before .before .before .before .lay-key .ensures) (guest-is g inner kind (c .before .before .before .before .slot-word2 .ensures)) (c .before .before .lay-table .ensures)
 
 lay-item-lay-plain-requires : (t : ℕ) → lay-item-lts.Need-lay-plain-requires (lay-item-claims t) (lay-item-at t) lay-item.Post
@@ -157,9 +157,9 @@ lay-item-lay-plain-requires t c κs =
     let arena = s .args .arena .now in
     let fits = s .pre .1 .0 in
     let inside = s .pre .1 .1 .0 .0 in
-    let inner = numberedBytes numbered arena (s .args .depth) in
+    let inner = numberedBytes (s .args .filter) numbered arena (s .args .depth) in
     let plain : slotKind numbered (s .args .slot) ≡ tableKind → ⊥ = λ e. c .before .if1 .left (c .before .before .slot-word .ensures ∙ e) in
-    let ends = plain-item g inner (s .args .at) plain (c .before .before .before .before .before .before .before .before .before .before .before .value-start .ensures) in
+    let ends = plain-end g inner (s .args .at) plain (c .before .before .before .before .before .before .before .before .before .before .before .value-start .ensures) in
     (fits, (inside, (plain, omega (arith, ends, s .pre .1 .1 .1, c .before .before .before .before .before .lay-key .kept, c .before .before .before .before .before .before .before .before .before .lay-record .kept))))
 
 lay-item-same-length-2 : (t : ℕ) → lay-item-lts.Need-same-length-2 (lay-item-claims t) (lay-item-at t) lay-item.Post
@@ -171,26 +171,27 @@ lay-item-returns-2 t c =
     let g = lay-item-given t s in
     let numbered = s .args .numbered .now in
     let arena = s .args .arena .now in
-    let inner = numberedBytes numbered arena (s .args .depth) in
+    let inner = numberedBytes (s .args .filter) numbered arena (s .args .depth) in
     let plain : slotKind numbered (s .args .slot) ≡ tableKind → ⊥ = λ e. c .before .before .before .before .if1 .left (c .before .before .before .before .before .slot-word .ensures ∙ e) in
-    item-laid g inner (s .args .image .now) (s .args .to) (s .args .at) (c .before .before .before .before .before .before .before .before .before .before .before .before .before .before .value-start .ensures) (c .before .before .before .before .before .before .before .before .before .before .before .before .lay-record .ensures)
+    item-laid g inner (s .args .filter) (s .args .image .now) (s .args .to) (s .args .at) (c .before .before .before .before .before .before .before .before .before .before .before .before .before .before .value-start .ensures) (c .before .before .before .before .before .before .before .before .before .before .before .before .lay-record .ensures)
     (c .before .before .before .before .before .before .before .before .lay-key .ensures) (sym (value-plain g inner _ plain)) (c .before .before .lay-plain .ensures)
 
 abbrev lay-table-Inv-loop : lay-table-lts.InvT-loop
-lay-table-Inv-loop numbered arena image₀ table at depth first count records end₀ k₀ image end k =
+lay-table-Inv-loop numbered arena image₀ table at depth filter first count records end₀ k₀ image end k =
     (k ≤ count) × (length image ≡ length image₀)
-    × Half (planAt numbered arena depth table) image₀ image records (baseAt numbered arena depth table at) k end
+    × Half (planAt filter numbered arena depth table) image₀ image records (baseAt filter numbered arena depth table at) k end
 
 abbrev lay-table-μ-loop : lay-table-lts.MeasureT-loop
-lay-table-μ-loop numbered arena image₀ table at depth first count records end₀ k₀ image end k = count - k
+lay-table-μ-loop numbered arena image₀ table at depth filter first count records end₀ k₀ image end k = count - k
 
 lay-table-given : (t : ℕ) (c : lay-table-lts.After-slot-count (lay-table-claims t) (lay-table-at t) lay-table.Post lay-table-Inv-loop lay-table-μ-loop)
-    → AtTable (c .before .before .before .before .before .before .args .numbered .now) (c .before .before .before .before .before .before .args .arena .now) (c .before .before .before .before .before .before .args .table) (c .before .before .before .before .before .before .args .at) (c .before .before .before .before .before .before .args .depth) (c .before .first-slot .result) (c .slot-count .result)
+    → AtTable (c .before .before .before .before .before .before .args .filter) (c .before .before .before .before .before .before .args .numbered .now) (c .before .before .before .before .before .before .args .arena .now) (c .before .before .before .before .before .before .args .table) (c .before .before .before .before .before .before .args .at) (c .before .before .before .before .before .before .args .depth) (c .before .first-slot .result) (c .slot-count .result)
 lay-table-given t c =
     let s = c .before .before .before .before .before .before in
     record {
       fits = s .pre .1 .0;
-      known = s .pre .1 .1 .0;
+      known = s .pre .1 .1 .0 .0;
+      low = s .pre .1 .1 .0 .1;
       deep = c .before .before .if1 .left;
       first-is = c .before .first-slot .ensures;
       count-is = c .slot-count .ensures;
@@ -199,7 +200,7 @@ lay-table-given t c =
 lay-table-returns : (t : ℕ) → lay-table-lts.Need-returns (lay-table-claims t) (lay-table-at t) lay-table.Post lay-table-Inv-loop lay-table-μ-loop
 lay-table-returns t c =
     let s = c .before .before .before .before in
-    nothing-laid (s .args .numbered .now) (s .args .arena .now) (s .args .table) (s .args .at) (s .args .depth) (s .args .image .now) (c .if1 .taken)
+    nothing-laid (s .args .filter) (s .args .numbered .now) (s .args .arena .now) (s .args .table) (s .args .at) (s .args .depth) (s .args .image .now) (c .if1 .taken)
 
 lay-table-first-slot-requires : (t : ℕ) → lay-table-lts.Need-first-slot-requires (lay-table-claims t) (lay-table-at t) lay-table.Post lay-table-Inv-loop lay-table-μ-loop
 lay-table-first-slot-requires t c κs =
@@ -216,11 +217,11 @@ lay-table-lay-front-requires t c κs =
     let s = c .before .before .before .before .before .before .before in
     let g = lay-table-given t (c .before) in
     let fits = s .pre .1 .0 in
-    ((fits .long, few g), (buckets-fit g, omega (arith, table-least g, s .pre .1 .1 .1)))
+    ((fits .long, few g, g .low), (front-fits g, omega (arith, table-least g, s .pre .1 .1 .1)))
 
 -- its chunk ends within the longest file
 lay-table-room : (t : ℕ) (c : lay-table-lts.After-slot-count (lay-table-claims t) (lay-table-at t) lay-table.Post lay-table-Inv-loop lay-table-μ-loop)
-    → c .before .before .before .before .before .before .args .at + 8 + 28 * c .slot-count .result ≤ longestFile
+    → c .before .before .before .before .before .before .args .at + 8 + 4 * c .before .before .before .before .before .before .args .filter + 28 * c .slot-count .result ≤ longestFile
 lay-table-room t c = omega (arith, table-least (lay-table-given t c), c .before .before .before .before .before .before .pre .1 .1 .1)
 
 lay-table-add-records : (t : ℕ) → lay-table-lts.Need-add-records (lay-table-claims t) (lay-table-at t) lay-table.Post lay-table-Inv-loop lay-table-μ-loop
@@ -231,6 +232,12 @@ lay-table-mul-records t c = omega (arith, lay-table-room t (c .before .before .b
 
 lay-table-add-records-2 : (t : ℕ) → lay-table-lts.Need-add-records-2 (lay-table-claims t) (lay-table-at t) lay-table.Post lay-table-Inv-loop lay-table-μ-loop
 lay-table-add-records-2 t c = omega (arith, lay-table-room t (c .before .before .before .before))
+
+lay-table-mul-records-2 : (t : ℕ) → lay-table-lts.Need-mul-records-2 (lay-table-claims t) (lay-table-at t) lay-table.Post lay-table-Inv-loop lay-table-μ-loop
+lay-table-mul-records-2 t c = omega (arith, lay-table-room t (c .before .before .before .before))
+
+lay-table-add-records-3 : (t : ℕ) → lay-table-lts.Need-add-records-3 (lay-table-claims t) (lay-table-at t) lay-table.Post lay-table-Inv-loop lay-table-μ-loop
+lay-table-add-records-3 t c = omega (arith, lay-table-room t (c .before .before .before .before))
 
 lay-table-mul-end : (t : ℕ) → lay-table-lts.Need-mul-end (lay-table-claims t) (lay-table-at t) lay-table.Post lay-table-Inv-loop lay-table-μ-loop
 lay-table-mul-end t c = omega (arith, lay-table-room t (c .before .before .before .before))
@@ -272,7 +279,7 @@ lay-table-lay-item-requires t c κs =
     let at = c .before .before .loop in
     let turns = turn g (at .k) (c .before .loop-test .taken) (at .inv .2 .end-is) _ (s .pre .1 .1 .1 .0) in
     let long = at .inv .1 ∙ c .before .before .before .before .before .lay-front .kept .1 .0 in
-    (omega (arith, s .pre .0, deep), (fits, ((turns .inside, turns .apart), (rw long (turns .fits), rw long (s .pre .1 .1 .1 .1)))))
+    (omega (arith, s .pre .0, deep), (fits, ((turns .inside, turns .apart, g .low), (rw long (turns .fits), rw long (s .pre .1 .1 .1 .1)))))
 
 lay-table-add-k : (t : ℕ) → lay-table-lts.Need-add-k (lay-table-claims t) (lay-table-at t) lay-table.Post lay-table-Inv-loop lay-table-μ-loop
 lay-table-add-k t c =
@@ -329,6 +336,8 @@ pub +lay-item+lay-table-spec : {M : Type 1} → statement M
     (lay-table-add-records t)
     (lay-table-mul-records t)
     (lay-table-add-records-2 t)
+    (lay-table-mul-records-2 t)
+    (lay-table-add-records-3 t)
     (lay-table-mul-end t)
     (lay-table-add-end t)
     (lay-table-loop-holds t)

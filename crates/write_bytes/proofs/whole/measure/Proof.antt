@@ -10,7 +10,7 @@ measure-table-requires c κs = search needs
 returns : tie.Need-returns
 returns c =
     let args = c .before .before .before .args in
-    rw (length-image (args .numbered .now) (args .arena .now) (args .table)) (c .measure-table .ensures)
+    rw (length-image (args .filter) (args .numbered .now) (args .arena .now) (args .table)) (c .measure-table .ensures)
 
 pub measure-spec : {M : Type 1} → statement M
 measure-spec = tie.close (tie.spec measure-table-requires returns)
