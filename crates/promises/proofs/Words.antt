@@ -10,6 +10,8 @@ use Rattle.words.proofs.bits.bloom_shift.Kinds as bloom-shift-kinds
 use Rattle.words.proofs.bits.bloom_shift.Reads as bloom-shift-reads
 use Rattle.words.proofs.bits.bit_set.Kinds as bit-set-kinds
 use Rattle.words.proofs.bits.bit_set.Reads as bit-set-reads
+use Rattle.words.proofs.bits.put_bit.Kinds as put-bit-kinds
+use Rattle.words.proofs.bits.put_bit.Reads as put-bit-reads
 use Rattle.words.proofs.hash.wrapping_mul.Kinds as wrapping-mul-kinds
 use Rattle.words.proofs.hash.wrapping_mul.Reads as wrapping-mul-reads
 use Rattle.words.proofs.hash.byte_counts.Kinds as byte-counts-kinds
@@ -76,6 +78,9 @@ bloom-shift-unique κs a s t x y p q = p ∙ sym q
 
 pub bit-set-unique : OneAnswer bit-set-kinds.ps bit-set-kinds.r bit-set-reads.Post
 bit-set-unique κs a s t x y p q = p ∙ sym q
+
+pub put-bit-unique : OneAnswer put-bit-kinds.ps put-bit-kinds.r put-bit-reads.Post
+put-bit-unique κs a s t x y p q = p ∙ sym q
 
 pub wrapping-mul-unique : OneAnswer wrapping-mul-kinds.ps wrapping-mul-kinds.r wrapping-mul-reads.Post
 wrapping-mul-unique κs a s t x y p q = p ∙ sym q
