@@ -10,28 +10,28 @@ use gvdb::writing::GvdbImage;
 use gvdb::writing::gvdb_write;
 
 // Memory for a builder: whatever it holds, a fresh start makes it empty.
-fn room_of_words() -> [usize; 14600] {
+pub fn room_of_words() -> [usize; 14600] {
     [7usize; 14600]
 }
 
-fn room_of_bytes() -> [u8; 8192] {
+pub fn room_of_bytes() -> [u8; 8192] {
     [7u8; 8192]
 }
 
 // An answer's number behind a name.
-fn told(name: &[u8], number: u32) {
+pub fn told(name: &[u8], number: u32) {
     say::text(name);
     say::text(b" ");
     say::number(number as u64);
     say::end();
 }
 
-fn insert(words: &mut [usize], arena: &mut [u8], table: u32, key: &[u8], value: &[u8]) {
+pub fn insert(words: &mut [usize], arena: &mut [u8], table: u32, key: &[u8], value: &[u8]) {
     let inserted = gvdb_insert(words, arena, table, key, value);
     told(key, inserted.number);
 }
 
-fn said(room: usize, written: GvdbImage) {
+pub fn said(room: usize, written: GvdbImage) {
     say::text(b"write into ");
     say::size(room);
     say::text(b": ");
@@ -60,7 +60,7 @@ fn image(words: &mut [usize], arena: &[u8], room: usize, manner: u32) {
 }
 
 // A fresh start, and a table.
-fn start(words: &mut [usize], arena: &mut [u8], separator: &[u8]) {
+pub fn start(words: &mut [usize], arena: &mut [u8], separator: &[u8]) {
     gvdb_fresh(words, arena);
     gvdb_new_table(words, arena, separator);
 }

@@ -1,5 +1,6 @@
-// Document 01's worked numbers and images as the code answers and lays them, its limits from both sides, and the boundary cases of UTF-8 and of
-// opening. What it writes is held to the file stdout.
+// Document 01's worked numbers and images as the code answers and lays them, document 02's images with filter words, the limits from both sides,
+// and the boundary cases of UTF-8 and of opening. What it writes is held to the file stdout.
+mod filter;
 mod header;
 mod laid;
 mod layered;
@@ -22,6 +23,7 @@ fn main() {
     header::headers();
     tour::files();
     laid::tables();
+    filter::tables();
     seen::files();
     layered::files();
 }
