@@ -231,7 +231,7 @@ static void say_forms(void)
     uint32_t table = new_table("");
     insert(table, "\xC3\xA9", "oak");
     for (uint32_t manner = 0; manner <= GVDB_SIGNED; manner++) {
-        written[manner] = gvdb_write(BUILDER, table, laid[manner], sizeof laid[manner], manner);
+        written[manner] = gvdb_write(BUILDER, table, laid[manner], sizeof laid[manner], manner, 0);
         printf("write in the %s form: %" PRIu32 ", length %" PRIu32 ", bytes 36 to 39", names[manner], written[manner].number, written[manner].length);
         for (size_t i = 36; i < 40; i++) {
             printf(" %02X", (unsigned)laid[manner][i]);
@@ -246,7 +246,7 @@ static void say_forms(void)
         say_key("get", "\xC3\xA9");
         printf("%" PRIu32 " in the %s form; check: %" PRIu32 ", rule %" PRIu32 "\n", place.number, names[manner], checked.number, checked.rule);
     }
-    gvdb_place unread = gvdb_get(laid[1], written[1].length, written[1].start, written[1].end, BYTES("\xC3\xA9"), GVDB_SIGNED | 0xFFFFFFFEu);
+    gvdb_place unread = gvdb_get(laid[1], written[1].length, written[1].start, written[1].end, BYTES("\xC3\xA9"), GVDB_SIGNED | 0xFFFFFFFCu);
     printf("with every other bit of the manner: %" PRIu32 "\n", unread.number);
 }
 
@@ -276,8 +276,8 @@ static void say_layered(void)
     insert(district, "oak", "1801");
     insert(district, "beech", "1802");
     insert(district, "stand/", "a value");
-    written[GVDB_OWNER] = gvdb_write(BUILDER, owner, laid[GVDB_OWNER], sizeof laid[GVDB_OWNER], 0);
-    written[GVDB_DISTRICT] = gvdb_write(BUILDER, district, laid[GVDB_DISTRICT], sizeof laid[GVDB_DISTRICT], 0);
+    written[GVDB_OWNER] = gvdb_write(BUILDER, owner, laid[GVDB_OWNER], sizeof laid[GVDB_OWNER], 0, 0);
+    written[GVDB_DISTRICT] = gvdb_write(BUILDER, district, laid[GVDB_DISTRICT], sizeof laid[GVDB_DISTRICT], 0, 0);
     get_layered(laid, written, written[GVDB_DISTRICT].length);
     printf("over a district's file that is cut:\n");
     get_layered(laid, written, 24);
@@ -292,6 +292,41 @@ static uint8_t *find(const char *text, size_t length)
         }
     }
     exit(1);
+}
+
+/* A key in a table of one filter word, by the lookup of each manner, and the check by it. */
+static void look_up(const char *what, const uint8_t *laid, gvdb_image of)
+{
+    static const char *const lookups[] = {"Rust's", "strict"};
+    for (uint32_t strict = 0; strict < 2; strict++) {
+        gvdb_place place = gvdb_get(laid, of.length, of.start, of.end, BYTES("a"), strict * GVDB_STRICT);
+        gvdb_checked checked = gvdb_check(laid, of.length, of.start, of.end, strict * GVDB_STRICT);
+        printf("%s, by the %s lookup: get %" PRIu32 "; check %" PRIu32 ", rule %" PRIu32 "\n", what, lookups[strict], place.number, checked.number, checked.rule);
+    }
+}
+
+/* A table with filter words, as it is laid, and with the second of its key's bits cleared. */
+static void say_filters(void)
+{
+    static const uint32_t filters[] = {0, 1, 2, GVDB_MAX_FILTER, GVDB_MAX_FILTER + 1};
+    static uint8_t laid[8192];
+    gvdb_image written;
+    gvdb_fresh(BUILDER);
+    uint32_t table = new_table("");
+    insert(table, "a", "oak");
+    for (size_t i = 0; i < sizeof filters / sizeof filters[0]; i++) {
+        written = gvdb_write(BUILDER, table, laid, sizeof laid, 0, filters[i]);
+        printf("write with %" PRIu32 " filter words: %" PRIu32 ", root to %" PRIu32 ", length %" PRIu32 "\n", filters[i], written.number, written.end, written.length);
+    }
+    written = gvdb_write(BUILDER, table, laid, sizeof laid, 0, 1);
+    printf("the first word and the filter:");
+    for (size_t i = 24; i < 36; i++) {
+        printf(i < 28 || i >= 32 ? " %02X" : "", (unsigned)laid[i]);
+    }
+    printf("\n");
+    look_up("as it is laid", laid, written);
+    laid[34] = 0;
+    look_up("with a bit cleared", laid, written);
 }
 
 int main(void)
@@ -316,9 +351,9 @@ int main(void)
     say_count(register_table);
     say_count(owner);
     say_count(7);
-    gvdb_image written = gvdb_write(BUILDER, register_table, image, 100, 0);
+    gvdb_image written = gvdb_write(BUILDER, register_table, image, 100, 0, 0);
     printf("write into 100 bytes: %" PRIu32 "\n", written.number);
-    written = gvdb_write(BUILDER, register_table, image, sizeof image, 0);
+    written = gvdb_write(BUILDER, register_table, image, sizeof image, 0, 0);
     printf("write: %" PRIu32 ", root %" PRIu32 " to %" PRIu32 ", length %" PRIu32 "\n", written.number, written.start, written.end, written.length);
     read_header("the image", image, written.length);
     printf("lay its header: %" PRIu32 "\n", gvdb_lay_header(image, written.length, 0, written.start, written.end));
@@ -342,6 +377,7 @@ int main(void)
     insert(register_table, "kept", "memory that was changed");
     say_forms();
     say_layered();
+    say_filters();
     free(words);
     return 0;
 }

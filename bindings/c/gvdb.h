@@ -40,23 +40,35 @@ extern "C" {
  *   4: gvdb_next_child with gvdb_child
  *   5: GVDB_SIGNED; the parameter manner, which is last, of gvdb_get, gvdb_get_table, gvdb_next_child, gvdb_check and gvdb_write
  *   6: gvdb_get_layered with gvdb_layered, GVDB_OWNER and GVDB_DISTRICT
+ *   7: GVDB_STRICT; the parameter filter, which is last, of gvdb_write; the number 33
  */
-#define GVDB_ABI 6
+#define GVDB_ABI 7
 
 /* The number of the library that is linked. Another than GVDB_ABI is a library of other structs than those below. */
 uint32_t gvdb_abi(void);
 
 /*
- * A manner says how a table is read, checked and laid: 0, or GVDB_SIGNED. A table is found, checked and laid under one: what is laid in one form of the hash is
- * read in that form. Keys whose bytes are all below 128 are found, checked and laid alike in both, in every file. No other bit of a manner is read.
+ * A manner says how a table is read, checked and laid: 0, or GVDB_SIGNED or GVDB_STRICT or both. No other bit of a manner is read.
+ *
+ * GVDB_SIGNED is the form of the hash. A table is found, checked and laid under one: what is laid in one form is read in that form. Keys whose bytes are all below
+ * 128 are found, checked and laid alike in both, in every file.
+ *
+ * GVDB_STRICT is the lookup, and a write does not ask for it. In a table with filter words a key is found only if two bits of one word are set: bit (hash modulo
+ * 32), and bit ((hash shifted right by s) modulo 32). The Rust's lookup takes 0 for s, so that both are one bit; the strict one takes the top five bits of the
+ * table's first word. In a table that this library laid both answer alike on every key. In any file, what the strict lookup finds the Rust's finds too, and a
+ * table that passes the check by the strict lookup passes it by the Rust's.
  */
 #define GVDB_SIGNED 1u /* in the hash of a key its bytes count -128 to 127, as in GLib; without this bit 0 to 255, as in gvdb-rs */
+#define GVDB_STRICT 2u /* lookups use the shift in the table's first word; without this bit 0, as in gvdb-rs and in GLib */
+
+/* The most filter words that a write takes. */
+#define GVDB_MAX_FILTER 1024u
 
 /* Which of two tables answered a lookup. */
 #define GVDB_OWNER 0u
 #define GVDB_DISTRICT 1u
 
-/* The numbers of the answers. 18, 32, 33 and 34 are set aside for calls to come; no call here answers them. */
+/* The numbers of the answers. 18, 32 and 34 are set aside for calls to come; no call here answers them. */
 enum {
     GVDB_OK = 0,                  /* a success */
     GVDB_FILE_TOO_LONG = 1,       /* the file, or the target of a header, has over 16,777,216 bytes */
@@ -89,6 +101,7 @@ enum {
     GVDB_MEMORY_BROKEN = 29,      /* the builder's words are too few, or the memory breaks a rule that the call judges (see 'Building') */
     GVDB_EMPTY_KEY = 30,          /* an item to be written has the empty key */
     GVDB_IMAGE_TOO_LONG = 31,     /* the image is longer than the lent buffer, or than 16,777,216 bytes */
+    GVDB_TOO_MANY_FILTER_WORDS = 33, /* more than 1,024 filter words are asked for */
     GVDB_CHECK_BROKEN = 40        /* an item of the table breaks a rule of the check */
 };
 
@@ -321,10 +334,12 @@ gvdb_count gvdb_item_count(const size_t *words, size_t words_length, const uint8
 
 /*
  * Lays the image of a table, with those nested in it, in a manner, into the front of a buffer; bytes past the image stay, and bytes 0 to 23 are zeros, for
- * gvdb_lay_header. The builder is as it was afterwards and can be used on; its words are borrowed during the call. Refuses with 24, 30, 31.
+ * gvdb_lay_header. Every table of the image gets so many filter words as filter says, 0 to GVDB_MAX_FILTER, of four bytes each: with some, most lookups of a key
+ * that is not there end at the filter. With 0 the image is gvdb-rs's. The builder is as it was afterwards and can be used on; its words are borrowed during
+ * the call. Refuses with 24, 33, 30, 31.
  */
 gvdb_image gvdb_write(size_t *words, size_t words_length, const uint8_t *arena, size_t arena_length, uint32_t table, uint8_t *image, size_t image_length,
-                      uint32_t manner);
+                      uint32_t manner, uint32_t filter);
 
 #ifdef __cplusplus
 }

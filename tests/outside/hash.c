@@ -123,7 +123,7 @@ int main(void)
             gvdb_new_table(words, count, arena, sizeof arena, key, 0);
             hold(gvdb_insert(words, count, arena, sizeof arena, 0, key, length, key, 0).number == GVDB_OK, "not inserted", length, 0);
             for (uint32_t manner = 0; manner <= GVDB_SIGNED; manner++) {
-                gvdb_image written = gvdb_write(words, count, arena, sizeof arena, 0, image, sizeof image, manner);
+                gvdb_image written = gvdb_write(words, count, arena, sizeof arena, 0, image, sizeof image, manner, 0);
                 put_word(laid, hashes[manner]);
                 hold(written.number == (length == 0 ? GVDB_EMPTY_KEY : GVDB_OK), "not written", length, manner);
                 hold(length == 0 || memcmp(image + HASH, laid, 4) == 0, "another hash laid", length, manner);

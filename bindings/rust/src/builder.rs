@@ -3,7 +3,7 @@
 use crate::ffi;
 use crate::form::Form;
 use crate::header::{ByteOrder, Header};
-use crate::limits::{MAX_FILE, MAX_ITEMS, MAX_TABLES};
+use crate::limits::{MAX_FILE, MAX_FILTER_WORDS, MAX_ITEMS, MAX_TABLES};
 use crate::refusal::{accepted, accepted_at, Refusal};
 use crate::table::Pointer;
 use std::fmt;
@@ -52,6 +52,22 @@ impl TableNumber {
     /// The number, counted from 0.
     pub fn number(self) -> u32 {
         self.0
+    }
+}
+
+/// How a write lays its tables. The default is gvdb-rs's way; a [`Form`] alone will do in its place.
+#[derive(Clone, Copy, PartialEq, Eq, Hash, Debug, Default)]
+pub struct WriteOptions {
+    /// The form of the hash.
+    pub form: Form,
+    /// The number of filter words in every table, at most [`MAX_FILTER_WORDS`]. Each takes four bytes. With one for two items, seven of eight lookups of a key
+    /// that is not there end at the filter, and of strict ones nearly all.
+    pub filter_words: u32,
+}
+
+impl From<Form> for WriteOptions {
+    fn from(form: Form) -> WriteOptions {
+        WriteOptions { form, ..WriteOptions::default() }
     }
 }
 
@@ -151,7 +167,8 @@ impl Builder {
         Ok(counted.count as usize)
     }
 
-    /// Lays a table and those nested in it as an image, in the plain form. The builder stays as it was and usable. Refusals: 24, 30, 31 (over [`MAX_FILE`] bytes).
+    /// Lays a table and those nested in it as an image, in the plain form and with no filter. The builder stays as it was and usable. Refusals: 24, 30, 31 (over
+    /// [`MAX_FILE`] bytes).
     ///
     /// ```
     /// # use gvdb::{Builder, Refusal};
@@ -164,25 +181,32 @@ impl Builder {
     /// assert_eq!(builder.write(root), Err(Refusal::EmptyKey));
     /// ```
     pub fn write(&mut self, table: TableNumber) -> Result<Image, Refusal> {
-        self.write_as(table, Form::Plain)
+        self.write_as(table, WriteOptions::default())
     }
 
-    /// [`write`](Builder::write) in a form of the hash. A builder has none itself: the same tables may be laid in both.
+    /// [`write`](Builder::write) in a form of the hash and with a filter. A builder has neither itself: the same tables may be laid in each way. Refusals: 24, 33,
+    /// 30, 31.
     ///
     /// ```
-    /// # use gvdb::{Builder, Form};
+    /// # use gvdb::{Builder, Form, Refusal, WriteOptions};
     /// let mut builder = Builder::new(64);
     /// let root = builder.new_table(None).unwrap();
     /// builder.insert(root, "\u{E9}", [1, 2]).unwrap();
     /// let [plain, signed] = Form::BOTH.map(|form| builder.write_as(root, form).unwrap());
     /// assert_eq!((&plain.bytes[36..40], &signed.bytes[36..40]), (&[0x11, 0x84, 0x59, 0x00][..], &[0x11, 0x62, 0x59, 0x00][..]));
     /// assert_eq!((&plain.bytes[..36], &plain.bytes[40..]), (&signed.bytes[..36], &signed.bytes[40..]));
+    ///
+    /// let words = |filter_words| WriteOptions { filter_words, ..Form::Signed.into() };
+    /// assert_eq!(builder.write_as(root, words(2)).map(|image| image.bytes.len() - signed.bytes.len()), Ok(4 * 2));
+    /// assert_eq!(builder.write_as(root, words(1025)), Err(Refusal::TooManyFilterWords));
     /// ```
-    pub fn write_as(&mut self, table: TableNumber, form: Form) -> Result<Image, Refusal> {
+    pub fn write_as(&mut self, table: TableNumber, options: impl Into<WriteOptions>) -> Result<Image, Refusal> {
+        let WriteOptions { form, filter_words } = options.into();
         // Keys and values of an image are in the arena, so this is room enough; a longer image is over the limit.
-        let room = self.arena.len().saturating_add(IMAGE_FRAME).min(MAX_FILE);
+        let filters = 4 * MAX_TABLES * MAX_FILTER_WORDS.min(filter_words as usize);
+        let room = self.arena.len().saturating_add(IMAGE_FRAME + filters).min(MAX_FILE);
         let mut bytes = vec![0; room];
-        let written = ffi::write(&mut self.words, &self.arena, table.0, &mut bytes, form.manner());
+        let written = ffi::write(&mut self.words, &self.arena, table.0, &mut bytes, form.bit(), filter_words);
         accepted(written.number)?;
         bytes.truncate(written.length as usize);
         bytes.shrink_to_fit();

@@ -71,7 +71,7 @@ impl<'a> Table<'a> {
     /// The child at a position: one lookup of the container's key.
     pub(crate) fn child(&self, key: &[u8], position: usize) -> Result<Child<'a>, Refusal> {
         let pointer = self.pointer();
-        let child = ffi::next_child(self.file(), pointer.start, pointer.end, key, position, self.form().manner());
+        let child = ffi::next_child(self.file(), pointer.start, pointer.end, key, position, self.manner());
         accepted_at(child.number, child.at)?;
         let fragment = std::str::from_utf8(self.part(child.start, child.end)?);
         let fragment = fragment.map_err(|error| Refusal::FragmentNotUtf8 { at: error.valid_up_to() })?;

@@ -3,10 +3,13 @@
 #![allow(unsafe_code)]
 
 /// The number of the interface that this crate is written for, `GVDB_ABI` of gvdb.h. The build holds it to that and to the library's.
-pub const ABI: u32 = 6;
+pub const ABI: u32 = 7;
 
 /// The bit of a manner for the signed form, `GVDB_SIGNED` of gvdb.h.
 pub const SIGNED: u32 = 1;
+
+/// The bit of a manner for the strict lookup, `GVDB_STRICT` of gvdb.h.
+pub const STRICT: u32 = 2;
 
 #[repr(C)]
 pub struct Headed {
@@ -149,7 +152,8 @@ extern "C" {
     ) -> Inserted;
     fn gvdb_insert_table(words: *mut usize, count: usize, arena: *mut u8, room: usize, table: u32, key: *const u8, length: usize, guest: u32) -> Inserted;
     fn gvdb_item_count(words: *const usize, count: usize, arena: *const u8, room: usize, table: u32) -> Counted;
-    fn gvdb_write(words: *mut usize, count: usize, arena: *const u8, room: usize, table: u32, image: *mut u8, size: usize, manner: u32) -> Written;
+    fn gvdb_write(words: *mut usize, count: usize, arena: *const u8, room: usize, table: u32, image: *mut u8, size: usize, manner: u32, filter: u32)
+        -> Written;
 }
 
 /// The number of the interface of the library that is linked.
@@ -241,6 +245,6 @@ pub fn item_count(words: &[usize], arena: &[u8], table: u32) -> Counted {
     unsafe { gvdb_item_count(words.as_ptr(), words.len(), arena.as_ptr(), arena.len(), table) }
 }
 
-pub fn write(words: &mut [usize], arena: &[u8], table: u32, image: &mut [u8], manner: u32) -> Written {
-    unsafe { gvdb_write(words.as_mut_ptr(), words.len(), arena.as_ptr(), arena.len(), table, image.as_mut_ptr(), image.len(), manner) }
+pub fn write(words: &mut [usize], arena: &[u8], table: u32, image: &mut [u8], manner: u32, filter: u32) -> Written {
+    unsafe { gvdb_write(words.as_mut_ptr(), words.len(), arena.as_ptr(), arena.len(), table, image.as_mut_ptr(), image.len(), manner, filter) }
 }

@@ -41,8 +41,8 @@ impl Form {
         }
     }
 
-    /// The manner that the library is told.
-    pub(crate) fn manner(self) -> u32 {
+    /// Its bit of the manner that the library is told.
+    pub(crate) fn bit(self) -> u32 {
         match self {
             Form::Plain => 0,
             Form::Signed => ffi::SIGNED,
@@ -55,9 +55,9 @@ mod tests {
     use super::*;
 
     #[test]
-    fn manners_are_those_of_the_header() {
+    fn its_bit_is_that_of_the_header() {
         let header = include_str!("../../c/gvdb.h");
-        assert!(header.lines().any(|line| line.starts_with(&format!("#define GVDB_SIGNED {}u ", Form::Signed.manner()))));
-        assert_eq!(Form::Plain.manner(), 0);
+        assert!(header.lines().any(|line| line.starts_with(&format!("#define GVDB_SIGNED {}u ", Form::Signed.bit()))));
+        assert_eq!(Form::Plain.bit(), 0);
     }
 }

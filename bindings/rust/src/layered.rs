@@ -24,7 +24,7 @@ pub struct Layered<'a> {
 
 impl<'a> Table<'a> {
     /// The value at a key of this table, the owner's, or of another under it. What this one answers stands, a refusal too; where it has no such key (12), and only there,
-    /// the answer is the other's. Each table is read in its own form, and both may be of one file.
+    /// the answer is the other's. Each table is read in its own form and under its own lookup, and both may be of one file.
     ///
     /// ```
     /// # use gvdb::{Builder, Refusal, Source, Table};
@@ -60,6 +60,6 @@ impl<'a> Table<'a> {
 
     fn lent(&self) -> ffi::Lent<'a> {
         let pointer = self.pointer();
-        ffi::Lent { file: self.file(), start: pointer.start, end: pointer.end, manner: self.form().manner() }
+        ffi::Lent { file: self.file(), start: pointer.start, end: pointer.end, manner: self.manner() }
     }
 }

@@ -7,6 +7,7 @@
 //! - [`Builder`] builds and lays: [`insert`](Builder::insert), [`insert_table`](Builder::insert_table),
 //!   [`write`](Builder::write), and a whole file by [`write_file`](Builder::write_file).
 //! - [`Form`] is how the bytes of a key count in the hash: as in gvdb-rs, unless [`with_form`](Table::with_form) and [`write_as`](Builder::write_as) say as in GLib.
+//! - [`WriteOptions`] may ask for filter words, and [`Lookup`] is how a lookup goes by them: as in gvdb-rs, unless [`with_lookup`](Table::with_lookup) says strictly.
 //! - [`Refusal`] says why a call was refused, by the number of documents 01 and 02, and where a text is not UTF-8, as [`first_bad`] does. No bytes, pointer, key or order of calls can make a call fail otherwise.
 //!
 //! ```
@@ -59,17 +60,19 @@ mod header;
 mod layered;
 mod levels;
 mod limits;
+mod lookup;
 mod refusal;
 mod table;
 mod text;
 
-pub use builder::{Builder, Image, Inserted, Kind, TableNumber};
+pub use builder::{Builder, Image, Inserted, Kind, TableNumber, WriteOptions};
 pub use children::{Child, Children};
 pub use ffi::{abi, ABI};
 pub use form::Form;
 pub use header::{ByteOrder, Header};
 pub use layered::{Layered, Source};
-pub use limits::{MAX_FILE, MAX_ITEMS, MAX_KEY, MAX_NESTING, MAX_TABLES};
+pub use limits::{MAX_FILE, MAX_FILTER_WORDS, MAX_ITEMS, MAX_KEY, MAX_NESTING, MAX_TABLES};
+pub use lookup::Lookup;
 pub use refusal::{Refusal, Unsound};
 pub use table::{Entries, Entry, Item, Keys, Pointer, Table, Tables, Values};
 pub use text::first_bad;

@@ -10,3 +10,5 @@ pub const MAX_TABLES: usize = 64;
 pub const MAX_NESTING: usize = 8;
 /// The longest key that a builder takes, in bytes.
 pub const MAX_KEY: usize = 1024;
+/// The most filter words that a write lays in each table.
+pub const MAX_FILTER_WORDS: usize = 1024;

@@ -6,7 +6,7 @@ use std::fmt;
 
 macro_rules! refusals {
     ($($number:literal $name:ident $({ $at:ident })? $sentence:literal)*) => {
-        /// Why a call is refused. The numbers are fixed, and each has one sentence; a refused call has changed nothing. 18, 32, 33 and 34 are those of calls
+        /// Why a call is refused. The numbers are fixed, and each has one sentence; a refused call has changed nothing. 18, 32 and 34 are those of calls
         /// to come, and more may follow: a match has an arm for the rest.
         ///
         /// ```

@@ -2,6 +2,7 @@
 
 use crate::ffi;
 use crate::form::Form;
+use crate::lookup::Lookup;
 use crate::refusal::{accepted, accepted_at, Refusal, Unsound};
 use std::fmt;
 
@@ -50,14 +51,17 @@ pub struct Table<'a> {
     buckets: u32,
     blooms: u32,
     form: Form,
+    lookup: Lookup,
 }
 
 impl<'a> Table<'a> {
-    /// Opens the table at a pointer of the file, in the plain form: [`with_form`](Table::with_form) takes another. Refusals: 1 to 7.
+    /// Opens the table at a pointer of the file, in the plain form and for the Rust's lookup: [`with_form`](Table::with_form) and
+    /// [`with_lookup`](Table::with_lookup) take others. Refusals: 1 to 7.
     pub fn open(file: &'a [u8], start: u32, end: u32) -> Result<Table<'a>, Refusal> {
         let opened = ffi::open(file, start, end);
         accepted(opened.number)?;
-        Ok(Table { file, pointer: Pointer { start, end }, items: opened.items, buckets: opened.buckets, blooms: opened.blooms, form: Form::Plain })
+        let pointer = Pointer { start, end };
+        Ok(Table { file, pointer, items: opened.items, buckets: opened.buckets, blooms: opened.blooms, form: Form::Plain, lookup: Lookup::Rust })
     }
 
     /// The same table in a form of the hash, in which lookups and the check are made, and those of the tables nested in it. Listings ask for no hash.
@@ -68,6 +72,21 @@ impl<'a> Table<'a> {
     /// The form that lookups and the check are made in.
     pub fn form(&self) -> Form {
         self.form
+    }
+
+    /// The same table under a lookup, by which the check judges too, and those of the tables nested in it.
+    pub fn with_lookup(self, lookup: Lookup) -> Table<'a> {
+        Table { lookup, ..self }
+    }
+
+    /// The lookup that is asked by.
+    pub fn lookup(&self) -> Lookup {
+        self.lookup
+    }
+
+    /// The manner that the library is told.
+    pub(crate) fn manner(&self) -> u32 {
+        self.form.bit() | self.lookup.bit()
     }
 
     /// Where the table lies in its file.
@@ -97,16 +116,16 @@ impl<'a> Table<'a> {
 
     /// The value at a key: a part of the file. Refusals: 8, 12, 13, then 2 or 3 of the value's pointer.
     pub fn get(&self, key: impl AsRef<[u8]>) -> Result<&'a [u8], Refusal> {
-        let place = ffi::get(self.file, self.pointer.start, self.pointer.end, key.as_ref(), self.form.manner());
+        let place = ffi::get(self.file, self.pointer.start, self.pointer.end, key.as_ref(), self.manner());
         accepted_at(place.number, place.at)?;
         self.part(place.start, place.end)
     }
 
-    /// The nested table at a key, in the form of this one. Refusals: 8, 12, 13, then 2 to 7 of the nested table.
+    /// The nested table at a key, in the form and under the lookup of this one. Refusals: 8, 12, 13, then 2 to 7 of the nested table.
     pub fn get_table(&self, key: impl AsRef<[u8]>) -> Result<Table<'a>, Refusal> {
-        let place = ffi::get_table(self.file, self.pointer.start, self.pointer.end, key.as_ref(), self.form.manner());
+        let place = ffi::get_table(self.file, self.pointer.start, self.pointer.end, key.as_ref(), self.manner());
         accepted_at(place.number, place.at)?;
-        Ok(Table::open(self.file, place.start, place.end)?.with_form(self.form))
+        Ok(Table::open(self.file, place.start, place.end)?.with_form(self.form).with_lookup(self.lookup))
     }
 
     /// [`get_table`](Table::get_table) under the name that gvdb-rs gives it.
@@ -260,7 +279,7 @@ impl<'a> Table<'a> {
     /// # }
     /// ```
     pub fn check(&self) -> Result<(), Unsound> {
-        let checked = ffi::check(self.file, self.pointer.start, self.pointer.end, self.form.manner());
+        let checked = ffi::check(self.file, self.pointer.start, self.pointer.end, self.manner());
         match checked.number {
             0 => Ok(()),
             _ => Err(Unsound::of(&checked)),

@@ -1,6 +1,6 @@
 //! Each limit is the library's: at it a call is accepted, and one above it is refused. What names a limit in words names it rightly.
 
-use gvdb::{Builder, Inserted, Refusal, Table, TableNumber, MAX_FILE, MAX_ITEMS, MAX_KEY, MAX_NESTING, MAX_TABLES};
+use gvdb::{Builder, Inserted, Refusal, Table, TableNumber, WriteOptions, MAX_FILE, MAX_FILTER_WORDS, MAX_ITEMS, MAX_KEY, MAX_NESTING, MAX_TABLES};
 
 /// A builder with room for all keys and so many bytes of values, and its first table.
 fn builder(values: usize) -> (Builder, TableNumber) {
@@ -26,6 +26,22 @@ fn items() {
     assert_eq!(builder.insert(root, "one more", ""), Err(Refusal::TooManyItems));
     assert_eq!(builder.item_count(root), Ok(MAX_ITEMS));
     assert!(builder.write(root).unwrap().bytes.len() > MAX_ITEMS * MAX_KEY);
+}
+
+/// Every table of a full builder gets all words, and the room that a write lends is enough.
+#[test]
+fn filter_words() {
+    let (mut builder, root) = builder(0);
+    for i in 1..MAX_TABLES {
+        let guest = builder.new_table(None).unwrap();
+        assert_eq!(builder.insert_table(root, format!("{i:0MAX_KEY$}"), guest), Ok(Inserted::New));
+    }
+    let words = |filter_words: usize| WriteOptions { filter_words: filter_words as u32, ..WriteOptions::default() };
+    let bare = builder.write(root).unwrap().bytes.len();
+    assert_eq!(builder.write_as(root, words(MAX_FILTER_WORDS)).map(|image| image.bytes.len() - bare), Ok(4 * MAX_TABLES * MAX_FILTER_WORDS));
+    for many in [MAX_FILTER_WORDS + 1, u32::MAX as usize] {
+        assert_eq!(builder.write_as(root, words(many)), Err(Refusal::TooManyFilterWords));
+    }
 }
 
 #[test]
