@@ -3,8 +3,9 @@
 use crate::dice::Dice;
 use crate::document::build as document;
 use crate::document::build::Held;
-use crate::document::Form;
+use crate::document::{Form, Laid, Lookup, Manner};
 use crate::ffi::{memory_words, MAX_FILE, MAX_ITEMS, MAX_NESTING, MAX_TABLES};
+use crate::filters;
 use crate::lent::Memory;
 use crate::make;
 use crate::ours;
@@ -22,7 +23,7 @@ pub enum Call {
     Insert(u32, Vec<u8>, Vec<u8>),
     InsertTable(u32, Vec<u8>, u32),
     Count(u32),
-    Write(u32, Form),
+    Write(u32, Laid),
 }
 
 impl Call {
@@ -32,7 +33,7 @@ impl Call {
             Call::Insert(table, key, value) => format!("insert into {table}: [{}] = [{}]", hex(key), hex(value)),
             Call::InsertTable(table, key, guest) => format!("insert table into {table}: [{}] = {guest}", hex(key)),
             Call::Count(table) => format!("count {table}"),
-            Call::Write(table, form) => format!("write {table} {form:?}"),
+            Call::Write(table, laid) => format!("write {table} {laid:?}"),
         }
     }
 }
@@ -75,7 +76,7 @@ impl History {
                     Call::NewTable(separator(dice))
                 }
                 2..=4 => Call::InsertTable(table, make::key(dice, Some(b'/'), &keys), dice.below(tables + 1) as u32),
-                5 => Call::Write(table, *dice.pick(&Form::BOTH)),
+                5 => Call::Write(table, make::laid(dice)),
                 6 => Call::Count(table),
                 _ => {
                     let size = *dice.pick(&[0, 0, 1, 2, 3, 7, 8, 9, 40]);
@@ -87,7 +88,7 @@ impl History {
             }
             history.calls.push(call);
         }
-        history.calls.extend((0..tables as u32).flat_map(written));
+        history.calls.extend((0..tables as u32).flat_map(|table| written(dice, table)));
         history
     }
 
@@ -101,10 +102,10 @@ impl History {
             calls.push(Call::NewTable(separator(dice)));
             calls.push(Call::InsertTable(table, make::key(dice, Some(b'/'), &[]), table - 1));
             if dice.one_in(3) {
-                calls.push(Call::Write(table, *dice.pick(&Form::BOTH)));
+                calls.push(Call::Write(table, make::laid(dice)));
             }
         }
-        calls.extend((0..DEEP).flat_map(written));
+        calls.extend((0..DEEP).flat_map(|table| written(dice, table)));
         History { room: 1 << 17, calls }
     }
 
@@ -122,9 +123,9 @@ impl History {
     }
 }
 
-/// A table written in both forms.
-fn written(table: u32) -> [Call; 2] {
-    Form::BOTH.map(|form| Call::Write(table, form))
+/// A table written in both forms, and once with filter words or without.
+fn written(dice: &Dice, table: u32) -> [Call; 3] {
+    [Form::Plain.into(), Form::Signed.into(), make::laid(dice)].map(|laid| Call::Write(table, laid))
 }
 
 pub fn described(calls: &[Call]) -> String {
@@ -174,7 +175,7 @@ impl State {
             Call::Insert(table, key, value) => self.insert(*table, key, value, tally),
             Call::InsertTable(table, key, guest) => self.insert_table(*table, key, *guest, tally),
             Call::Count(table) => self.count(*table, tally),
-            Call::Write(table, form) => self.write(*table, *form, tally),
+            Call::Write(table, laid) => self.write(*table, *laid, tally),
         }
     }
 
@@ -224,60 +225,65 @@ impl State {
         Ok(ours)
     }
 
-    /// A write into a buffer with room to spare, one that just fits and one a byte too short. Of an image over the limit gvdb-rs's is only measured.
-    fn write(&mut self, table: u32, form: Form, tally: &mut Tally) -> Result<Answer, Difference> {
-        let paper = self.paper.write(table);
-        let rust = match (paper, form) {
-            (Err(24), _) => Err(24),
+    /// A write into a buffer with room to spare, one that just fits and one a byte too short. Of an image over the limit gvdb-rs's is only measured. With filter
+    /// words it is gvdb-rs's with the words laid in.
+    fn write(&mut self, table: u32, laid: Laid, tally: &mut Tally) -> Result<Answer, Difference> {
+        let paper = self.paper.write(table, laid.filter);
+        let rust = match (paper, laid.form) {
+            (Err(number @ (24 | 33)), _) => Err(number),
             (_, Form::Plain) => self.rust.write(table as usize),
             (_, Form::Signed) => self.signed.write(table as usize),
         };
+        let rust = rust.map(|file| filters::with_words(file, laid.filter));
         let room = rust.as_ref().map_or(64, Vec::len);
         let expected = paper.and(if room > MAX_FILE { Err(31) } else { Ok(room) });
-        let ours = self.memory.write(table, room + 40, form);
+        let ours = self.memory.write(table, room + 40, laid);
         let length = ours.as_ref().map(|(image, _)| image.len()).map_err(|number| *number);
         tally.same(Who::Document, "write", &length, &expected, String::new)?;
-        if expected == Err(24) || expected == Err(31) {
+        if let Err(24 | 31 | 33) = expected {
             return Ok(expected.map(|_| 0));
         }
         let (image, end) = match ours {
             Ok(written) => written,
             Err(number) => {
-                tally.same(Who::rust(form), "file", &Err(number), &rust, String::new)?;
+                tally.same(Who::rust(laid.form), "file", &Err(number), &rust, String::new)?;
                 return Ok(Err(number));
             }
         };
         assert!(image[..24].iter().all(|byte| *byte == 0), "the header is not zero");
-        self.files(table, &image, end, form, rust, tally)?;
-        assert!(self.memory.write(table, room, form) == Ok((image.clone(), end)), "a second write differs");
+        self.files(table, &image, end, laid, rust, tally)?;
+        assert!(self.memory.write(table, room, laid) == Ok((image.clone(), end)), "a second write differs");
         tally.number(31);
-        tally.same(Who::Document, "write", &self.memory.write(table, room - 1, form).map(|_| ()), &Err(31), || "a byte too few".into())?;
-        let keys = self.reads_back(&image, 24, end, table as usize, form, tally)?;
+        tally.same(Who::Document, "write", &self.memory.write(table, room - 1, laid).map(|_| ()), &Err(31), || "a byte too few".into())?;
+        let keys = self.reads_back(&image, 24, end, table as usize, laid.form.into(), tally)?;
+        self.reads_back(&image, 24, end, table as usize, Manner { form: laid.form, lookup: Lookup::Strict }, tally)?;
         self.images.push(Case { file: image, start: 24, end, keys });
         Ok(Ok(0))
     }
 
     /// The file of an image, little endian and big, beside gvdb-rs's; its header reads back.
-    fn files(&self, table: u32, image: &[u8], end: u32, form: Form, rust: Result<Vec<u8>, u32>, tally: &mut Tally) -> Outcome {
-        let big = match form {
+    fn files(&self, table: u32, image: &[u8], end: u32, laid: Laid, rust: Result<Vec<u8>, u32>, tally: &mut Tally) -> Outcome {
+        let big = match laid.form {
             Form::Plain => self.rust.write_big(table as usize),
             Form::Signed => self.signed.write_big(table as usize),
         };
+        let big = big.map(|file| filters::with_words(file, laid.filter));
+        let who = if laid.filter == 0 { Who::rust(laid.form) } else { Who::Document };
         for (big, theirs) in (0..).zip([rust, big]) {
             let (number, file) = ours::lay_header(image, big, 24, end);
             tally.same(Who::Document, "lay header", &number, &0, || format!("table {table}, big {big}"))?;
             tally.same(Who::Document, "header", &ours::header(&file), &Ok((big, 24, end)), || format!("table {table}, big {big}"))?;
-            tally.same(Who::rust(form), "file", &Ok(file), &theirs, || format!("table {table}, big {big}"))?;
+            tally.same(who, if laid.filter == 0 { "file" } else { "file with filter words" }, &Ok(file), &theirs, || format!("table {table}, big {big}"))?;
         }
         Ok(())
     }
 
     /// Each item of a table is found in the image as the builder holds it, nested ones too, and the tables pass the check.
-    fn reads_back(&self, image: &[u8], start: u32, end: u32, table: usize, form: Form, tally: &mut Tally) -> Result<Vec<Vec<u8>>, Difference> {
-        tally.same(Who::Document, "image passes", &ours::check(image, start, end, form), &Ok(None), String::new)?;
+    fn reads_back(&self, image: &[u8], start: u32, end: u32, table: usize, manner: Manner, tally: &mut Tally) -> Result<Vec<Vec<u8>>, Difference> {
+        tally.same(Who::Document, "image passes", &ours::check(image, start, end, manner), &Ok(None), String::new)?;
         let items = &self.paper.tables[table].items;
         for (key, held) in items {
-            let place = ours::get(image, start, end, key, form);
+            let place = ours::get(image, start, end, key, manner);
             let found = match place {
                 Ok((from, to)) => Ok(Held::Value(image[from as usize..to as usize].to_vec())),
                 Err(_) => Err(number(&place)),
@@ -285,10 +291,10 @@ impl State {
             let expected = if matches!(held, Held::Value(_)) { Ok(held.clone()) } else { Err(13) };
             tally.same(Who::Document, "image reads back", &found, &expected, || hex(key))?;
             if let Held::Table(guest) = held {
-                let nested = ours::get_table(image, start, end, key, form);
+                let nested = ours::get_table(image, start, end, key, manner);
                 tally.same(Who::Document, "image reads back", &nested.is_ok(), &true, || hex(key))?;
                 let (from, to) = nested.expect("compared");
-                self.reads_back(image, from, to, *guest, form, tally)?;
+                self.reads_back(image, from, to, *guest, manner, tally)?;
             }
         }
         Ok(items.keys().take(40).cloned().collect())

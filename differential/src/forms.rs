@@ -1,6 +1,6 @@
 //! Both forms of the hash: the image of one key that they lay apart, and the bits of a manner that are not read.
 
-use crate::document::{hash, Form};
+use crate::document::{hash, Form, Manner};
 use crate::ffi::{self, memory_words};
 use crate::lent::Memory;
 use crate::ours;
@@ -42,15 +42,15 @@ pub fn show(tally: &mut Tally) -> Outcome {
 
 /// A manner with any other bits is the manner without them.
 fn other_bits(memory: &mut Memory, images: &[Vec<u8>; 2], tally: &mut Tally) -> Outcome {
-    for bits in (1..32).map(|bit| 1 << bit).chain([u32::MAX - 1]) {
+    for bits in (2..32).map(|bit| 1 << bit).chain([u32::MAX - 3]) {
         for (form, file) in Form::BOTH.into_iter().zip(images) {
-            let manner = form.manner() | bits;
+            let manner = Manner::from(form).number() | bits;
             let numbers = [ffi::get(file, 24, END, KEY, manner).number, ffi::check(file, 24, END, manner).number];
             tally.same(Who::Document, "forms", &numbers, &[0, 0], || format!("manner {manner:#x}"))?;
             let numbers = [ffi::get_table(file, 24, END, KEY, manner).number, ffi::next_child(file, 24, END, KEY, 0, manner).number];
             tally.same(Who::Document, "forms", &numbers, &[13, 13], || format!("manner {manner:#x}"))?;
             let mut image = vec![0; 66];
-            let number = memory.lend(|words, arena| ffi::write(words, arena, 0, &mut image, manner)).number;
+            let number = memory.lend(|words, arena| ffi::write(words, arena, 0, &mut image, manner, 0)).number;
             tally.same(Who::Document, "forms", &(number, &image), &(0, file), || format!("manner {manner:#x}"))?;
         }
     }

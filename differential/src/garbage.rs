@@ -2,7 +2,7 @@
 
 use crate::building::Call;
 use crate::dice::Dice;
-use crate::document::Form;
+use crate::document::{Form, Lookup, Manner};
 use crate::ffi::{memory_words, MAX_ITEMS, MAX_KEY, MAX_NESTING, MAX_TABLES};
 use crate::lent::Memory;
 use crate::make;
@@ -116,7 +116,7 @@ fn any_call(dice: &Dice) -> Call {
         1 | 2 => Call::Insert(table, make::key(dice, Some(b'/'), &[b"p/1/2".to_vec()]), b"value".to_vec()),
         3 => Call::InsertTable(table, make::key(dice, Some(b'/'), &[]), dice.below(4) as u32),
         4 => Call::Count(table),
-        _ => Call::Write(table, *dice.pick(&Form::BOTH)),
+        _ => Call::Write(table, make::laid(dice)),
     }
 }
 
@@ -128,7 +128,7 @@ fn answer(memory: &mut Memory, call: &Call, room: usize) -> (u32, Option<(Vec<u8
         Call::Insert(table, key, value) => told(memory.insert(*table, key, value)),
         Call::InsertTable(table, key, guest) => told(memory.insert_table(*table, key, *guest)),
         Call::Count(table) => told(memory.item_count(*table).map_err(Why::from)),
-        Call::Write(table, form) => match memory.write(*table, room, *form) {
+        Call::Write(table, laid) => match memory.write(*table, room, *laid) {
             Ok(written) => (0, Some(written)),
             Err(number) => (number, None),
         },
@@ -178,14 +178,17 @@ fn step(memory: &mut Memory, call: &Call, room: usize, tally: &mut Tally) -> Res
     let reads = matches!(call, Call::Count(_) | Call::Write(..));
     assert!((number == 0 && !reads) || *memory == before, "a refusal, a count or a write changed garbage memory");
     assert!(answer(&mut twin, call, room) == (number, image.clone()) && twin == *memory, "the same call on the same memory differs");
-    if let (Some((image, end)), Call::Write(_, form)) = (image, call) {
-        tally.same(Who::Document, "image passes", &ours::check(&image, 24, end, *form), &Ok(None), || "of garbage memory".into())?;
+    if let (Some((image, end)), Call::Write(_, laid)) = (image, call) {
+        for lookup in [Lookup::Rust, Lookup::Strict] {
+            let manner = Manner { form: laid.form, lookup };
+            tally.same(Who::Document, "image passes", &ours::check(&image, 24, end, manner), &Ok(None), || "of garbage memory".into())?;
+        }
     }
     Ok(number)
 }
 
 fn refused(mut memory: Memory, tally: &mut Tally, what: impl FnOnce() -> String) -> Outcome {
-    let number = step(&mut memory, &Call::Write(0, Form::Plain), 999, tally)?;
+    let number = step(&mut memory, &Call::Write(0, Form::Plain.into()), 999, tally)?;
     tally.same(Who::Document, "a broken rule", &number, &29, what)
 }
 

@@ -1,7 +1,7 @@
 //! One table over another: what is answered is what two lookups answer by the rule, those of the third reading and those of gvdb-rs.
 
 use crate::dice::Dice;
-use crate::document::{read as document, Form};
+use crate::document::{read as document, Form, Lookup, Manner};
 use crate::ffi::Lent;
 use crate::lent::File;
 use crate::make;
@@ -18,7 +18,7 @@ const KEYS: usize = 6;
 pub struct Pair {
     own: Case,
     under: Case,
-    forms: [Form; 2],
+    manners: [Manner; 2],
     keys: Vec<Vec<u8>>,
 }
 
@@ -33,17 +33,17 @@ impl Pair {
         };
         let own = one();
         let under = if dice.one_in(8) { own.clone() } else { one() };
-        let forms = [*dice.pick(&Form::BOTH), *dice.pick(&Form::BOTH)];
+        let manners = [make::manner(dice), make::manner(dice)];
         let mut keys = vec![make::key(dice, None, &[])];
         for case in [&own, &under] {
             let asked = case.asked(&case.with_header());
             keys.extend((0..KEYS.min(asked.len())).map(|_| dice.pick(&asked).clone()));
         }
-        Pair { own, under, forms, keys }
+        Pair { own, under, manners, keys }
     }
 
     pub fn describe(&self) -> String {
-        format!("own in {:?}: {}\n  under in {:?}: {}", self.forms[0], self.own.describe(), self.forms[1], self.under.describe())
+        format!("own in {:?}: {}\n  under in {:?}: {}", self.manners[0], self.own.describe(), self.manners[1], self.under.describe())
     }
 
     /// As two files, and where they are equal as one memory too.
@@ -59,13 +59,14 @@ impl Pair {
 
     fn ask(&self, tally: &mut Tally, own: &[u8], under: &[u8]) -> Outcome {
         for key in &self.keys {
-            let lent = |case: &Case, form: Form, file| Lent { file, start: case.start, end: case.end, manner: form.manner() };
-            let ours = ours::get_layered(lent(&self.own, self.forms[0], own), lent(&self.under, self.forms[1], under), key);
+            let lent = |case: &Case, manner: Manner, file| Lent { file, start: case.start, end: case.end, manner: manner.number() };
+            let ours = ours::get_layered(lent(&self.own, self.manners[0], own), lent(&self.under, self.manners[1], under), key);
             tally.number(number(&ours.0));
-            let read = |case: &Case, form, file| document::open(file, case.start, case.end, form).map_err(Why::from).and_then(|table| table.get(key));
-            let paper = over(Some(read(&self.own, self.forms[0], own)), || Some(read(&self.under, self.forms[1], under)));
+            let read =
+                |case: &Case, manner: Manner, file| document::open(file, case.start, case.end, manner).map_err(Why::from).and_then(|table| table.get(key));
+            let paper = over(Some(read(&self.own, self.manners[0], own)), || Some(read(&self.under, self.manners[1], under)));
             tally.same(Who::Document, "get over another", &Some(ours), &paper, || hex(key))?;
-            let rust = over(rust(&self.own, self.forms[0], own, key), || rust(&self.under, self.forms[1], under, key));
+            let rust = over(rust(&self.own, self.manners[0], own, key), || rust(&self.under, self.manners[1], under, key));
             match rust {
                 Some(rust) => tally.same(Who::Rust, "get over another", &(theirs::place_as_theirs(ours.0), ours.1), &rust, || hex(key))?,
                 None => tally.alone("lookups over another table that gvdb-rs cannot be asked", 1),
@@ -83,13 +84,13 @@ fn over(own: Option<Place>, under: impl FnOnce() -> Option<Place>) -> Option<(Pl
     }
 }
 
-/// What gvdb-rs answers of one table, or its copy in the signed form; none where it cannot be asked.
-fn rust(case: &Case, form: Form, file: &[u8], key: &[u8]) -> Option<Place> {
-    let text = std::str::from_utf8(key).ok().filter(|_| file.len() >= 24)?;
-    if document::open(file, case.start, case.end, form).is_ok_and(|table| table.recurses(key)) {
+/// What gvdb-rs answers of one table, or its copy in the signed form; none where it cannot be asked, as by the strict lookup.
+fn rust(case: &Case, manner: Manner, file: &[u8], key: &[u8]) -> Option<Place> {
+    let text = std::str::from_utf8(key).ok().filter(|_| file.len() >= 24 && manner.lookup == Lookup::Rust)?;
+    if document::open(file, case.start, case.end, manner).is_ok_and(|table| table.recurses(key)) {
         return None;
     }
-    Some(match form {
+    Some(match manner.form {
         Form::Plain => theirs::value(file, text),
         Form::Signed => signed::value(file, text),
     })

@@ -2,8 +2,8 @@
 //! no such limit it is shown to go on.
 
 use crate::building::{Answer, Call, State};
-use crate::document::Form;
-use crate::ffi::{MAX_FILE, MAX_ITEMS, MAX_KEY, MAX_NESTING, MAX_TABLES};
+use crate::document::{Form, Laid};
+use crate::ffi::{MAX_FILE, MAX_FILTER_WORDS, MAX_ITEMS, MAX_KEY, MAX_NESTING, MAX_TABLES};
 use crate::lent::File;
 use crate::tally::{Outcome, Tally, Who};
 use crate::theirs;
@@ -39,7 +39,7 @@ impl Limit<'_> {
 
     /// A write in both forms.
     fn write(&mut self, table: u32, answer: Answer) -> Outcome {
-        Form::BOTH.into_iter().try_for_each(|form| self.is(Call::Write(table, form), answer))
+        Form::BOTH.into_iter().try_for_each(|form| self.is(Call::Write(table, form.into()), answer))
     }
 
     /// A call that is refused here, and that gvdb-rs takes.
@@ -193,7 +193,30 @@ fn image_bytes(tally: &mut Tally) -> Outcome {
     limit.read()
 }
 
+/// A nest of tables with none, few and all filter words that may be, and with more: 33 comes behind 24 and before 30.
+fn filter_words(tally: &mut Tally) -> Outcome {
+    const MOST: u32 = MAX_FILTER_WORDS as u32;
+    let mut limit = Limit::room(4096, tally);
+    limit.is(new_table(b"/"), Ok(0))?;
+    limit.is(new_table(b""), Ok(1))?;
+    for (table, key) in [(0, "a/b"), (0, "a/\u{e9}"), (0, "parcel/12/year"), (1, "x"), (1, "\u{e9}")] {
+        limit.is(insert(table, key, key.as_bytes()), Ok(0))?;
+    }
+    limit.is(insert_table(0, 1), Ok(0))?;
+    let mut write = |table: u32, filter: u32, answer| Form::BOTH.into_iter().try_for_each(|form| limit.is(Call::Write(table, Laid { form, filter }), answer));
+    [0, 1, 2, 3, 32, MOST].into_iter().try_for_each(|filter| write(0, filter, Ok(0)))?;
+    for filter in [MOST + 1, u32::MAX] {
+        write(0, filter, Err(33))?;
+        write(1, filter, Err(24))?;
+        write(2, filter, Err(24))?;
+    }
+    limit.is(insert(0, "", b""), Ok(0))?;
+    limit.is(Call::Write(0, Laid { form: Form::Plain, filter: MOST + 1 }), Err(33))?;
+    limit.is(Call::Write(0, Laid { form: Form::Plain, filter: MOST }), Err(30))?;
+    limit.read()
+}
+
 pub fn show(tally: &mut Tally) -> Outcome {
-    let limits = [key_bytes, items, items_replaced, arena, tables, nesting, containers, image_bytes];
+    let limits = [key_bytes, items, items_replaced, arena, tables, nesting, containers, filter_words, image_bytes];
     limits.iter().try_for_each(|limit| limit(tally))
 }

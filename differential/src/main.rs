@@ -9,6 +9,7 @@ mod dice;
 mod document;
 #[path = "../../tests/outside/ffi.rs"]
 mod ffi;
+mod filters;
 mod forms;
 mod garbage;
 mod headers;
@@ -37,7 +38,7 @@ use std::time::{Duration, Instant};
 use tally::{Difference, Outcome, Tally, Who};
 
 /// As many seeds as take about two minutes.
-const SEEDS: std::ops::Range<u64> = 0..50_000;
+const SEEDS: std::ops::Range<u64> = 0..25_000;
 
 /// A difference is also what a guard or a rule of this program finds, by a panic.
 fn caught<T>(run: impl FnOnce() -> Result<T, Difference>) -> Result<T, Difference> {

@@ -2,7 +2,7 @@
 
 use crate::dice::Dice;
 use crate::document::read::{open, word, Table};
-use crate::document::{hash, Form};
+use crate::document::{hash, Form, Laid, Lookup, Manner};
 use crate::ffi::MAX_KEY;
 use crate::reading::Case;
 
@@ -133,6 +133,22 @@ fn joined(items: &[Made], index: usize) -> Vec<u8> {
     key
 }
 
+/// A form and a lookup.
+pub fn manner(dice: &Dice) -> Manner {
+    Manner { form: *dice.pick(&Form::BOTH), lookup: *dice.pick(&[Lookup::Rust, Lookup::Strict]) }
+}
+
+/// A form, and a number of filter words: often none or few, seldom all that may be or more.
+pub fn laid(dice: &Dice) -> Laid {
+    let filter = match dice.below(16) {
+        0 => *dice.pick(&[1025, u32::MAX]),
+        1 => *dice.pick(&[32, 1024]),
+        2..=9 => 1 + dice.below(3) as u32,
+        _ => 0,
+    };
+    Laid { form: *dice.pick(&Form::BOTH), filter }
+}
+
 /// A table made by hand: bloom words, few or many buckets, any parents, any kinds.
 pub fn by_hand(dice: &Dice) -> Case {
     let count = dice.below(9);
@@ -149,9 +165,10 @@ pub fn by_hand(dice: &Dice) -> Case {
     }
     let end = 24 + 8 + 4 * blooms + 4 * buckets + 24 * count;
     let mut file = vec![0; 24];
-    file.extend((blooms as u32 | dice.pick(&[0u32, 5, 31]) << 27).to_le_bytes());
+    let shift = *dice.pick(&[0u32, 5, 31]);
+    file.extend((blooms as u32 | shift << 27).to_le_bytes());
     file.extend((buckets as u32).to_le_bytes());
-    bloom_words(dice, &items, blooms).iter().for_each(|word| file.extend(word.to_le_bytes()));
+    bloom_words(dice, &items, blooms, shift).iter().for_each(|word| file.extend(word.to_le_bytes()));
     for bucket in 0..buckets {
         let before = order.iter().filter(|index| items[**index].hash as usize % buckets < bucket).count();
         let word = if dice.one_in(30) { odd_word(dice, count) } else { before as u32 };
@@ -161,10 +178,12 @@ pub fn by_hand(dice: &Dice) -> Case {
     Case { file, start: 24, end: end as u32, keys }
 }
 
-fn bloom_words(dice: &Dice, items: &[Made], count: usize) -> Vec<u32> {
+/// Mostly with both bits of each item, or with the first alone, which is all that the Rust's lookup asks for.
+fn bloom_words(dice: &Dice, items: &[Made], count: usize, shift: u32) -> Vec<u32> {
     let mut words = vec![0u32; count];
     if count > 0 && !dice.one_in(5) {
-        items.iter().for_each(|item| words[item.hash as usize / 32 % count] |= 1 << (item.hash % 32));
+        let second = if dice.one_in(3) { 0 } else { shift };
+        items.iter().for_each(|item| words[item.hash as usize / 32 % count] |= 1 << (item.hash % 32) | 1 << ((item.hash >> second) % 32));
     }
     if dice.one_in(5) {
         words.iter_mut().for_each(|word| *word ^= dice.next() as u32 & dice.next() as u32);

@@ -1,7 +1,7 @@
 //! The library's answers: a number for a refusal, whose other fields are held to be 0, or the values.
 
 use crate::document::header::Headed;
-use crate::document::Form;
+use crate::document::{Laid, Manner};
 use crate::ffi;
 use crate::lent::{buffer, untouched, Memory};
 use crate::tally::{Broken, Child, Place, Why};
@@ -49,12 +49,12 @@ pub fn first_bad(text: &[u8]) -> usize {
     ffi::first_bad(text)
 }
 
-pub fn get(file: &[u8], start: u32, end: u32, key: &[u8], form: Form) -> Place {
-    place(ffi::get(file, start, end, key, form.manner()))
+pub fn get(file: &[u8], start: u32, end: u32, key: &[u8], manner: impl Into<Manner>) -> Place {
+    place(ffi::get(file, start, end, key, manner.into().number()))
 }
 
-pub fn get_table(file: &[u8], start: u32, end: u32, key: &[u8], form: Form) -> Place {
-    place(ffi::get_table(file, start, end, key, form.manner()))
+pub fn get_table(file: &[u8], start: u32, end: u32, key: &[u8], manner: impl Into<Manner>) -> Place {
+    place(ffi::get_table(file, start, end, key, manner.into().number()))
 }
 
 /// A value in one of two tables, and whether it is in the second.
@@ -92,15 +92,15 @@ pub fn values(file: &[u8], start: u32, end: u32) -> Vec<(usize, Place)> {
 }
 
 /// The child at a position of the container under a key.
-pub fn child(file: &[u8], start: u32, end: u32, key: &[u8], position: usize, form: Form) -> Child {
-    let child = ffi::next_child(file, start, end, key, position, form.manner());
+pub fn child(file: &[u8], start: u32, end: u32, key: &[u8], position: usize, manner: impl Into<Manner>) -> Child {
+    let child = ffi::next_child(file, start, end, key, position, manner.into().number());
     assert_eq!(child.next, if child.number == 0 { position + 1 } else { 0 }, "the next position");
     refused_at(child.number, child.at, &[8, 9], (child.kind, child.start, child.end, child.index), (0, 0, 0, 0))
 }
 
 /// None for a sound table, or the rule, the item and what is said of rule 1.
-pub fn check(file: &[u8], start: u32, end: u32, form: Form) -> Result<Option<Broken>, u32> {
-    let checked = ffi::check(file, start, end, form.manner());
+pub fn check(file: &[u8], start: u32, end: u32, manner: impl Into<Manner>) -> Result<Option<Broken>, u32> {
+    let checked = ffi::check(file, start, end, manner.into().number());
     let why = Why { number: checked.why, at: checked.at };
     assert!(why.at == 0 || why.number == 9, "an offset beside {}", why.number);
     if checked.number == 40 {
@@ -136,8 +136,10 @@ impl Memory {
     }
 
     /// The image that is written into a buffer of so many bytes, with the end of its root pointer.
-    pub fn write(&mut self, table: u32, room: usize, form: Form) -> Result<(Vec<u8>, u32), u32> {
-        let (written, mut image) = buffer(room, |image| self.lend(|words, arena| ffi::write(words, arena, table, image, form.manner())));
+    pub fn write(&mut self, table: u32, room: usize, laid: impl Into<Laid>) -> Result<(Vec<u8>, u32), u32> {
+        let Laid { form, filter } = laid.into();
+        let manner = Manner::from(form).number();
+        let (written, mut image) = buffer(room, |image| self.lend(|words, arena| ffi::write(words, arena, table, image, manner, filter)));
         let values = refused(written.number, (written.start, written.end, written.length), (0, 0, 0));
         assert!(untouched(&image[values.map_or(0, |(_, _, length)| length as usize)..]), "bytes past the image changed");
         let (start, end, length) = values?;

@@ -1,6 +1,6 @@
 //! One table of one file, read by all three.
 
-use crate::document::{read as document, Form};
+use crate::document::{read as document, Form, Manner};
 use crate::lent::File;
 use crate::ours;
 use crate::signed;
@@ -53,7 +53,10 @@ impl Case {
         let bytes = file.bytes();
         let keys = self.asked(bytes);
         self.opened_with_document(tally, bytes)?;
-        Form::BOTH.into_iter().try_for_each(|form| self.with_document(tally, bytes, &keys, form))?;
+        let blooms = document::open(bytes, self.start, self.end, Form::Plain).map_or(0, |table| table.blooms);
+        // without filter words there is nothing to be strict about
+        let strict = Manner::STRICT.into_iter().filter(|_| blooms > 0);
+        Form::BOTH.into_iter().map(Manner::from).chain(strict).try_for_each(|manner| self.with_document(tally, bytes, &keys, manner))?;
         if bytes.len() < 24 {
             tally.alone("files too short for a header", 1);
             return Ok(());
@@ -92,11 +95,11 @@ impl Case {
         }
     }
 
-    /// The check, both lookups and the children, in a form.
-    fn with_document(&self, tally: &mut Tally, bytes: &[u8], keys: &[Vec<u8>], form: Form) -> Outcome {
+    /// The check, lookup of values and tables, and the children, in a manner.
+    fn with_document(&self, tally: &mut Tally, bytes: &[u8], keys: &[Vec<u8>], manner: Manner) -> Outcome {
         let (start, end) = (self.start, self.end);
-        let paper = document::open(bytes, start, end, form);
-        let check = ours::check(bytes, start, end, form);
+        let paper = document::open(bytes, start, end, manner);
+        let check = ours::check(bytes, start, end, manner);
         match check {
             Ok(Some((rule, _, why))) => tally.rule(rule, why),
             Ok(None) => tally.number(0),
@@ -104,22 +107,22 @@ impl Case {
         }
         tally.same(Who::Document, "check", &check, &paper.as_ref().map(|table| table.check()).map_err(|number| *number), String::new)?;
         for key in keys {
-            let place = ours::get(bytes, start, end, key, form);
+            let place = ours::get(bytes, start, end, key, manner);
             tally.number(number(&place));
             let other = paper.as_ref().map_err(|number| Why::from(*number));
             tally.same(Who::Document, "get", &place, &other.and_then(|table| table.get(key)), || hex(key))?;
-            let nested = ours::get_table(bytes, start, end, key, form);
+            let nested = ours::get_table(bytes, start, end, key, manner);
             tally.number(number(&nested));
             tally.same(Who::Document, "get table", &nested, &other.and_then(|table| table.get_table(key)), || hex(key))?;
-            self.children_with_document(tally, bytes, &paper, key, form)?;
+            self.children_with_document(tally, bytes, &paper, key, manner)?;
         }
         Ok(())
     }
 
     /// The child at the greatest position, which says whether the container is good, and then from the first on up to the one past the last.
-    fn children_with_document(&self, tally: &mut Tally, bytes: &[u8], paper: &Result<document::Table, u32>, key: &[u8], form: Form) -> Outcome {
+    fn children_with_document(&self, tally: &mut Tally, bytes: &[u8], paper: &Result<document::Table, u32>, key: &[u8], manner: Manner) -> Outcome {
         let mut ask = |position: usize| {
-            let ours = ours::child(bytes, self.start, self.end, key, position, form);
+            let ours = ours::child(bytes, self.start, self.end, key, position, manner);
             let other = paper.as_ref().map_err(|number| Why::from(*number)).and_then(|table| table.child(key, position));
             tally.number(number(&ours));
             tally.same(Who::Document, "children", &ours, &other, || format!("{} at {position}", hex(key))).map(|()| number(&ours))

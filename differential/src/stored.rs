@@ -22,7 +22,7 @@ fn call(words: &[&str]) -> Option<Call> {
         ["new", separator] => Call::NewTable(unhex(separator)),
         ["insert", table, key, value] => Call::Insert(number(table), unhex(key), unhex(value)),
         ["inserttable", table, key, guest] => Call::InsertTable(number(table), unhex(key), number(guest)),
-        ["write", table] => Call::Write(number(table), Form::Plain),
+        ["write", table] => Call::Write(number(table), Form::Plain.into()),
         _ => return None,
     })
 }

@@ -48,6 +48,6 @@ impl Builder {
     }
 
     pub fn write(&mut self, table: u32, image: &mut [u8], manner: u32) -> Written {
-        write(&mut self.words, &self.arena, table, image, manner)
+        write(&mut self.words, &self.arena, table, image, manner, 0)
     }
 }

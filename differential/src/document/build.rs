@@ -1,7 +1,7 @@
 //! The builder: what each call answers, from what was accepted before.
 
 use super::read::utf8;
-use crate::ffi::{MAX_ITEMS, MAX_KEY, MAX_NESTING, MAX_TABLES};
+use crate::ffi::{MAX_FILTER_WORDS, MAX_ITEMS, MAX_KEY, MAX_NESTING, MAX_TABLES};
 use crate::tally::Why;
 use std::collections::BTreeMap;
 
@@ -148,9 +148,12 @@ impl Builder {
         self.tables[table].items.contains_key(&[][..]) || self.guests(table).any(|guest| self.has_empty(guest))
     }
 
-    /// 24, 30, before the image's length is asked.
-    pub fn write(&self, table: u32) -> Result<usize, u32> {
+    /// 24, 33, 30, before the image's length is asked.
+    pub fn write(&self, table: u32, filter: u32) -> Result<usize, u32> {
         let table = self.usable(table)?;
+        if filter as usize > MAX_FILTER_WORDS {
+            return Err(33);
+        }
         if self.has_empty(table) {
             return Err(30);
         }

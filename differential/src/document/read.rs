@@ -1,6 +1,6 @@
 //! The layout of a table, lookup, listing and the check's six rules.
 
-use super::{hash, Form};
+use super::{hash, Lookup, Manner};
 use crate::ffi::MAX_FILE;
 use crate::tally::{Broken, Child, Place, Why};
 
@@ -42,11 +42,11 @@ pub struct Table<'f> {
     pub blooms: usize,
     pub buckets: usize,
     pub count: usize,
-    form: Form,
+    manner: Manner,
 }
 
-/// 1, the pointer's errors, 4, 5, 6, 7. The form plays no part in that.
-pub fn open(file: &[u8], start: u32, end: u32, form: Form) -> Result<Table<'_>, u32> {
+/// 1, the pointer's errors, 4, 5, 6, 7. The manner plays no part in that.
+pub fn open(file: &[u8], start: u32, end: u32, manner: impl Into<Manner>) -> Result<Table<'_>, u32> {
     if file.len() > MAX_FILE {
         return Err(1);
     }
@@ -68,7 +68,7 @@ pub fn open(file: &[u8], start: u32, end: u32, form: Form) -> Result<Table<'_>, 
     if !rest.is_multiple_of(24) {
         return Err(7);
     }
-    Ok(Table { file, start, blooms, buckets, count: rest / 24, form })
+    Ok(Table { file, start, blooms, buckets, count: rest / 24, manner: manner.into() })
 }
 
 impl<'f> Table<'f> {
@@ -77,7 +77,7 @@ impl<'f> Table<'f> {
         self.start + 8 + 4 * self.blooms + 4 * self.buckets + 24 * index
     }
 
-    fn hash(&self, index: usize) -> u32 {
+    pub fn hash(&self, index: usize) -> u32 {
         word(self.file, self.item(index))
     }
 
@@ -94,7 +94,7 @@ impl<'f> Table<'f> {
     }
 
     /// 2, then 9.
-    fn fragment(&self, index: usize) -> Result<&'f [u8], Why> {
+    pub fn fragment(&self, index: usize) -> Result<&'f [u8], Why> {
         let start = word(self.file, self.item(index) + 8) as usize;
         let end = start + half(self.file, self.item(index) + 12) as usize;
         pointer(self.file, start, end, 1)?;
@@ -125,7 +125,8 @@ impl<'f> Table<'f> {
         }
         if self.blooms > 0 {
             let filter = word(self.file, self.start + 8 + 4 * (hash as usize / 32 % self.blooms));
-            if filter & (1 << (hash % 32)) == 0 {
+            let shift = if self.manner.lookup == Lookup::Strict { word(self.file, self.start) >> 27 } else { 0 };
+            if [hash, hash >> shift].iter().any(|bit| filter & (1 << (bit % 32)) == 0) {
                 return 0..0;
             }
         }
@@ -137,7 +138,7 @@ impl<'f> Table<'f> {
 
     /// The first item of the run with equal hash whose chain names the key.
     pub fn find(&self, key: &[u8]) -> Option<usize> {
-        let hash = hash(key, self.form);
+        let hash = hash(key, self.manner.form);
         self.run(hash).find(|index| self.hash(*index) == hash && self.key(*index).is_ok_and(|found| found == key))
     }
 
@@ -161,7 +162,7 @@ impl<'f> Table<'f> {
 
     pub fn get_table(&self, key: &[u8]) -> Place {
         let (start, end) = self.found(key, b'H')?;
-        open(self.file, start, end, self.form)?;
+        open(self.file, start, end, self.manner)?;
         Ok((start, end))
     }
 
@@ -198,7 +199,7 @@ impl<'f> Table<'f> {
 
     /// Whether gvdb-rs, which follows parents without a count, would never come back from a lookup of this key: a loop of empty fragments.
     pub fn recurses(&self, key: &[u8]) -> bool {
-        let hash = hash(key, self.form);
+        let hash = hash(key, self.manner.form);
         for index in self.run(hash) {
             if self.hash(index) == hash {
                 match self.follows(index, key) {
@@ -245,7 +246,7 @@ impl<'f> Table<'f> {
         let (start, end) = self.value(index);
         match self.kind(index) {
             b'v' => pointer(self.file, start as usize, end as usize, 8).is_ok(),
-            b'H' => open(self.file, start, end, self.form).is_ok(),
+            b'H' => open(self.file, start, end, self.manner).is_ok(),
             _ => pointer(self.file, start as usize, end as usize, 4).is_ok() && (end - start) % 4 == 0,
         }
     }
