@@ -1,10 +1,10 @@
 //! Walks GVDB files that GLib, dconf and gvdb-rs made, nested tables too, and writes one line for each: what its header says, what opens and lists; then for both forms
-//! of the hash what is found and what the check says.
+//! of the hash what is found and what the check says, by the Rust's lookup and by the strict one.
 //! Use: real FOLDER
 
 mod ffi;
 
-use ffi::{check, get, get_table, next_child, next_key, next_value, open, read_header, Opened, SIGNED};
+use ffi::{check, get, get_table, next_child, next_key, next_value, open, read_header, Opened, SIGNED, STRICT};
 
 #[derive(Default)]
 struct Sum {
@@ -100,8 +100,17 @@ fn walk(file: &[u8], start: u32, end: u32, manner: u32, sum: &mut Sum) {
     assert!(checked.number != 0 || below == with_parent(file, start, &opened));
 }
 
-/// What a walk in one form found.
-fn said(sum: &Sum) -> String {
+/// What a walk in one form found, by the Rust's lookup, and by the strict one where that is something else.
+fn said([rust, strict]: &[Sum; 2]) -> String {
+    let [rust, strict] = [rust, strict].map(found);
+    if rust == strict {
+        format!("{rust}, strict alike")
+    } else {
+        format!("{rust}, strict: {strict}")
+    }
+}
+
+fn found(sum: &Sum) -> String {
     let sound = match sum.broken.first() {
         None => "sound".to_string(),
         Some((rule, item)) => format!("rule {rule} broken by item {item}"),
@@ -122,12 +131,14 @@ fn main() {
             continue;
         }
         let order = if header.big == 0 { "little" } else { "big" };
-        let [plain, signed] = [0, SIGNED].map(|manner| {
-            let mut sum = Sum::default();
-            walk(&file, header.start, header.end, manner, &mut sum);
-            sum
+        let [plain, signed] = [0, SIGNED].map(|form| {
+            [0, STRICT].map(|lookup| {
+                let mut sum = Sum::default();
+                walk(&file, header.start, header.end, form | lookup, &mut sum);
+                sum
+            })
         });
-        let [tables, items, values] = [signed.tables, signed.items, signed.values];
+        let [tables, items, values] = [signed[0].tables, signed[0].items, signed[0].values];
         println!("{name}: {order}, tables {tables}, items {items}, values {values}; plain: {}; signed: {}", said(&plain), said(&signed));
     }
 }
