@@ -291,6 +291,67 @@ fn print_children(rounds: usize) {
     );
 }
 
+/// Lookups of keys that are not there in a table with a filter, in a manner, and without.
+fn absent<'a>(ground: &'a Ground, filtered: &'a (Vec<u8>, u32), manner: u32) -> (Turn<'a>, Turn<'a>) {
+    let pass = move |image: &'a [u8], end: u32, manner: u32| {
+        move || {
+            timed(|| {
+                for key in &ground.absent {
+                    assert_eq!(ffi::get(black_box(image), 24, end, black_box(key.as_bytes()), manner).number, 12);
+                }
+            })
+            .0
+        }
+    };
+    (turn(ground.absent.len(), pass(&filtered.0, filtered.1, manner)), turn(ground.absent.len(), pass(&ground.image, ground.end, 0)))
+}
+
+/// A write of all tables that may be, one in the other's items, with a number of filter words in each, and with none.
+fn filter_writes(words: u32) -> (Turn<'static>, Turn<'static>) {
+    let mut builder = Builder::fresh(ROOM);
+    start(&mut builder);
+    for guest in 1..ffi::MAX_TABLES as u32 {
+        assert_eq!((builder.new_table(b"").number, builder.insert_table(0, guest.to_string().as_bytes(), guest).number), (0, 0));
+    }
+    let write = |filter: u32| {
+        let (mut builder, mut image) = (builder.clone(), vec![0; ROOM]);
+        turn(1, move || timed(|| assert_eq!(ffi::write(black_box(&mut builder.words), &builder.arena, 0, &mut image, 0, filter).number, 0)).0)
+    };
+    (write(words), write(0))
+}
+
+/// How much of the time of a lookup without a filter one with it may take, where the key is not there.
+const FILTER_GOAL: f64 = 0.8;
+/// Nanoseconds that all filter words of all tables may take to be laid.
+const FILTERS_GOAL: f64 = 1e6;
+
+fn print_filters(rounds: usize) {
+    let ground = Ground::new(1000);
+    let (words, mut image) = (ground.items() as u32 / 2, vec![0; ROOM]);
+    let mut builder = ground.builder.clone();
+    let written = ffi::write(&mut builder.words, &builder.arena, 0, &mut image, 0, words);
+    image.truncate(written.length as usize);
+    let filtered = (image, written.end);
+    for (name, manner) in [("Rust's", 0), ("strict", ffi::STRICT)] {
+        let (with, without) = measure(rounds, absent(&ground, &filtered, manner));
+        let verdict = if with <= FILTER_GOAL * without { "met" } else { "missed" };
+        println!(
+            "nanoseconds for a key that is not there, {words} filter words, by the {name} lookup: {with:.1}, without a filter {without:.1}: {:.2}, at most {FILTER_GOAL}: {verdict}",
+            with / without
+        );
+    }
+    let (most, none) = measure(rounds, filter_writes(ffi::MAX_FILTER_WORDS as u32));
+    let verdict = if most - none < FILTERS_GOAL { "met" } else { "missed" };
+    println!(
+        "{} filter words in each of {} tables take {:.3} ms to be laid, a write without them {:.3} ms; under {:.0} ms: {verdict}",
+        ffi::MAX_FILTER_WORDS,
+        ffi::MAX_TABLES,
+        (most - none) / 1e6,
+        none / 1e6,
+        FILTERS_GOAL / 1e6
+    );
+}
+
 /// A lookup in a table over another, and the plain lookups that it stands for: one where the first table has the key, both where only the other has.
 fn layered<'a>(own: &'a Ground, under: &'a Ground, keys: &'a [String], from: u32) -> (Turn<'a>, Turn<'a>) {
     let over = move || {
@@ -440,4 +501,5 @@ fn main() {
     print_headers(rounds);
     print_children(rounds);
     print_layered(rounds);
+    print_filters(rounds);
 }
