@@ -2,12 +2,13 @@
 
 use crate::args::Args;
 use crate::failure::{name, Failure, NO};
+use crate::filter;
 use crate::form;
 use crate::json::Json;
 use crate::out::{self, Colour, Out};
 use crate::source::{Source, Walk};
 use crate::text;
-use gvdb::{Form, Refusal, Table, Unsound};
+use gvdb::{Form, Lookup, Refusal, Table, Unsound};
 use std::ffi::OsStr;
 use std::io::Write;
 
@@ -16,6 +17,7 @@ struct Verdict {
     /// The keys of the tables on the way to it; none for the root.
     path: Vec<String>,
     items: usize,
+    filter_words: usize,
     broken: Option<Broken>,
     /// Whether it is sound in the signed form alone.
     signed: bool,
@@ -24,16 +26,18 @@ struct Verdict {
 /// A rule that a table breaks.
 pub struct Broken {
     unsound: Unsound,
+    /// What that means for the item.
+    meaning: &'static str,
     /// The item's key, or why it does not read: for rule 1 what the check says.
     key: Result<String, Refusal>,
 }
 
 pub fn run(args: &Args, out: &mut Out) -> Result<u8, Failure> {
-    let form = form::named(args, None)?;
+    let (form, lookup) = (form::named(args, None)?, filter::lookup(args));
     let mut status = 0;
     let mut files = Vec::new();
     for file in args.words() {
-        let mut checked = Checked::default();
+        let mut checked = Checked { lookup, ..Checked::default() };
         if args.flag("--json") {
             checked.file(file, form, &mut |_, _| Ok(()))?;
             files.push(checked.json(file));
@@ -55,6 +59,8 @@ type Tell<'t> = &'t mut dyn FnMut(&Source, &Verdict) -> Result<(), Failure>;
 /// A file's tables, as far as they could be walked, and what ended the walk early.
 #[derive(Default)]
 struct Checked {
+    /// The lookup that its tables are judged by.
+    lookup: Lookup,
     /// The byte order and the form, once the header is read.
     read: Option<[&'static str; 2]>,
     tables: Vec<Verdict>,
@@ -65,7 +71,7 @@ impl Checked {
     /// Checks a file. Only what `tell` says ends it early; what is wrong with the file is kept.
     fn file(&mut self, file: &OsStr, form: Option<Form>, tell: Tell) -> Result<(), Failure> {
         let source = match Source::read(file, form) {
-            Ok(source) => source,
+            Ok(source) => source.with_lookup(self.lookup),
             Err(failure) => return self.ended(failure),
         };
         self.read = Some([source.header.order.name(), source.form.name()]);
@@ -88,7 +94,7 @@ impl Checked {
         out::progress(source.bytes.len(), || format!("{}: {}: checking {}", source.name, table_name(path), text::count(table.len(), "item")));
         let broken = Broken::of(source, &table);
         let signed = source.form == Form::Signed && broken.is_none() && table.with_form(Form::Plain).check().is_err();
-        let verdict = Verdict { path: path.clone(), items: table.len(), broken, signed };
+        let verdict = Verdict { path: path.clone(), items: table.len(), filter_words: table.bloom_words(), broken, signed };
         tell(source, &verdict)?;
         let sound = verdict.broken.is_none();
         self.tables.push(verdict);
@@ -128,7 +134,7 @@ impl Verdict {
         let said = match &self.broken {
             None => {
                 let form = if self.signed { " in the signed form (GLib's)" } else { "" };
-                format!("{}{form}, {}", out.paint(Colour::Green, "sound"), text::count(self.items, "item"))
+                format!("{}{form}, {}{}", out.paint(Colour::Green, "sound"), text::count(self.items, "item"), filter::count(self.filter_words))
             }
             Some(broken) => format!("{}: {} {}", out.paint(Colour::Red, "not sound"), broken.words(), broken.numbers()),
         };
@@ -137,7 +143,8 @@ impl Verdict {
     }
 
     fn json(&self) -> Json {
-        let mut fields = vec![("path", Json::texts(&self.path)), ("items", Json::Number(self.items)), ("sound", Json::Bool(self.broken.is_none()))];
+        let mut fields = vec![("path", Json::texts(&self.path)), ("items", Json::Number(self.items)), filter::json(self.filter_words)];
+        fields.push(("sound", Json::Bool(self.broken.is_none())));
         fields.extend(self.broken.iter().flat_map(Broken::json));
         Json::Object(fields)
     }
@@ -159,7 +166,8 @@ impl Broken {
     /// The first rule that a table breaks, if it breaks one.
     pub fn of(source: &Source, table: &Table) -> Option<Broken> {
         let unsound = source.check(table).err()?;
-        Some(Broken { unsound, key: unsound.why.map_or_else(|| table.key_at(unsound.item), Err) })
+        let key = unsound.why.map_or_else(|| table.key_at(unsound.item), Err);
+        Some(Broken { unsound, meaning: filter::meaning(table, unsound), key })
     }
 
     /// Where a table breaks what, and what to do or to know, as a failure.
@@ -169,7 +177,7 @@ impl Broken {
     }
 
     fn words(&self) -> String {
-        let (item, meaning) = (self.unsound.item, self.unsound.meaning());
+        let (item, meaning) = (self.unsound.item, self.meaning);
         match &self.key {
             Ok(key) => format!("item {item}, key {}: {meaning}", text::cut(&text::quoted(key))),
             Err(refusal) => format!("item {item}: {meaning}: {}", refusal.message()),
@@ -189,7 +197,7 @@ impl Broken {
             ("key_refusal", Json::number(self.key.as_ref().err().map(|refusal| refusal.number()))),
             ("why", Json::number(self.unsound.why.map(Refusal::number))),
             ("at", Json::offset(self.unsound.why.and_then(Refusal::at))),
-            ("meaning", Json::text(self.unsound.meaning())),
+            ("meaning", Json::text(self.meaning)),
         ]
     }
 }

@@ -2,6 +2,7 @@
 
 use crate::args::Args;
 use crate::failure::Failure;
+use crate::filter;
 use crate::form;
 use crate::json::Json;
 use crate::out::{self, Out};
@@ -24,8 +25,9 @@ pub fn run(args: &Args, out: &mut Out) -> Result<u8, Failure> {
     // Keys below 128 are found alike in both forms: which one the file is in, which is found out by a check, is not asked then.
     let alike = tables.iter().chain([&key]).all(|key| key.is_ascii());
     let form = form::named(args, Some(Form::Plain).filter(|_| alike))?;
-    let own = Source::read(&args.words()[0], form)?;
-    let under = args.value("--under").map(|word| Source::read(word, form)).transpose()?;
+    let read = |word| Source::read(word, form).map(|source| source.with_lookup(filter::lookup(args)));
+    let own = read(&args.words()[0])?;
+    let under = args.value("--under").map(read).transpose()?;
     let found = match &under {
         None => alone(&own, args, &key)?,
         Some(under) => over(&own, under, args, &key)?,

@@ -26,23 +26,31 @@ the form in which its root table and those nested in it are sound, else that of 
 table, plain first; --form plain and --form signed name one. Files are written in the plain
 form unless --form signed is given.
 
+A table may have a filter, at which most lookups of keys that are not there end: build and
+merge lay one where --bloom N is given, and only there. A lookup asks it for one bit, as in
+gvdb-rs and GLib; with --strict for a second one too, by the table's first word. What --bloom
+lays has both.
+
 Exit status: 0 done; 1 the answer is no (not sound, no such key, not alike, a conflict, a
 refusal); 2 bad usage, or something cannot be read or written.
 ";
 
 pub const CHECK: &str = "\
-gvdb check FILE... [--form plain|signed|auto] [--json]
+gvdb check FILE... [--strict] [--form plain|signed|auto] [--json]
 
 Checks each table of each file, nested ones too, against six rules: (1) the key of each
 item reads, (2) a lookup of it finds the item, (3) its kind is known, (4) its value opens,
 (5) a container's children are there, name it and stand once, (6) the parent of an item is
 a container that lists it. Of a table that is not sound the first broken rule is told, as
 soon as it is found; of rule 1 why the key does not read, and at which byte of its fragment
-it is not UTF-8. A table that is sound in GLib's form of the hash alone is told so. Exit
-status: 0 all sound, 1 one is not, 2 one cannot be read.
+it is not UTF-8. A table that is sound in GLib's form of the hash alone is told so, and how
+many filter words a table has. Exit status: 0 all sound, 1 one is not, 2 one cannot be read.
 
+    --strict  judge rule 2 by the strict lookup, which asks a filter for two bits; what is sound
+              so is sound without it too
     --form F  the form: plain, signed (GLib's), or auto as if not given; see gvdb --help
-    --json    one list, with an object for each file; `why` and `at` are those of rule 1
+    --json    one list, with an object for each file; `why` and `at` are those of rule 1,
+              `filter_words` is 0 for a table without a filter
 
     gvdb check owners/*.gvdb
 ";
@@ -61,7 +69,8 @@ A table that is not sound is listed as lookups answer, and it is said.
     --form F      the form: plain, signed (GLib's), or auto as if not given; see gvdb --help
     --no-check    do not ask whether the table is sound, which can take long, nor for its
                   form: that is plain then, unless one is named
-    --json        one object, with every byte of each value
+    --json        one object, with every byte of each value, and the number of filter words of
+                  the table and of those nested in it
 
     gvdb list anna.gvdb /parcel/12/ --values
 ";
@@ -81,8 +90,8 @@ the number.
 ";
 
 pub const GET: &str = "\
-gvdb get FILE KEY [--under DISTRICT] [--table KEY]... [--form plain|signed|auto]
-         [--hex | --raw | --json]
+gvdb get FILE KEY [--under DISTRICT] [--table KEY]... [--strict]
+         [--form plain|signed|auto] [--hex | --raw | --json]
 
 Writes the value at KEY: its bytes as they are to a pipe or a file, hex to a terminal.
 Keys are given as `gvdb list` prints them.
@@ -94,6 +103,7 @@ error, and a refusal names the file that refused. Both files have to be there, w
     --under DISTRICT
                   the file under FILE
     --table KEY   look in the nested table at KEY, in each file; again for one in that
+    --strict      look up KEY and the tables by the strict lookup, in each file; see gvdb --help
     --form F      the form: plain, signed (GLib's), or auto as if not given; see gvdb --help
     --hex, --raw  hex, or the bytes, wherever it goes
     --json        one object; with --under, `from` is own or under
@@ -128,7 +138,7 @@ Exit status: 0 alike, 1 not, 2 one cannot be read or is not sound.
 pub const MERGE: &str = "\
 gvdb merge OWN OTHER -o OUT [--keep own|other] [--decide FILE] [--base BASE] [--dry-run]
            [--report FILE] [--replace] [--without-containers] [--separator C|none]
-           [--form plain|signed|auto] [--json]
+           [--form plain|signed|auto] [--bloom N] [--json]
 
 Writes the values of both files into OUT. Every key that stands in both is named with both
 values. `same`: the values are equal, nothing is lost. `conflict`: they differ, or one is a
@@ -166,6 +176,8 @@ error then).
     --separator C    makes the containers of OUT; / if not given, none for no containers
     --form F         the form of OUT: plain if not given, signed (GLib's), or auto, OWN's; files
                      are read in the form in which they are sound
+    --bloom N        give each table of OUT N filter words, 0 to 1,024; none if not given, and
+                     the report notes which file had some
     --json           the report as one object
 
     gvdb merge anna.gvdb district.gvdb -o merged.gvdb --keep own --report merged.txt
@@ -190,7 +202,7 @@ separator makes them. The file has to pass the check. A word - for FILE is stand
 
     --separator C    the separator that `build` will be given; / if not given
     --form F         the form: plain, signed (GLib's), or auto as if not given; no line
-                     tells it, so `build` is told again
+                     tells it, nor the filter, so `build` is told again
     --json           one object with every item, containers too
 
     gvdb dump anna.gvdb | sed s/oak/beech/ | gvdb build -o changed.gvdb
@@ -198,15 +210,16 @@ separator makes them. The file has to pass the check. A word - for FILE is stand
 
 pub const BUILD: &str = "\
 gvdb build -o OUT [--replace] [--separator C|none] [--without-containers] [--big-endian]
-           [--form plain|signed] [--empty]
+           [--form plain|signed] [--bloom N] [--empty]
 
 Lays a file from lines on standard input, as `gvdb dump --help` describes them. The children
-of a container are stored in the order of the lines that are first to name them. A key that stands twice is refused, and so is one that is both a value and a
-table, and a container that cannot be laid. Empty lines are passed over. Input without a
-line of content, with a byte order mark, or whose last line has no end is refused: it may be
-cut, or no such lines. Keys are UTF-8: of another the line and the byte are told, and a list
-in Latin-1 is turned by iconv -f latin1 -t utf8. OUT is checked and read back before it is
-put in place; what changed there since the run began refuses it.
+of a container are stored in the order of the lines that are first to name them. A key that
+stands twice is refused, and so is one that is both a value and a table, and a container that
+cannot be laid. Empty lines are passed over. Input without a line of content, with a byte
+order mark, or whose last line has no end is refused: it may be cut, or no such lines. Keys
+are UTF-8: of another the line and the byte are told, and a list in Latin-1 is turned by
+iconv -f latin1 -t utf8. OUT is checked and read back before it is put in place; what changed
+there since the run began refuses it.
 
     -o OUT           the file to write; - is standard output
     --replace        OUT may be there: each value of it that the new one does not have is named
@@ -215,6 +228,9 @@ put in place; what changed there since the run began refuses it.
                      leave out containers that cannot be laid, and name them
     --big-endian     the header says that the values are big-endian; so does a line
     --form F         the form: plain if not given, or signed, as GLib reads it
+    --bloom N        give each table N filter words, 0 to 1,024, of four bytes each; none if not
+                     given. With half as many as items, seven of eight lookups of keys that are
+                     not there end at the filter
     --empty          input without a line of content lays an empty table
 
     printf '/parcel/12/year\\te9070000\\n' | gvdb build -o anna.gvdb

@@ -5,29 +5,31 @@ use crate::failure::{Failure, NO};
 use crate::order::Order;
 use crate::source::Source;
 use crate::{out, text};
-use gvdb::{Builder, ByteOrder, Form, Inserted, Kind, Refusal, TableNumber, MAX_ITEMS, MAX_KEY};
+use gvdb::{Builder, ByteOrder, Inserted, Kind, Lookup, Refusal, TableNumber, WriteOptions, MAX_ITEMS, MAX_KEY};
 
 /// Names an item for a message, by the keys of the tables around it and its own.
 pub type Named<'n> = &'n dyn Fn(&[String], &str) -> String;
 
-/// How a file is laid: the separator of its tables, the byte order of its values, the form of its hashes, and the order of its containers' children.
+/// How a file is laid: the separator of its tables, the byte order of its values, the form and the filter words, and the order of its containers' children.
 #[derive(Clone, Copy)]
 pub struct Layout<'o> {
     pub separator: Option<u8>,
     pub order: ByteOrder,
-    pub form: Form,
+    pub options: WriteOptions,
     pub children: &'o Order,
 }
 
 /// Lays content as a file and holds it to the check and to what was meant, before anyone can have it. Containers are left out that the separator does not make.
 pub fn lay(name: &str, content: &Content, layout: Layout, named: Named) -> Result<Vec<u8>, Failure> {
-    let Layout { separator, order, form, children } = layout;
+    let Layout { separator, order, options, children } = layout;
     let size: usize = values(content).iter().map(|(_, bytes)| bytes.len()).sum();
     out::progress(size, || format!("{name}: laying {} of values", text::count(size, "byte")));
     let mut laying = Laying { builder: Builder::new(size + MAX_ITEMS * MAX_KEY), named, separator, children, path: Vec::new() };
     let root = laying.table(content)?;
-    let file = laying.builder.write_as(root, form).and_then(|image| image.into_file(order));
-    let laid = Source::of(name, file.map_err(|refusal| unlaid(name, content, named, refusal))?, Some(form))?;
+    let file = laying.builder.write_as(root, options).and_then(|image| image.into_file(order));
+    let file = file.map_err(|refusal| unlaid(name, content, named, refusal))?;
+    // What the strict lookup finds, every lookup does.
+    let laid = Source::of(name, file, Some(options.form))?.with_lookup(Lookup::Strict);
     if !compare(content, &read(&laid)?, separator) {
         return Err(Failure::no(format!("{name}: what was laid does not read back as it was meant; it is not written")));
     }

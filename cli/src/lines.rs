@@ -5,6 +5,7 @@
 use crate::args::Args;
 use crate::content::{self, Content, Node, Place};
 use crate::failure::{Failure, NO};
+use crate::filter;
 use crate::form;
 use crate::input;
 use crate::json::Json;
@@ -15,7 +16,7 @@ use crate::report::{lost_line, told, why_unmade};
 use crate::source::Source;
 use crate::target::{self, Target};
 use crate::{advice, replace, text};
-use gvdb::{ByteOrder, Form, Refusal, MAX_NESTING};
+use gvdb::{ByteOrder, Form, Refusal, WriteOptions, MAX_NESTING};
 use std::borrow::Cow;
 use std::collections::BTreeMap;
 use std::ffi::OsStr;
@@ -92,6 +93,7 @@ pub fn build(args: &Args, out: &mut Out) -> Result<u8, Failure> {
     let mut target = Target::find(args.needed("-o")?)?;
     let separator = content::separator(args.value("--separator"))?;
     let form = form::named(args, Some(Form::Plain))?.ok_or_else(|| Failure::usage("build: lines have no form, so --form is plain or signed here"))?;
+    let options = WriteOptions { form, filter_words: filter::words(args)? };
     // The lines may have been made from what is there: it has to be the same when they are laid.
     target.look()?;
     let old = replace::old(&target, args.flag("--replace"))?;
@@ -104,7 +106,7 @@ pub fn build(args: &Args, out: &mut Out) -> Result<u8, Failure> {
     }
     target::take_turns([&mut target])?;
     let children = Order::of_lines(&lines.numbers, separator);
-    let layout = Layout { separator, order, form, children: &children };
+    let layout = Layout { separator, order, options, children: &children };
     let bytes = lay(&target.name, &lines.content, layout, &|path, key| lines.named(path, key))?;
     let size = bytes.len();
     let mut image = target.write(bytes)?;
@@ -118,7 +120,7 @@ pub fn build(args: &Args, out: &mut Out) -> Result<u8, Failure> {
     out.tell_before(&target.name, &(lost + &left_out.collect::<String>()))?;
     image.put()?;
     let values = content::values(&lines.content).len();
-    let last = format!("{}: {}, {}\n", target.name, text::count(values, "value"), text::count(size, "byte"));
+    let last = format!("{}: {}, {}{}\n", target.name, text::count(values, "value"), text::count(size, "byte"), filter::laid(options));
     out.tell(&last).map_err(|failure| failure.so(&format!("{} is written", target.name)))?;
     Ok(0)
 }

@@ -3,6 +3,7 @@
 use crate::args::Args;
 use crate::check::Broken;
 use crate::failure::Failure;
+use crate::filter;
 use crate::form;
 use crate::json::Json;
 use crate::out::{self, Colour, Out};
@@ -35,7 +36,8 @@ pub fn run(args: &Args, out: &mut Out) -> Result<u8, Failure> {
     rows.retain(|row| prefix.is_empty() || row.entry.key.as_ref().is_ok_and(|key| key.as_bytes().starts_with(&prefix)));
     if args.flag("--json") {
         let items = rows.iter().map(|row| row.json(&mut walk)).collect::<Result<_, _>>()?;
-        Json::Object(source.json().into_iter().chain([("table", Json::texts(&path)), ("items", Json::List(items))]).collect()).print(out)?;
+        let of_table = [("table", Json::texts(&path)), filter::json(table.bloom_words()), ("items", Json::List(items))];
+        Json::Object(source.json().into_iter().chain(of_table).collect()).print(out)?;
         return Ok(0);
     }
     for row in &rows {
@@ -95,9 +97,13 @@ impl Row<'_> {
     fn json(&self, walk: &mut Walk) -> Result<Json, Failure> {
         let mut fields = item_json(&self.entry);
         fields.extend(self.size().map(|size| ("size", Json::Number(size))));
-        if let Ok(Item::Value(bytes)) = self.entry.item {
-            walk.value(bytes)?;
-            fields.push(("value", Json::Text(text::hex(bytes))));
+        match self.entry.item {
+            Ok(Item::Value(bytes)) => {
+                walk.value(bytes)?;
+                fields.push(("value", Json::Text(text::hex(bytes))));
+            }
+            Ok(Item::Table(nested)) => fields.push(filter::json(nested.bloom_words())),
+            _ => {}
         }
         Ok(Json::Object(fields))
     }

@@ -8,6 +8,7 @@ mod content;
 mod decide;
 mod diff;
 mod failure;
+mod filter;
 mod form;
 mod get;
 mod help;
@@ -44,7 +45,7 @@ struct Command {
 }
 
 const COMMANDS: &[Command] = &[
-    Command { name: "check", help: help::CHECK, spec: Spec { flags: &["--json"], valued: &["--form"], words: &["FILE..."] }, run: check::run },
+    Command { name: "check", help: help::CHECK, spec: Spec { flags: &["--strict", "--json"], valued: &["--form"], words: &["FILE..."] }, run: check::run },
     Command {
         name: "list",
         help: help::LIST,
@@ -55,7 +56,7 @@ const COMMANDS: &[Command] = &[
     Command {
         name: "get",
         help: help::GET,
-        spec: Spec { flags: &["--hex", "--raw", "--json"], valued: &["--table", "--under", "--form"], words: &["FILE", "KEY"] },
+        spec: Spec { flags: &["--strict", "--hex", "--raw", "--json"], valued: &["--table", "--under", "--form"], words: &["FILE", "KEY"] },
         run: get::run,
     },
     Command { name: "diff", help: help::DIFF, spec: Spec { flags: &["--json"], valued: &[], words: &["A", "B"] }, run: diff::run },
@@ -65,7 +66,7 @@ const COMMANDS: &[Command] = &[
         help: help::MERGE,
         spec: Spec {
             flags: &["--json", "--replace", "--dry-run", "--without-containers"],
-            valued: &["-o", "--keep", "--decide", "--base", "--report", "--separator", "--form"],
+            valued: &["-o", "--keep", "--decide", "--base", "--report", "--separator", "--form", "--bloom"],
             words: &["OWN", "OTHER"],
         },
         run: merge::run,
@@ -74,7 +75,11 @@ const COMMANDS: &[Command] = &[
     Command {
         name: "build",
         help: help::BUILD,
-        spec: Spec { flags: &["--big-endian", "--empty", "--replace", "--without-containers"], valued: &["-o", "--separator", "--form"], words: &[] },
+        spec: Spec {
+            flags: &["--big-endian", "--empty", "--replace", "--without-containers"],
+            valued: &["-o", "--separator", "--form", "--bloom"],
+            words: &[],
+        },
         run: lines::build,
     },
 ];

@@ -5,6 +5,7 @@ use crate::both::Side;
 use crate::content::{self, Content, Place};
 use crate::decide::Decisions;
 use crate::failure::{name, Failure};
+use crate::filter;
 use crate::form;
 use crate::input::Input;
 use crate::lay::{lay, Layout};
@@ -16,7 +17,7 @@ use crate::report::{End, Heading, Listener, Report};
 use crate::source::Source;
 use crate::target::{self, Pending, Target};
 use crate::text;
-use gvdb::{ByteOrder, Form};
+use gvdb::{ByteOrder, Form, WriteOptions, MAX_FILTER_WORDS};
 use std::collections::BTreeSet;
 use std::ffi::OsStr;
 use std::fs;
@@ -27,15 +28,15 @@ pub fn run(args: &Args, out: &mut Out) -> Result<u8, Failure> {
     let mut input = places.begin(args, &job)?;
     let files = Files::read(args, &mut input)?;
     let order = files.byte_order()?;
-    let form = job.form.unwrap_or(files.own.form);
+    let options = WriteOptions { form: job.form.unwrap_or(files.own.form), filter_words: job.filter_words };
     let [base, own, other] = files.contents()?;
     let decisions = job.decisions(args, &mut input)?;
     let old = if places.out_is_input(args) { None } else { replace::old(&places.out, job.replace)? };
     let old_content = old.as_ref().map(replace::read).transpose()?.unwrap_or_default();
 
-    let mut report = Report::new(job.heading(args, order, form));
+    let mut report = Report::new(job.heading(args, order, options));
     let merged = Merging::new(&decisions, job.keep, &mut report).tables(&base, &own, &other);
-    report.notes = decisions.idle().into_iter().chain(places.old_report.clone()).chain(files.turned(form, &places.out)).collect();
+    report.notes = decisions.idle().into_iter().chain(places.old_report.clone()).chain(files.notes(options, &places.out)).collect();
     report.values = content::values(&merged).len();
     report.unmade = unmade([&own, &other], &merged, job.separator);
     report.lost = old.as_ref().map_or(Vec::new(), |old| replace::lost(old, &old_content, &merged, order));
@@ -43,7 +44,7 @@ pub fn run(args: &Args, out: &mut Out) -> Result<u8, Failure> {
     let mut error = Out::error();
     let told = if places.out.is_standard() { &mut error } else { out };
     let children = Order::of(&files.own, &own)?.then(Order::of(&files.other, &other)?);
-    let layout = Layout { separator: job.separator, order, form, children: &children };
+    let layout = Layout { separator: job.separator, order, options, children: &children };
     carry_out(&job, &places, &report, told, |name| job.lay(name, &report, &merged, layout))
 }
 
@@ -59,6 +60,7 @@ struct Job {
     separator: Option<u8>,
     /// The form of OUT; none is that of OWN.
     form: Option<Form>,
+    filter_words: u32,
     json: bool,
     replace: bool,
     dry_run: bool,
@@ -83,6 +85,7 @@ impl Job {
             },
             separator: content::separator(args.value("--separator"))?,
             form: form::named(args, Some(Form::Plain))?,
+            filter_words: filter::words(args)?,
             json: args.flag("--json"),
             replace: args.flag("--replace"),
             dry_run: args.flag("--dry-run"),
@@ -98,10 +101,10 @@ impl Job {
         Decisions::parse(name, &lines, self.separator)
     }
 
-    fn heading(&self, args: &Args, order: ByteOrder, form: Form) -> Heading {
+    fn heading(&self, args: &Args, order: ByteOrder, options: WriteOptions) -> Heading {
         let [own, other] = [0, 1].map(|at| name(&args.words()[at]));
         let [base, out] = ["--base", "-o"].map(|option| args.value(option).map(name));
-        Heading { own, other, base, out: out.unwrap_or_default(), keep: self.keep, separator: self.separator, order, form }
+        Heading { own, other, base, out: out.unwrap_or_default(), keep: self.keep, separator: self.separator, order, options }
     }
 
     /// OUT's bytes, unless the merge is refused.
@@ -244,11 +247,18 @@ impl Files {
         Ok([base, content::read(&self.own)?, content::read(&self.other)?])
     }
 
-    /// What is said of each file in GLib's form, where OUT is to be in the other.
-    fn turned(&self, form: Form, out: &Target) -> Vec<String> {
-        let turned = [&self.own, &self.other].into_iter().filter(|source| form == Form::Plain && source.form == Form::Signed);
-        let said = |source: &Source| format!("{} is in the signed form (GLib's), {} in the plain one: --form signed keeps it", source.name, out.name);
-        turned.map(said).collect()
+    /// What is said of each file in GLib's form, where OUT is to be in the other, and of each with a filter, where OUT is to have none.
+    fn notes(&self, options: WriteOptions, out: &Target) -> Vec<String> {
+        let turned = |source: &Source| {
+            let said = || format!("{} is in the signed form (GLib's), {} in the plain one: --form signed keeps it", source.name, out.name);
+            (options.form == Form::Plain && source.form == Form::Signed).then(said)
+        };
+        let unfiltered = |source: &Source| {
+            let words = source.root().map_or(0, |root| root.bloom_words());
+            let (has, most) = (text::count(words, "filter word"), words.min(MAX_FILTER_WORDS));
+            (options.filter_words == 0 && words > 0).then(|| format!("{} has {has}, {} none: --bloom {most} lays some", source.name, out.name))
+        };
+        [&self.own, &self.other].into_iter().flat_map(|source| [turned(source), unfiltered(source)]).flatten().collect()
     }
 
     /// The byte order of the values, which all files have to share: nobody here knows how to turn a value around.

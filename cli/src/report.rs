@@ -3,10 +3,11 @@
 use crate::both::{leaf_json, leaf_text, line, place_json, Both, Line, Outcome, Room, Side};
 use crate::content::{self, Leaf, Node, Place};
 use crate::failure::in_words;
+use crate::filter;
 use crate::json::Json;
 use crate::out::{Colour, Out};
 use crate::text;
-use gvdb::{ByteOrder, Form};
+use gvdb::{ByteOrder, WriteOptions};
 
 /// Values of so many bytes are printed whole where they stand in OUT; the report's file and JSON have every byte.
 const SHORT: usize = 32;
@@ -22,7 +23,7 @@ pub struct Heading {
     pub keep: Option<Side>,
     pub separator: Option<u8>,
     pub order: ByteOrder,
-    pub form: Form,
+    pub options: WriteOptions,
 }
 
 pub struct Report<'a> {
@@ -127,9 +128,10 @@ impl<'a> Report<'a> {
             return format!(",{}}}\n", inner(self.end_fields(end)));
         }
         let out = self.out();
+        let holds = text::count(self.values, "value") + &filter::laid(self.heading.options);
         let (word, colour, rest) = match end {
-            End::Merged => ("merged", Colour::Green, format!(" into {out}: {}", text::count(self.values, "value"))),
-            End::WouldBe => ("would", Colour::Green, format!(" be merged into {out}: {}", text::count(self.values, "value"))),
+            End::Merged => ("merged", Colour::Green, format!(" into {out}: {holds}")),
+            End::WouldBe => ("would", Colour::Green, format!(" be merged into {out}: {holds}")),
             End::Refused(None) => ("refused", Colour::Red, format!(": {out} is not written")),
             End::Refused(Some(why)) => ("refused", Colour::Red, format!(": {out} is not written ({why})")),
         };
@@ -176,7 +178,8 @@ impl<'a> Report<'a> {
             ("out", Json::text(&heading.out)),
             ("keep", heading.keep.map_or(Json::Null, |side| Json::text(side.name()))),
             ("byte_order", Json::text(heading.order.name())),
-            ("form", Json::text(heading.form.name())),
+            ("form", Json::text(heading.options.form.name())),
+            filter::json(heading.options.filter_words as usize),
             ("separator", heading.separator.map_or(Json::Null, |byte| Json::text(byte as char))),
             ("both", Json::List(self.both.iter().map(Both::json).collect())),
             ("dropped", leaves(Side::BOTH.into_iter().flat_map(|side| self.dropped(side)).collect())),

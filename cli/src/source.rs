@@ -3,8 +3,8 @@
 use crate::failure::{name, Failure, NO, UNREADABLE};
 use crate::form::{self, Found, Sound};
 use crate::json::Json;
-use crate::{advice, input, out, text};
-use gvdb::{Entry, Form, Header, Item, Pointer, Refusal, Table, Unsound, MAX_FILE};
+use crate::{advice, filter, input, out, text};
+use gvdb::{Entry, Form, Header, Item, Lookup, Pointer, Refusal, Table, Unsound, MAX_FILE};
 use std::ffi::OsStr;
 use std::path::PathBuf;
 
@@ -24,8 +24,10 @@ pub struct Source {
     pub header: Header,
     /// The form that its tables are read in.
     pub form: Form,
-    /// Tables that are known to be sound in that form.
+    /// Tables that are known to be sound in that form, by the Rust's lookup.
     pub sound: Sound,
+    /// The lookup that its tables are asked by.
+    pub lookup: Lookup,
 }
 
 impl Source {
@@ -39,31 +41,39 @@ impl Source {
     /// Bytes that are read as a file of this name.
     pub fn of(name: &str, bytes: Vec<u8>, form: Option<Form>) -> Result<Source, Failure> {
         let header = Header::read(&bytes).map_err(|refusal| Failure::refused(UNREADABLE, name, refusal))?;
-        let plain = Source { path: PathBuf::new(), name: name.to_string(), bytes, header, form: Form::Plain, sound: Sound::new() };
+        let plain = Source { path: PathBuf::new(), name: name.to_string(), bytes, header, form: Form::Plain, sound: Sound::new(), lookup: Lookup::Rust };
         let Found { form, sound } = form.map_or_else(|| form::found(&plain), |form| Found { form, ..Found::default() });
         Ok(Source { form, sound, ..plain })
     }
 
-    /// What the check says of a table of this file. One that was checked while the form was found out is not checked again.
+    /// The same file, asked by a lookup. Its form was found out by the Rust's: a table that is sound by the strict one is sound by that too, in the same form.
+    pub fn with_lookup(self, lookup: Lookup) -> Source {
+        Source { lookup, ..self }
+    }
+
+    /// What the check says of a table of this file. One that was checked while the form was found out is not checked again, unless it has a filter and the lookup is
+    /// the strict one.
     pub fn check(&self, table: &Table) -> Result<(), Unsound> {
-        if self.sound.contains_key(&table.pointer()) {
+        let one = self.lookup == Lookup::Rust || table.bloom_words() == 0;
+        if one && self.sound.contains_key(&table.pointer()) {
             return Ok(());
         }
         table.check()
     }
 
-    /// The tables that are nested in one of this file, which is sound or not: those that were met while the form was found out, or those that a walk meets.
+    /// The tables that are nested in one of this file, which is sound or not: those that were met while the form was found out, or those that a walk meets. Either is
+    /// by the Rust's lookup, so that a table is judged too whose key the strict one does not find.
     pub fn nested<'a>(&'a self, table: &Table<'a>, sound: bool) -> Box<dyn Iterator<Item = (String, Table<'a>)> + 'a> {
         match self.sound.get(&table.pointer()) {
             Some(nested) => Box::new(nested.iter().filter_map(|(key, at)| Some((key.clone(), self.open(*at).ok()?)))),
             None if sound => Box::new(table.sound_tables()),
-            None => Box::new(table.tables()),
+            None => Box::new(table.with_lookup(Lookup::Rust).tables().map(|(key, nested)| (key, nested.with_lookup(self.lookup)))),
         }
     }
 
-    /// The table at a pointer, in the form that the file is read in.
+    /// The table at a pointer, in the form and by the lookup that the file is read in.
     fn open(&self, at: Pointer) -> Result<Table<'_>, Refusal> {
-        Ok(Table::open(&self.bytes, at.start, at.end)?.with_form(self.form))
+        Ok(Table::open(&self.bytes, at.start, at.end)?.with_form(self.form).with_lookup(self.lookup))
     }
 
     /// The path, for JSON: it can hold no byte that is not UTF-8.
@@ -103,6 +113,10 @@ pub fn not_found(what: &str, table: &Table, key: &[u8], refusal: Refusal) -> Fai
     match refusal {
         Refusal::OtherKind => {}
         Refusal::KeyNotUtf8 { at } => return Failure::bad_key(what, key, at, advice::of(refusal.number())),
+        Refusal::KeyNotFound if filter::hides(table, key) => {
+            let hidden = "a lookup finds it, but not the strict one; gvdb check --strict FILE says what is broken";
+            return Failure::told(NO, what, refusal.number(), hidden);
+        }
         _ => return Failure::refused(NO, what, refusal),
     }
     let there = match table.item(key) {
