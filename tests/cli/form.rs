@@ -21,11 +21,6 @@ fn both(name: &str, lines: &str) -> PathBuf {
     folder
 }
 
-/// Runs a line of words in a folder.
-fn run(folder: &Path, words: &str) -> Ran {
-    shell(folder, &format!("\"$GVDB\" {words}"))
-}
-
 /// The file of one key differs in the four bytes of its hash; files of names below 128 do not differ.
 #[test]
 fn build_lays_both_forms() {

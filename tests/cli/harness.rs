@@ -84,6 +84,11 @@ pub fn shell(folder: &Path, line: &str) -> Ran {
     Ran { status: output.status.code().expect("a status"), stdout: output.stdout, stderr }
 }
 
+/// The program with a line of words, in a folder.
+pub fn run(folder: &Path, words: &str) -> Ran {
+    shell(folder, &format!("\"$GVDB\" {words}"))
+}
+
 /// An empty folder of this name.
 pub fn folder(name: &str) -> PathBuf {
     let folder = root().join("target/cli").join(name);

@@ -29,6 +29,10 @@ impl Json {
         }
     }
 
+    pub fn has(&self, name: &str) -> bool {
+        matches!(self, Json::Object(fields) if fields.contains_key(name))
+    }
+
     #[track_caller]
     pub fn list(&self) -> &[Json] {
         match self {

@@ -4,6 +4,7 @@ mod checking;
 mod children;
 mod damage;
 mod diff;
+mod filter;
 mod form;
 mod harness;
 mod json;

@@ -30,12 +30,17 @@ impl Oracle {
         Some(Oracle { child, questions, answers })
     }
 
-    #[track_caller]
-    pub fn ask(&mut self, question: &str) -> String {
+    /// What gvdb-rs answers: `ok` or `err`, and more.
+    pub fn answer(&mut self, question: &str) -> String {
         writeln!(self.questions, "{question}").expect("a question");
         let mut answer = String::new();
         self.answers.read_line(&mut answer).expect("an answer");
-        let answer = answer.trim_end().to_string();
+        answer.trim_end().to_string()
+    }
+
+    #[track_caller]
+    pub fn ask(&mut self, question: &str) -> String {
+        let answer = self.answer(question);
         answer.strip_prefix("ok").unwrap_or_else(|| panic!("gvdb-rs answers {answer:?} to {question:.200}")).trim().to_string()
     }
 
@@ -43,9 +48,15 @@ impl Oracle {
     #[track_caller]
     pub fn read(&mut self, file: &Path) -> Table {
         let bytes = std::fs::read(file).expect("the file");
-        let root = self.ask(&format!("path {}", file.display()));
-        let pointer: Vec<&str> = root.split(' ').collect();
-        self.table(&bytes, &format!("{} {}", pointer[1], pointer[2]))
+        let root = self.open(file);
+        self.table(&bytes, &root)
+    }
+
+    /// Opens a file, and has the pointer of its root table.
+    #[track_caller]
+    pub fn open(&mut self, file: &Path) -> String {
+        let opened = self.ask(&format!("path {}", file.display()));
+        opened.split_once(' ').expect("a length and a pointer").1.to_string()
     }
 
     fn table(&mut self, file: &[u8], pointer: &str) -> Table {
@@ -69,13 +80,11 @@ impl Oracle {
     }
 
     fn try_ask(&mut self, question: &str) -> Option<String> {
-        writeln!(self.questions, "{question}").expect("a question");
-        let mut answer = String::new();
-        self.answers.read_line(&mut answer).expect("an answer");
-        match answer.trim_end().strip_prefix("ok ") {
+        let answer = self.answer(question);
+        match answer.strip_prefix("ok ") {
             Some(answer) => Some(answer.to_string()),
             None => {
-                assert_eq!(answer.trim_end(), "err kindother");
+                assert_eq!(answer, "err kindother");
                 None
             }
         }
