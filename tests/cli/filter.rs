@@ -183,6 +183,11 @@ fn nested_tables() {
         run(&folder, &format!("get bad x --table t --hex {form}")).ends(0).prints("09\n");
         run(&folder, &format!("get bad x --table t --strict {form}")).ends(1).says(&format!("bad: table \"t\": {NOT_STRICT}"));
         run(&folder, &format!("get laid x --table t --strict --hex {form}")).ends(0).prints("09\n");
+        let mut bytes = fs::read(folder.join("bad")).unwrap();
+        bytes[78] = 0;
+        fs::write(folder.join("bad"), bytes).unwrap();
+        let ran = run(&folder, &format!("check bad --strict {form}")).ends(1).prints(&format!("root table: not sound: item 0, key \"t\": {HIDDEN}"));
+        ran.prints(&format!("table \"t\": not sound: item 0, key \"x\": {HIDDEN}"));
     }
 }
 
