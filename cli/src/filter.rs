@@ -1,4 +1,4 @@
-//! The filter of a table: how many words of it `--bloom` asks for, and the lookup that `--strict` does, which asks it for two bits.
+//! The filter of a table: how many words of it `--bloom` asks for, and the lookup that `--strict` names, which asks it for two bits.
 
 use crate::args::Args;
 use crate::failure::{Failure, UNREADABLE};
