@@ -7,6 +7,7 @@ use native.Mathlib.Omega.{arith}
 use borrow.Author.Tests.{ltb-false}
 use lib.Dec.{ltb}
 use lib.ListN.{length, take}
+use lib.Seq.{take-length}
 use Rattle.words.specs.Choice.{pick}
 use Rattle.words.specs.Store.{putAt}
 use Rattle.words.proofs.StoreLaws.{part-put}
@@ -15,14 +16,16 @@ use Rattle.layout.specs.Limits.{longestFile, deepest, mostFilter}
 use Rattle.layout.specs.Sizes.{headerSize, chunkSize}
 use Rattle.image.specs.Image.{imageOf}
 use Rattle.image.specs.WellFormed.{Writable}
-use Rattle.laid.proofs.ImageBack.{alone-back}
+use Rattle.image.specs.Laid.{Holds}
+use Rattle.laid.proofs.ImageBack.{root-held, alone-back}
 use Rattle.laid.proofs.Passes.{alone-passes}
+use Rattle.laid.proofs.AlikeLaws.{lookups-alike}
 use Rattle.build_rules.specs.Valid.{fullyValid}
 use Rattle.write_numbers.specs.Roster.{stateOf}
 use Rattle.write.specs.declared.Written.{Written}
 use Rattle.build_tables.specs.Table.{freeStanding}
 use Rattle.write.specs.Write.{hasEmpty, imageFor, tooLong, writeAnswer, laidBy, imageAfter}
-use Rattle.demands.specs.Success.{Success, SuccessSays, SuccessLays, SuccessReadsBack, SuccessPasses}
+use Rattle.demands.specs.Success.{Success, SuccessSays, SuccessLays, SuccessReadsBack, SuccessPasses, SuccessAlike}
 use Rattle.demands.proofs.Writable.{free-standing-writable}
 
 -- ---- what a success says
@@ -113,3 +116,12 @@ success-back lay ws ar buffer t start end size e =
 pub success-passes : SuccessPasses
 success-passes lay ws ar buffer t start end size e =
     rw (file-is (lay .manner .byte) (lay .filter) ws ar buffer t start end size e) (alone-passes lay (stateOf ws ar) t (writable (lay .manner .byte) (lay .filter) ws ar buffer t start end size e) (short-image (lay .manner .byte) (lay .filter) ws ar buffer t start end size e))
+
+-- and by both lookups each key answers alike in it
+pub success-alike : SuccessAlike
+unfolding Holds
+success-alike rule filter ws ar buffer t start end size e =
+    let image = imageOf rule filter (stateOf ws ar) t in
+    let few = made rule filter ws ar buffer t start end size e .few in
+    rw (file-is rule filter ws ar buffer t start end size e)
+    (lookups-alike rule filter (omega (arith, few)) image (stateOf ws ar) deepest t headerSize (root-held rule filter (stateOf ws ar) t image (take-length image)) (short-image rule filter ws ar buffer t start end size e) refl (writable rule filter ws ar buffer t start end size e))

@@ -11,6 +11,7 @@ use Rattle.image.specs.WellFormed.{Writable}
 use Rattle.laid.specs.Back.{Lay, endOf}
 use Rattle.laid.specs.Told.{AllBack}
 use Rattle.laid.specs.Passing.{AllPass}
+use Rattle.laid.specs.Alike.{AllAlike}
 use Rattle.build_rules.specs.Valid.{fullyValid}
 use Rattle.write_numbers.specs.Roster.{stateOf}
 use Rattle.write.specs.declared.Written.{Written}
@@ -55,3 +56,9 @@ abbrev pub SuccessPasses : Type 0
 SuccessPasses =
     (lay : Lay) (ws ar buffer : List ℕ) (t start end size : ℕ) → writeAnswer (lay .manner .byte) (lay .filter) ws ar t (length buffer) ≡ Written.Image start end size
     → AllPass lay (take size (imageAfter (lay .manner .byte) (lay .filter) ws ar t buffer)) (stateOf ws ar) deepest t headerSize
+
+-- both lookups answer alike on every key, in every table of it
+abbrev pub SuccessAlike : Type 0
+SuccessAlike =
+    (rule : ℕ → ℕ) (filter : ℕ) (ws ar buffer : List ℕ) (t start end size : ℕ) → writeAnswer rule filter ws ar t (length buffer) ≡ Written.Image start end size
+    → AllAlike rule filter (take size (imageAfter rule filter ws ar t buffer)) (stateOf ws ar) deepest t headerSize
