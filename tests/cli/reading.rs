@@ -43,7 +43,7 @@ fn check_of_real_files() {
             ran.ends(2).says(&format!("no GVDB file ({number})"));
             continue;
         };
-        let (plain, signed) = forms.split_once("; signed: ").unwrap();
+        let (plain, signed) = forms.split_once("; strict: ").and_then(|(forms, _)| forms.split_once("; signed: ")).unwrap();
         let said = match plain.split_once(", rule ").and_then(|(_, broken)| broken.split_once(" broken by item ")) {
             None => ": sound, ",
             Some(_) if signed.ends_with(", sound") => ": sound in the signed form (GLib's), ",

@@ -100,17 +100,8 @@ fn walk(file: &[u8], start: u32, end: u32, manner: u32, sum: &mut Sum) {
     assert!(checked.number != 0 || below == with_parent(file, start, &opened));
 }
 
-/// What a walk in one form found, by the Rust's lookup, and by the strict one where that is something else.
-fn said([rust, strict]: &[Sum; 2]) -> String {
-    let [rust, strict] = [rust, strict].map(found);
-    if rust == strict {
-        format!("{rust}, strict alike")
-    } else {
-        format!("{rust}, strict: {strict}")
-    }
-}
-
-fn found(sum: &Sum) -> String {
+/// What a walk in one form found.
+fn said(sum: &Sum) -> String {
     let sound = match sum.broken.first() {
         None => "sound".to_string(),
         Some((rule, item)) => format!("rule {rule} broken by item {item}"),
@@ -131,14 +122,16 @@ fn main() {
             continue;
         }
         let order = if header.big == 0 { "little" } else { "big" };
-        let [plain, signed] = [0, SIGNED].map(|form| {
-            [0, STRICT].map(|lookup| {
-                let mut sum = Sum::default();
-                walk(&file, header.start, header.end, form | lookup, &mut sum);
-                sum
-            })
-        });
-        let [tables, items, values] = [signed[0].tables, signed[0].items, signed[0].values];
-        println!("{name}: {order}, tables {tables}, items {items}, values {values}; plain: {}; signed: {}", said(&plain), said(&signed));
+        let walked = |manner: u32| {
+            let mut sum = Sum::default();
+            walk(&file, header.start, header.end, manner, &mut sum);
+            sum
+        };
+        let [plain, signed] = [0, SIGNED].map(walked);
+        let strict = [STRICT, SIGNED | STRICT].map(|manner| said(&walked(manner)));
+        let [tables, items, values] = [signed.tables, signed.items, signed.values];
+        let [plain, signed] = [said(&plain), said(&signed)];
+        let strict = if strict == [&plain[..], &signed[..]] { "alike".to_string() } else { strict.join("; ") };
+        println!("{name}: {order}, tables {tables}, items {items}, values {values}; plain: {plain}; signed: {signed}; strict: {strict}");
     }
 }
