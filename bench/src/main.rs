@@ -358,7 +358,9 @@ fn layered<'a>(own: &'a Ground, under: &'a Ground, keys: &'a [String], from: u32
         timed(|| {
             for key in keys {
                 let found = ffi::get_layered(own.lent(), under.lent(), black_box(key.as_bytes()));
-                assert_eq!((found.number, found.from), (0, from));
+                // apart: both numbers read as one would wait until the two stores of the answer are done
+                assert_eq!(black_box(found.number), 0);
+                assert_eq!(black_box(found.from), from);
             }
         })
         .0
