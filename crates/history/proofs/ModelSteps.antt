@@ -26,7 +26,6 @@ use lib.Seq.{length-take-le, take-length}
 use Rattle.words.specs.Choice.{pick}
 use Rattle.words.proofs.ChoiceLaws.{pick-false}
 use Rattle.build_values.proofs.WalkLaws.{further, walk-end, walk-miss, walk-block, walk-pass, make-end, make-more}
-use Rattle.layout.specs.Item.{noItem}
 use Rattle.model.specs.Table.{Content, Entry, entryAt, isContainer}
 use Rattle.model.specs.Table as model
 use Rattle.model.specs.Walk as seen
@@ -71,10 +70,6 @@ entry-content x = refl
 above-next : (n : ℕ) → aboveOf (n + 1) ≡ n
 unfolding aboveOf
 above-next n = pick-false _ _ (ne-eqb (n + 1) 0 (λ (e : n + 1 ≡ 0). omega arith)) ∙ (let z : n + 1 - 1 ≡ n = omega arith in z)
-
-above-none : aboveOf 0 ≡ noItem
-unfolding aboveOf pick
-above-none = refl
 
 kind-of : (ws ar : List ℕ) (i : ℕ) → itemOf ws ar i .kind ≡ itemKind ws i
 unfolding itemOf
