@@ -117,6 +117,22 @@ LAID = WRITE | {"image", "laid", "demands"}
 GROUPS = {f"crate-{old}": crate(old, new) for old, new in CRATES}
 GROUPS["crate-views"] = apart("view", "view_part", "part", ["Part", "PartLaws"]) + apart("view", "view_through", "through", ["Through", "ThroughLaws"])
 
+# Crates that an edit proves anew are small: these went apart from larger ones.
+GROUPS["crate-apart"] = (
+    apart("words", "key_hash", "hash", ["Hash", "HashLaws"])
+    + apart("text", "key_order", "(?:compare|keyorder|prefix)", ["Compare", "Order", "Prefix", "CompareLaws", "OrderLaws", "PrefixLaws"])
+    + apart("layout", "file_header", "header", ["Header", "HeaderLaws", "HeaderReads"])
+    + apart("read", "read_chain", "chain", ["Chain", "ChainLaws", "MatchLaws"])
+    + apart("read", "read_find", "(?:find|manner)", ["Find", "FindLaws"])
+    + apart("check_table", "check_rules", "(?:bits|rules|survey)", ["Bits", "Rules", "Broken", "Survey", "BitsLaws", "KeyText", "RuleLaws", "KeepLaws", "ChildLaws", "SurveyLaws"])
+    + apart("write_bytes", "write_parts", "(?:numbered|put|slot)", ["Numbered", "Slot", "KindLaws", "SlotLaws", "PutLaws", "FilterLaws"])
+    + apart("write", "write_slots", "(?:children|numbered|slot)", ["NumberedAs", "StateLaws", "SiblingLaws", "SlotLaws", "RosterLaws", "TurnLaws", "ItemLaws", "PlanLaws"])
+    + apart("view_through", "view_layered", "layered", ["LayeredLaws"])
+    + apart("check_keys", "check_hash", "tally", ["Tally", "Key", "TallyLaws", "KeyLaws"])
+    + apart("gvdb", "answers", "manner", ["Checking", "Header", "Manner", "Reading", "Worked"])
+    + apart("gvdb", "answers_build", "(?:building|writing)", ["Building", "Writing"])
+)
+
 # An item's own key is its joined key.
 GROUPS["joined-key"] = (
     function("own_key", "joined_key", CHECK)

@@ -34,7 +34,7 @@ impl Place {
     fn new(name: &str) -> Place {
         let place = Place { root: folder(name).join("root"), tools: folder(&format!("{name}-tools")) };
         for (path, text) in [
-            ("crates.txt", "# a line\nwords:\ntext: words\nother: words\ngvdb: words text\n"),
+            ("crates.txt", "# a line\nwords:\ntext: words\nother: words\ngvdb: text\n"),
             ("crates/words/src/lib.rt", "words"),
             ("crates/text/src/lib.rt", "text"),
             ("crates/gvdb/src/lib.rt", "gvdb"),

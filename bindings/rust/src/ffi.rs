@@ -186,6 +186,7 @@ pub fn get_table(file: &[u8], start: u32, end: u32, key: &[u8], manner: u32) -> 
 }
 
 /// A table of a lent file, with the manner that it is read in.
+#[derive(Clone, Copy)]
 pub struct Lent<'f> {
     pub file: &'f [u8],
     pub start: u32,

@@ -9,8 +9,8 @@ use borrow.Author.Tests.{eqb-true, eqb-false, eq-eqb, ne-eqb}
 use lib.Dec.{eqb}
 use lib.ListN.{length}
 use Rattle.words.specs.Choice.{pick}
-use Rattle.words.specs.Hash.{hashOf}
-use Rattle.text.specs.Compare.{sameBytes}
+use Rattle.key_hash.specs.Hash.{hashOf}
+use Rattle.key_order.specs.Compare.{sameBytes}
 use Rattle.build_memory.specs.Memory.{word, buckets, headAt, itemTotal, itemTable, itemHash, itemOlder, keySize, keyOf}
 use Rattle.build_memory.specs.Find.{isItem, seek, findKey}
 

@@ -4,7 +4,7 @@ use mathlib.Core.Path.{_≡_, sym, ap, _∙_}
 use mathlib.Core.List.{List, [], _∷_, _++_}
 use lib.ListN.{length}
 use Rattle.words.specs.Store.{putAt}
-use Rattle.words.specs.Hash.{hashOf}
+use Rattle.key_hash.specs.Hash.{hashOf}
 use Rattle.words.proofs.StoreLaws.{put-append}
 use Rattle.build_memory.specs.Memory.{buckets, word, headAt, itemAt, itemTotal, roomUsed, memory}
 use Rattle.build_memory.specs.Item.{stored, makeItem, replaceItem}

@@ -7,7 +7,7 @@ use mathlib.Core.Path.{_≡_, sym, ap, _∙_}
 use mathlib.Core.List.{List, [], _∷_}
 use lib.ListN.{length}
 use Rattle.words.specs.Store.{part, putAt}
-use Rattle.words.specs.Hash.{hashOf}
+use Rattle.key_hash.specs.Hash.{hashOf}
 use Rattle.words.proofs.StoreLaws.{length-put, get-put, get-before, get-after, part-put, part-before}
 use Rattle.layout.specs.Limits.{mostItems}
 use Rattle.build_memory.specs.Memory.{leastWords, headsFrom, buckets, word, headAt, itemAt, itemTotal, roomUsed, Memory, memory}

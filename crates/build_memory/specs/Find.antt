@@ -6,8 +6,8 @@ use mathlib.Core.List.{List}
 use lib.ListN.{length}
 use lib.Dec.{eqb}
 use Rattle.words.specs.Choice.{pick}
-use Rattle.words.specs.Hash.{hashOf}
-use Rattle.text.specs.Compare.{sameBytes}
+use Rattle.key_hash.specs.Hash.{hashOf}
+use Rattle.key_order.specs.Compare.{sameBytes}
 use Rattle.build_memory.specs.Memory.{word, buckets, headAt, itemTotal, itemTable, itemHash, itemOlder, keySize, keyOf}
 
 -- item i is of table t and has the key, whose hash is h

@@ -5,7 +5,7 @@ use lib.ListN.{length}
 use lib.Dec.{eqb}
 use Rattle.words.specs.Choice.{pick}
 use Rattle.words.specs.Store.{putAt}
-use Rattle.words.specs.Hash.{hashOf}
+use Rattle.key_hash.specs.Hash.{hashOf}
 use Rattle.layout.specs.declared.kind.Kind.{Kind}
 use Rattle.layout.specs.Kind.{valueKind, tableKind}
 use Rattle.build_memory.specs.Memory.{word, buckets, headAt, itemAt, itemTotal, roomUsed, Memory, memory}

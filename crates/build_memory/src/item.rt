@@ -15,7 +15,7 @@ ghost use mathlib.Core.Path.{_≡_};
 ghost use mathlib.Core.List.{[], _∷_};
 ghost use Prim.Native.Nat.{_+_, _<_, _≤_};
 ghost use lib.ListN.{length};
-ghost use Rattle.words.specs.Hash.{hashOf};
+ghost use Rattle.key_hash.specs.Hash.{hashOf};
 ghost use Rattle.words.specs.Store.{putAt};
 ghost use Rattle.layout.specs.Limits.{mostItems};
 ghost use Rattle.build_memory.specs.Memory.{leastWords, buckets, headAt, itemAt, itemTotal, roomUsed, memory};

@@ -8,11 +8,11 @@ use borrow.Author.Tests.{eqb-true, eq-eqb, ne-eqb, ltb-true, leb-true}
 use lib.ListN.{length, take}
 use lib.Dec.{eqb, ltb, leb}
 use Rattle.words.specs.Below.{allBelow}
-use Rattle.words.specs.Hash.{hashOf}
+use Rattle.key_hash.specs.Hash.{hashOf}
 use Rattle.words.proofs.ChoiceLaws.{both}
 use Rattle.words.proofs.BelowLaws.{all-below}
 use Rattle.text.specs.Utf8.{isUtf8}
-use Rattle.text.proofs.CompareLaws.{same-equal}
+use Rattle.key_order.proofs.CompareLaws.{same-equal}
 use Rattle.layout.specs.Limits.{longestKey}
 use Rattle.layout.specs.Item.{noItem}
 use Rattle.layout.specs.Kind.{tableKind}

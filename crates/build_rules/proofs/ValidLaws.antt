@@ -11,10 +11,10 @@ use lib.ListN.{length, getD, take, set, replicate, getD-replicate}
 use lib.Seq.{getD-set-same, getD-set-other}
 use Rattle.words.specs.Choice.{pick}
 use Rattle.words.specs.Below.{allBelow, someBelow}
-use Rattle.words.specs.Hash.{hashOf}
+use Rattle.key_hash.specs.Hash.{hashOf}
 use Rattle.words.proofs.ChoiceLaws.{both, or-one}
 use Rattle.words.proofs.BelowLaws.{all-below}
-use Rattle.text.specs.Compare.{sameBytes}
+use Rattle.key_order.specs.Compare.{sameBytes}
 use Rattle.text.specs.Utf8.{isUtf8}
 use Rattle.layout.specs.Limits.{longestKey, mostTables, deepest}
 use Rattle.layout.specs.Kind.{valueKind, tableKind, containerKind}

@@ -8,8 +8,8 @@ use lib.ListN.{length, take}
 use lib.Dec.{eqb, ltb, leb}
 use Rattle.words.specs.Choice.{pick}
 use Rattle.words.specs.Below.{allBelow, someBelow}
-use Rattle.words.specs.Hash.{hashOf}
-use Rattle.text.specs.Compare.{sameBytes}
+use Rattle.key_hash.specs.Hash.{hashOf}
+use Rattle.key_order.specs.Compare.{sameBytes}
 use Rattle.text.specs.Utf8.{isUtf8}
 use Rattle.layout.specs.Kind.{kindKnown, valueKind, tableKind}
 use Rattle.layout.specs.Limits.{longestKey, mostTables, deepest}

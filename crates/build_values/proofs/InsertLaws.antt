@@ -7,7 +7,7 @@ use borrow.Author.Tests.{lt-ltb, le-ltb}
 use lib.ListN.{length}
 use Rattle.words.specs.Choice.{pick}
 use Rattle.text.specs.Utf8.{firstBad, isUtf8}
-use Rattle.text.specs.Prefix.{endsPast}
+use Rattle.key_order.specs.Prefix.{endsPast}
 use Rattle.layout.specs.declared.kind.Kind.{Kind}
 use Rattle.layout.specs.declared.refusal.Refusal.the-variants.{MemoryBroken, TableUnknown, KeyNotUtf8, KeyTooLong, NotContainer, TooManyItems, ArenaFull, NestedTooDeep}
 use Rattle.model.specs.declared.Inserted.{Inserted}

@@ -7,9 +7,9 @@ use mathlib.Core.List.{List, [], _∷_}
 use borrow.Author.Tests.{eq-eqb, ne-eqb, lt-ltb, le-ltb}
 use lib.ListN.{length, take}
 use Rattle.words.specs.Choice.{pick}
-use Rattle.words.specs.Hash.{hashOf}
-use Rattle.text.specs.Prefix.{endsPast, nextEnd}
-use Rattle.text.proofs.PrefixLaws.{past-more, past-last, next-within, next-rises}
+use Rattle.key_hash.specs.Hash.{hashOf}
+use Rattle.key_order.specs.Prefix.{endsPast, nextEnd}
+use Rattle.key_order.proofs.PrefixLaws.{past-more, past-last, next-within, next-rises}
 use Rattle.layout.specs.Limits.{mostItems}
 use Rattle.layout.specs.Kind.{containerKind}
 use Rattle.build_memory.specs.Memory.{itemTotal, itemKind, Memory}

@@ -7,7 +7,7 @@ use lib.ListN.{length, take}
 use lib.Dec.{ltb}
 use Rattle.words.specs.Choice.{pick}
 use Rattle.text.specs.Utf8.{firstBad, isUtf8}
-use Rattle.text.specs.Prefix.{endsPast}
+use Rattle.key_order.specs.Prefix.{endsPast}
 use Rattle.layout.specs.declared.refusal.Refusal.{Refusal}
 use Rattle.layout.specs.declared.refusal.Refusal.the-variants.{MemoryBroken, TableUnknown, KeyNotUtf8, KeyTooLong, NotContainer, TooManyItems, ArenaFull, NestedTooDeep}
 use Rattle.model.specs.declared.Inserted.{Inserted}

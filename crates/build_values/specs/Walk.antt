@@ -5,7 +5,7 @@ use mathlib.Core.List.{List, [], _∷_}
 use lib.ListN.{length, take}
 use lib.Dec.{ltb, eqb}
 use Rattle.words.specs.Choice.{pick}
-use Rattle.text.specs.Prefix.{endsPast}
+use Rattle.key_order.specs.Prefix.{endsPast}
 use Rattle.layout.specs.Kind.{containerKind}
 use Rattle.build_memory.specs.Memory.{itemTotal, tableSeparator, itemKind}
 use Rattle.build_memory.specs.Find.{findKey}

@@ -11,20 +11,20 @@ use borrow.Author.Tests.{ltb-true, ltb-false}
 use Rattle.words.specs.Store.{part}
 use Rattle.words.proofs.ChoiceLaws.{pick-with}
 use Rattle.words.proofs.StoreLaws.{part-part}
-use Rattle.text.specs.Compare.{sameBytes}
+use Rattle.key_order.specs.Compare.{sameBytes}
 use Rattle.layout.specs.declared.refusal.Refusal.{Refusal}
 use Rattle.layout.specs.declared.table.Table.{Table}
 use Rattle.layout.specs.Item.{itemAt}
-use Rattle.read.specs.declared.chain.Step.{Step}
+use Rattle.read_chain.specs.declared.chain.Step.{Step}
 use Rattle.read_listing.specs.declared.listing.Measured.{Measured}
-use Rattle.read.specs.Chain.{Joined, append, joinStep, keyOf, climbFrom, parentOf, fragmentOf}
+use Rattle.read_chain.specs.Chain.{Joined, append, joinStep, keyOf, climbFrom, parentOf, fragmentOf}
 use Rattle.read_listing.specs.Listing.{measure}
-use Rattle.read.proofs.ChainLaws.{Climbs, climb-or, StepFits, climb-fits, key-turn, key-over, fragment-size}
+use Rattle.read_chain.proofs.ChainLaws.{Climbs, climb-or, StepFits, climb-fits, key-turn, key-over, fragment-size}
 use Rattle.read_listing.proofs.WriteLaws.{above, joined-above, size-is}
 use Rattle.check_keys.specs.declared.front.Front.{Front}
-use Rattle.check_keys.specs.Key.{bytesOf, Keyed}
+use Rattle.check_hash.specs.Key.{bytesOf, Keyed}
 use Rattle.check_keys.specs.Front.{frontAt, frontBytes, FrontFits, Raised}
-use Rattle.check_keys.proofs.KeyLaws.{sized-bytes}
+use Rattle.check_hash.proofs.KeyLaws.{sized-bytes}
 use Rattle.check_keys.proofs.PartLaws.{part-tail}
 
 -- ---- a parent that is an item

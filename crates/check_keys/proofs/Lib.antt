@@ -1,5 +1,3 @@
-pub mod TallyLaws
-pub mod KeyLaws
 pub mod PartLaws
 pub mod FrontLaws
 pub mod PassLaws

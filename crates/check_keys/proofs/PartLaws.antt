@@ -11,8 +11,8 @@ use borrow.Author.Tests.{le-leb, ne-eqb}
 use Rattle.words.specs.Store.{part}
 use Rattle.words.proofs.ChoiceLaws.{both-hold, not-both}
 use Rattle.words.proofs.StoreLaws.{part-part}
-use Rattle.text.specs.Compare.{sameBytes, endsAt}
-use Rattle.text.proofs.CompareLaws.{same-equal, equal-same}
+use Rattle.key_order.specs.Compare.{sameBytes, endsAt}
+use Rattle.key_order.proofs.CompareLaws.{same-equal, equal-same}
 
 -- a part of a front is a part of the whole
 pub part-front : (l : List ℕ) (m at n : ℕ) → at + n ≤ m → part (take m l) at n ≡ part l at n

@@ -10,8 +10,8 @@ use borrow.Author.Tests.{ltb-true, ltb-false}
 use Rattle.words.specs.Store.{part}
 use Rattle.words.proofs.ChoiceLaws.{pick-with}
 use Rattle.words.proofs.StoreLaws.{length-part, part-part}
-use Rattle.text.specs.Compare.{sameBytes, endsAt}
-use Rattle.text.proofs.CompareLaws.{same-equal, ends-short}
+use Rattle.key_order.specs.Compare.{sameBytes, endsAt}
+use Rattle.key_order.proofs.CompareLaws.{same-equal, ends-short}
 use Rattle.layout.specs.declared.table.Table.{Table}
 use Rattle.layout.specs.Item.{itemAt}
 use Rattle.read_listing.specs.declared.listing.Measured.{Measured}

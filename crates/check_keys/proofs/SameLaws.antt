@@ -9,23 +9,23 @@ use lib.Seq.{take-all}
 use lib.Dec.{eqb}
 use Rattle.words.specs.Choice.{pick}
 use Rattle.words.proofs.ChoiceLaws.{pick-true, pick-false}
-use Rattle.text.specs.Compare.{endsAt}
+use Rattle.key_order.specs.Compare.{endsAt}
 use Rattle.layout.specs.declared.refusal.Refusal.{Refusal}
 use Rattle.layout.specs.declared.table.Table.{Table}
 use Rattle.layout.specs.declared.item.Item.{Item}
 use Rattle.layout.specs.Item.{itemAt}
-use Rattle.read.specs.declared.chain.Step.{Step}
-use Rattle.read.specs.Chain.{Joined, append, joinStep, keyOf, climbFrom, fragmentOf, names}
+use Rattle.read_chain.specs.declared.chain.Step.{Step}
+use Rattle.read_chain.specs.Chain.{Joined, append, joinStep, keyOf, climbFrom, fragmentOf, names}
 use Rattle.read_listing.proofs.AnswerLaws.{key-2}
-use Rattle.read.proofs.ChainLaws.{StepFits, climb-fits, fragment-taken}
-use Rattle.read.proofs.MatchLaws.{names-tail}
+use Rattle.read_chain.proofs.ChainLaws.{StepFits, climb-fits, fragment-taken}
+use Rattle.read_chain.proofs.MatchLaws.{names-tail}
 use Rattle.read_listing.proofs.WriteLaws.{above, joined-above}
 use Rattle.check_keys.specs.declared.search.Compared.{Compared}
 use Rattle.check_keys.specs.declared.front.Front.{Front}
 use Rattle.check_keys.specs.declared.front.Passed.{Passed}
-use Rattle.check_keys.specs.Key.{bytesOf, Keyed}
+use Rattle.check_hash.specs.Key.{bytesOf, Keyed}
 use Rattle.check_keys.specs.Front.{frontAt, frontBytes, FrontFits, BackPassed, ItemCompared}
-use Rattle.check_keys.proofs.KeyLaws.{sized-bytes}
+use Rattle.check_hash.proofs.KeyLaws.{sized-bytes}
 use Rattle.check_keys.proofs.PartLaws.{empty-length}
 use Rattle.check_keys.proofs.FrontLaws.{fitting-start, front-long}
 

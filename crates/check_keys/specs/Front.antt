@@ -7,16 +7,16 @@ use lib.ListN.{length, take}
 use lib.Dec.{ltb}
 use Rattle.words.specs.Choice.{pick}
 use Rattle.words.specs.Store.{part}
-use Rattle.text.specs.Compare.{sameBytes, endsAt}
+use Rattle.key_order.specs.Compare.{sameBytes, endsAt}
 use Rattle.layout.specs.declared.table.Table.{Table}
 use Rattle.layout.specs.Item.{itemAt}
-use Rattle.read.specs.Chain.{keyOf, names}
+use Rattle.read_chain.specs.Chain.{keyOf, names}
 use Rattle.read_listing.specs.declared.listing.Measured.{Measured}
 use Rattle.read_listing.specs.Listing.{measure}
 use Rattle.check_keys.specs.declared.search.Compared.{Compared}
 use Rattle.check_keys.specs.declared.front.Front.{Front}
 use Rattle.check_keys.specs.declared.front.Passed.{Passed}
-use Rattle.check_keys.specs.Key.{bytesOf}
+use Rattle.check_hash.specs.Key.{bytesOf}
 
 unfoldable pub smaller : ℕ → ℕ → ℕ
 smaller a b = pick (ltb a b) a b

@@ -1,3 +1,1 @@
-pub mod Tally
-pub mod Key
 pub mod Front

@@ -1,16 +1,16 @@
 // The front of an item's joined key that is still to be compared. It is cut from its end, by stretches of the file that hold the same bytes.
+use key_order::compare::same_bytes;
 use layout::item::item_at;
 use layout::table::Table;
-use read::chain::Step;
-use read::chain::parent_of;
-use text::compare::same_bytes;
+use read_chain::chain::Step;
+use read_chain::chain::parent_of;
 use words::wide::half_size;
 use words::wide::word_size;
 ghost use mathlib.Core.Path.{_≡_};
 ghost use Prim.Native.Nat.{_+_, _-_, _≤_, _<_};
 ghost use lib.ListN.{length};
 ghost use Rattle.words.specs.Store.{part};
-ghost use Rattle.text.specs.Compare.{sameBytes};
+ghost use Rattle.key_order.specs.Compare.{sameBytes};
 ghost use Rattle.layout.specs.Table.{InFile};
 ghost use Rattle.check_keys.specs.Front.{frontAt, frontBytes, FrontFits, Raised, StretchPassed, BackPassed, smaller};
 

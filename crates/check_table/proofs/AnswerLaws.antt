@@ -7,15 +7,15 @@ use Rattle.layout.specs.declared.refusal.Refusal.{Refusal}
 use Rattle.layout.specs.declared.table.Opened.{Opened}
 use Rattle.layout.specs.Refusal.{number, badAt}
 use Rattle.layout.specs.Table.{openTable}
-use Rattle.read.specs.Chain.{Joined}
+use Rattle.read_chain.specs.Chain.{Joined}
 use Rattle.read_listing.specs.Listing.{keyAt}
-use Rattle.check_table.specs.Rules.{checkTable}
-use Rattle.check_table.specs.Answer.{checkedNumber, checkedRule, checkedItem, checkedWhy, checkedAt}
+use Rattle.check_rules.specs.Rules.{checkTable}
+use Rattle.check_rules.specs.Answer.{checkedNumber, checkedRule, checkedItem, checkedWhy, checkedAt}
 use Rattle.check_table.specs.Sound.{SoundTable}
-use Rattle.check_table.specs.Broken.{BrokenAt}
+use Rattle.check_rules.specs.Broken.{BrokenAt}
 use Rattle.check_table.proofs.ExplainLaws.{explained-same}
 use Rattle.check_table.proofs.SoundLaws.{passes-exactly-the-sound}
-use Rattle.read.specs.Find.{Manner}
+use Rattle.read_find.specs.Find.{Manner}
 use Rattle.check_table.proofs.BrokenLaws.{at-broken, names-the-first, refused-as-opening}
 
 module _ (manner : Manner) (file : List ℕ) (start end : ℕ) where

@@ -10,16 +10,16 @@ use Rattle.layout.specs.declared.refusal.Refusal.{Refusal}
 use Rattle.layout.specs.declared.table.Opened.{Opened}
 use Rattle.layout.specs.declared.table.Table.{Table}
 use Rattle.layout.specs.Table.{openTable}
-use Rattle.read.specs.Chain.{Joined, keyOf}
+use Rattle.read_chain.specs.Chain.{Joined, keyOf}
 use Rattle.read_listing.specs.Listing.{keyAt, listed}
 use Rattle.read_listing.proofs.AnswerLaws.{list-key}
-use Rattle.check_table.specs.declared.check.Checked.{Checked}
-use Rattle.check_table.specs.Rules.{keyLists, brokenRule, firstBroken, explained, checkIn, checkOpened, checkTable}
-use Rattle.check_table.specs.Broken.{Breaks, BrokenAt, NamesTheFirst, UnlistedWhy}
-use Rattle.check_table.proofs.KeepLaws.{breaks-none-keeps, keeps-breaks-none, breaks-number, broken-breaks}
+use Rattle.check_rules.specs.declared.checked.Checked.{Checked}
+use Rattle.check_rules.specs.Rules.{keyLists, brokenRule, firstBroken, explained, checkIn, checkOpened, checkTable}
+use Rattle.check_rules.specs.Broken.{Breaks, BrokenAt, NamesTheFirst, UnlistedWhy}
+use Rattle.check_rules.proofs.KeepLaws.{breaks-none-keeps, keeps-breaks-none, breaks-number, broken-breaks}
 use Rattle.check_table.proofs.FirstLaws.{broken-first, first-broken}
-use Rattle.check_table.proofs.RuleLaws.{explained-other}
-use Rattle.read.specs.Find.{Manner}
+use Rattle.check_rules.proofs.RuleLaws.{explained-other}
+use Rattle.read_find.specs.Find.{Manner}
 use Rattle.check_table.proofs.ExplainLaws.{One, explained-cases, explained-one, one-explained, never-refused, never-unlisted}
 
 module _ (manner : Manner) (file : List ℕ) (start end : ℕ) where

@@ -7,13 +7,13 @@ use Rattle.layout.specs.declared.refusal.Refusal.{Refusal}
 use Rattle.layout.specs.declared.table.Table.{Table}
 use Rattle.layout.specs.Table.{InFile}
 use Rattle.layout.specs.Item.{itemAt}
-use Rattle.read.specs.declared.chain.Step.{Step}
-use Rattle.read.specs.declared.lookup.Found.{Found}
-use Rattle.read.specs.Chain.{fragmentOf, parentOf, climbFrom, Joined, append, joinStep, keyOf}
-use Rattle.read.proofs.ChainLaws.{key-turn, climb-or}
-use Rattle.check_table.specs.Rules.{indexOf}
+use Rattle.read_chain.specs.declared.chain.Step.{Step}
+use Rattle.read_find.specs.declared.find.Found.{Found}
+use Rattle.read_chain.specs.Chain.{fragmentOf, parentOf, climbFrom, Joined, append, joinStep, keyOf}
+use Rattle.read_chain.proofs.ChainLaws.{key-turn, climb-or}
+use Rattle.check_rules.specs.Rules.{indexOf}
 use Rattle.check_table.specs.Sound.{SoundIn}
-use Rattle.read.specs.Find.{Manner}
+use Rattle.read_find.specs.Find.{Manner}
 use Rattle.check_table.proofs.RuleWords.{parent-up, few-items}
 
 joined-same : {a b : List ℕ} → Joined.joined a ≡ Joined.joined b → a ≡ b

@@ -23,18 +23,18 @@ use Rattle.layout.specs.Item.{itemAt}
 use Rattle.layout.specs.Answer.{pointedNumber}
 use Rattle.layout.proofs.OpenLaws.{opened-in-file}
 use Rattle.layout.proofs.AnswerLaws.{pointed-below, opened-low}
-use Rattle.read.specs.declared.lookup.Found.{Found}
+use Rattle.read_find.specs.declared.find.Found.{Found}
 use Rattle.read.specs.declared.lookup.Sought.{Sought}
 use Rattle.read_listing.specs.declared.children.Childed.{Childed}
-use Rattle.read.specs.Chain.{fragmentOf, climbFrom, Joined, keyOf}
-use Rattle.read.specs.Find.{Manner, findItem}
+use Rattle.read_chain.specs.Chain.{fragmentOf, climbFrom, Joined, keyOf}
+use Rattle.read_find.specs.Find.{Manner, findItem}
 use Rattle.read.specs.Lookup.{atFound, lookupIn}
 use Rattle.read_listing.specs.Children.{childAt, childCount, wholeWords, openList, childFrom, childOfSought, childInOpened, nextChild}
-use Rattle.read.proofs.ChainLaws.{key-turn, climb-or, Climbs}
+use Rattle.read_chain.proofs.ChainLaws.{key-turn, climb-or, Climbs}
 use Rattle.read_listing.proofs.ChildLaws.{list-inside}
 use Rattle.read_listing.proofs.Plain.{found-names}
 use Rattle.read_listing.proofs.AnswerLaws.{children-past, children-0}
-use Rattle.check_table.specs.Rules.{indexOf}
+use Rattle.check_rules.specs.Rules.{indexOf}
 use Rattle.check_table.specs.Sound.{ValueGood}
 use Rattle.check_table.specs.Children.{Container, Answers, ChildrenAnswer, ChildrenFound, ChildrenAll, Probe}
 use Rattle.check_table.proofs.RuleWords.{good-kind}

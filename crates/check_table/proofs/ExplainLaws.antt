@@ -11,10 +11,10 @@ use Rattle.words.specs.Choice.{pick}
 use Rattle.words.proofs.ChoiceLaws.{pick-with}
 use Rattle.layout.specs.declared.refusal.Refusal.{Refusal}
 use Rattle.layout.specs.declared.table.Table.{Table}
-use Rattle.read.specs.Chain.{Joined, keyOf}
-use Rattle.check_table.specs.declared.check.Checked.{Checked}
-use Rattle.check_table.specs.Rules.{isJoined, keyLists, firstBroken, unlisted, explained}
-use Rattle.check_table.specs.Answer.{checkedNumber, checkedRule, checkedItem, checkedWhy, checkedAt}
+use Rattle.read_chain.specs.Chain.{Joined, keyOf}
+use Rattle.check_rules.specs.declared.checked.Checked.{Checked}
+use Rattle.check_rules.specs.Rules.{isJoined, keyLists, firstBroken, unlisted, explained}
+use Rattle.check_rules.specs.Answer.{checkedNumber, checkedRule, checkedItem, checkedWhy, checkedAt}
 
 module _ (file : List ℕ) (t : Table) where
   -- rule 1 of an item, and the refusal of its key

@@ -6,8 +6,8 @@ use native.Mathlib.Omega.{arith}
 use lib.Dec.{eqb}
 use borrow.Author.Tests.{eqb-true, eqb-false, eq-eqb, ne-eqb}
 use Rattle.words.specs.Choice.{pick}
-use Rattle.check_table.specs.declared.check.Checked.{Checked}
-use Rattle.check_table.specs.Rules.{firstBroken}
+use Rattle.check_rules.specs.declared.checked.Checked.{Checked}
+use Rattle.check_rules.specs.Rules.{firstBroken}
 
 -- what holds at a position and at all behind it
 from-here : (P : ℕ → Type 0) (at k : ℕ) → at ≤ k → P at → (at + 1 ≤ k → P k) → P k

@@ -13,13 +13,13 @@ use Rattle.layout.specs.declared.table.Opened.{Opened}
 use Rattle.layout.specs.Table.{openTable}
 use Rattle.layout.specs.Kind.{kindKnown}
 use Rattle.layout.specs.Item.{itemAt}
-use Rattle.read.specs.declared.lookup.Found.{Found}
-use Rattle.read.specs.Chain.{Joined, keyOf}
-use Rattle.read.specs.Find.{rust}
+use Rattle.read_find.specs.declared.find.Found.{Found}
+use Rattle.read_chain.specs.Chain.{Joined, keyOf}
+use Rattle.read_find.specs.Find.{rust}
 use Rattle.read_listing.specs.Forms.{glib}
 use Rattle.read_listing.proofs.FormLaws.{find-alike}
-use Rattle.check_table.specs.declared.check.Checked.{Checked}
-use Rattle.check_table.specs.Rules.{indexOf, soughtAt, isAt, keyLists, keyFinds, valueOpens, childrenGood, parentGood, brokenRule, firstBroken, explained, checkIn, checkOpened, checkTable}
+use Rattle.check_rules.specs.declared.checked.Checked.{Checked}
+use Rattle.check_rules.specs.Rules.{indexOf, soughtAt, isAt, keyLists, keyFinds, valueOpens, childrenGood, parentGood, brokenRule, firstBroken, explained, checkIn, checkOpened, checkTable}
 use Rattle.check_table.specs.Forms.{AsciiKeys, AsciiCheck}
 use Rattle.check_table.proofs.SoundLaws.{passes-exactly-the-sound}
 

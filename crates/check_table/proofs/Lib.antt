@@ -1,9 +1,3 @@
-pub mod BitsLaws
-pub mod KeyText
-pub mod RuleLaws
-pub mod KeepLaws
-pub mod ChildLaws
-pub mod SurveyLaws
 pub mod FirstLaws
 pub mod ExplainLaws
 pub mod RuleWords

@@ -20,14 +20,14 @@ use Rattle.layout.specs.Kind.{kindKnown}
 use Rattle.layout.specs.Pointer.{openPointer}
 use Rattle.layout.specs.Table.{InFile}
 use Rattle.layout.specs.Item.{itemAt}
-use Rattle.read.specs.declared.chain.Step.{Step}
-use Rattle.read.specs.declared.lookup.Found.{Found}
-use Rattle.read.specs.Chain.{Joined, keyOf, parentOf}
+use Rattle.read_chain.specs.declared.chain.Step.{Step}
+use Rattle.read_find.specs.declared.find.Found.{Found}
+use Rattle.read_chain.specs.Chain.{Joined, keyOf, parentOf}
 use Rattle.read_listing.specs.Children.{childAt, childCount}
-use Rattle.check_table.specs.Rules.{isJoined, keyLists, indexOf, soughtAt, isAt, keyFinds, isInside, isTable, listOpens, valueOpens, among, childGood, childrenGood, listsIt, parentKeeps}
+use Rattle.check_rules.specs.Rules.{isJoined, keyLists, indexOf, soughtAt, isAt, keyFinds, isInside, isTable, listOpens, valueOpens, among, childGood, childrenGood, listsIt, parentKeeps}
 use Rattle.check_table.specs.Sound.{ValueGood}
-use Rattle.read.specs.Find.{Manner}
-use Rattle.check_table.proofs.ChildLaws.{three}
+use Rattle.read_find.specs.Find.{Manner}
+use Rattle.check_rules.proofs.ChildLaws.{three}
 
 -- rules 1 and 2: the key reads, and is looked up as this very item
 is-at : (i : ℕ) (f : Found) → isAt i f ≡ true → f ≡ Found.At i

@@ -15,17 +15,17 @@ use Rattle.layout.specs.declared.table.Table.{Table}
 use Rattle.layout.specs.Table.{openTable, InFile}
 use Rattle.layout.specs.Item.{itemAt}
 use Rattle.layout.proofs.OpenLaws.{opened-in-file}
-use Rattle.read.specs.declared.chain.Step.{Step}
-use Rattle.read.specs.Chain.{parentOf}
-use Rattle.check_table.specs.declared.check.Checked.{Checked}
+use Rattle.read_chain.specs.declared.chain.Step.{Step}
+use Rattle.read_chain.specs.Chain.{parentOf}
+use Rattle.check_rules.specs.declared.checked.Checked.{Checked}
 use Rattle.read_listing.specs.Children.{childAt, childCount}
-use Rattle.check_table.specs.Rules.{keyLists, keyFinds, among, childrenGood, listsIt, parentKeeps, parentGood, brokenRule, firstBroken, explained, checkIn, checkOpened, checkTable}
+use Rattle.check_rules.specs.Rules.{keyLists, keyFinds, among, childrenGood, listsIt, parentKeeps, parentGood, brokenRule, firstBroken, explained, checkIn, checkOpened, checkTable}
 use Rattle.check_table.specs.Sound.{InList, SoundIn, SoundTable, PassesExactlyTheSound}
-use Rattle.check_table.specs.Broken.{Keeps}
-use Rattle.check_table.proofs.KeepLaws.{breaks-none-keeps, keeps-breaks-none}
+use Rattle.check_rules.specs.Broken.{Keeps}
+use Rattle.check_rules.proofs.KeepLaws.{breaks-none-keeps, keeps-breaks-none}
 use Rattle.check_table.proofs.FirstLaws.{sound-none, none-sound}
 use Rattle.check_table.proofs.ExplainLaws.{sound-explained}
-use Rattle.read.specs.Find.{Manner}
+use Rattle.read_find.specs.Find.{Manner}
 use Rattle.check_table.proofs.RuleWords.{key-reads, reads-lists, reads-finds, value-good, good-kind, good-value, child-good, good-child, among-at, at-among, children-of, not-before, same-place, up-true, RootOrContained, parent-is, parent-up, few-items}
 
 -- what the rules say together, of a table that lies in the file

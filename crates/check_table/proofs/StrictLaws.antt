@@ -8,14 +8,14 @@ use lib.Dec.{eqb}
 use Rattle.words.specs.Choice.{pick}
 use Rattle.words.specs.Field.{wordAt}
 use Rattle.words.specs.Bits.{bitSet}
-use Rattle.words.specs.Hash.{hashBy}
+use Rattle.key_hash.specs.Hash.{hashBy}
 use Rattle.words.proofs.ChoiceLaws.{both}
 use Rattle.text.specs.Utf8.{isUtf8}
 use Rattle.layout.specs.declared.table.Table.{Table}
-use Rattle.read.specs.declared.manner.Lookup.{Lookup}
-use Rattle.read.specs.declared.lookup.Found.{Found}
-use Rattle.read.specs.Find.{shiftOf, bloomPasses, itemMatches, firstOf, findItem}
-use Rattle.check_table.specs.Rules.{indexOf}
+use Rattle.read_find.specs.declared.manner.Lookup.{Lookup}
+use Rattle.read_find.specs.declared.find.Found.{Found}
+use Rattle.read_find.specs.Find.{shiftOf, bloomPasses, itemMatches, firstOf, findItem}
+use Rattle.check_rules.specs.Rules.{indexOf}
 use Rattle.check_table.specs.Sound.{SoundIn, SoundTable}
 use Rattle.check_table.specs.Strict.{mannerBy, StrictFindsLess, StrictPassesLess}
 use Rattle.check_table.proofs.SoundLaws.{passes-exactly-the-sound}

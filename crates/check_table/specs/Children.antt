@@ -14,13 +14,13 @@ use Rattle.layout.specs.declared.item.Item.{Item}
 use Rattle.layout.specs.Kind.{kindByte}
 use Rattle.layout.specs.Table.{openTable}
 use Rattle.layout.specs.Item.{itemAt}
-use Rattle.read.specs.declared.lookup.Found.{Found}
+use Rattle.read_find.specs.declared.find.Found.{Found}
 use Rattle.read.specs.declared.lookup.Sought.{Sought}
 use Rattle.read_listing.specs.declared.children.Childed.{Childed}
 use Rattle.read.specs.Lookup.{lookupIn}
 use Rattle.read_listing.specs.Children.{childAt, childCount, openList, nextChild}
-use Rattle.check_table.specs.Rules.{indexOf}
-use Rattle.read.specs.Find.{Manner}
+use Rattle.check_rules.specs.Rules.{indexOf}
+use Rattle.read_find.specs.Find.{Manner}
 use Rattle.check_table.specs.Sound.{SoundIn}
 
 -- a table that opens and is sound, and a key that looks up its item i, which is a container

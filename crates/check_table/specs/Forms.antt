@@ -9,10 +9,10 @@ use Rattle.text.specs.Ascii.{isAscii}
 use Rattle.layout.specs.declared.table.Table.{Table}
 use Rattle.layout.specs.declared.table.Opened.{Opened}
 use Rattle.layout.specs.Table.{openTable}
-use Rattle.read.specs.Chain.{Joined, keyOf}
-use Rattle.read.specs.Find.{rust}
+use Rattle.read_chain.specs.Chain.{Joined, keyOf}
+use Rattle.read_find.specs.Find.{rust}
 use Rattle.read_listing.specs.Forms.{glib}
-use Rattle.check_table.specs.Rules.{checkTable}
+use Rattle.check_rules.specs.Rules.{checkTable}
 use Rattle.check_table.specs.Sound.{SoundTable}
 
 -- every key of the table that reads is of ASCII bytes

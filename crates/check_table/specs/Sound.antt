@@ -14,12 +14,12 @@ use Rattle.layout.specs.Kind.{kindByte}
 use Rattle.layout.specs.Pointer.{openPointer}
 use Rattle.layout.specs.Table.{openTable}
 use Rattle.layout.specs.Item.{itemAt, noItem}
-use Rattle.read.specs.declared.lookup.Found.{Found}
-use Rattle.read.specs.Chain.{Joined, keyOf}
-use Rattle.check_table.specs.declared.check.Checked.{Checked}
+use Rattle.read_find.specs.declared.find.Found.{Found}
+use Rattle.read_chain.specs.Chain.{Joined, keyOf}
+use Rattle.check_rules.specs.declared.checked.Checked.{Checked}
 use Rattle.read_listing.specs.Children.{childAt, childCount}
-use Rattle.read.specs.Find.{Manner}
-use Rattle.check_table.specs.Rules.{indexOf, checkTable}
+use Rattle.read_find.specs.Find.{Manner}
+use Rattle.check_rules.specs.Rules.{indexOf, checkTable}
 
 -- the kind is known, and the value pointer opens as it asks: 'v' at 8, 'H' as a table, 'L' at 4 with a length divisible by 4
 pub data ValueGood (file : List ℕ) (item : Item) : Type 0 where

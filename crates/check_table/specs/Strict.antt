@@ -3,11 +3,11 @@ use Prim.Native.Nat.{ℕ}
 use mathlib.Core.Path.{_≡_}
 use mathlib.Core.List.{List}
 use Rattle.layout.specs.declared.table.Table.{Table}
-use Rattle.read.specs.declared.manner.Lookup.{Lookup}
-use Rattle.read.specs.declared.lookup.Found.{Found}
-use Rattle.read.specs.Find.{Manner, shiftOf, findItem}
-use Rattle.check_table.specs.declared.check.Checked.{Checked}
-use Rattle.check_table.specs.Rules.{checkTable}
+use Rattle.read_find.specs.declared.manner.Lookup.{Lookup}
+use Rattle.read_find.specs.declared.find.Found.{Found}
+use Rattle.read_find.specs.Find.{Manner, shiftOf, findItem}
+use Rattle.check_rules.specs.declared.checked.Checked.{Checked}
+use Rattle.check_rules.specs.Rules.{checkTable}
 
 -- a rule for a byte, and a lookup
 abbrev pub mannerBy : (ℕ → ℕ) → Lookup → Manner

@@ -1,9 +1,10 @@
 // The check: the first item that breaks a rule, with the first rule that it breaks.
-use crate::bits::has_bit;
-use crate::rules::key_rule;
-use crate::rules::lists_it;
-use crate::rules::value_opens;
-use crate::survey::survey_all;
+use check_rules::bits::has_bit;
+use check_rules::checked::Checked;
+use check_rules::rules::key_rule;
+use check_rules::rules::lists_it;
+use check_rules::rules::value_opens;
+use check_rules::survey::survey_all;
 use layout::item::Item;
 use layout::item::item_at;
 use layout::kind::kind_known;
@@ -11,27 +12,18 @@ use layout::refusal::Refusal;
 use layout::table::Opened;
 use layout::table::Table;
 use layout::table::open_table;
-use read::chain::Step;
-use read::chain::parent_of;
-use read::manner::Manner;
+use read_chain::chain::Step;
+use read_chain::chain::parent_of;
+use read_find::manner::Manner;
 use read_listing::listing::Measured;
 use read_listing::listing::key_size;
 ghost use mathlib.Core.Path.{_≡_};
 ghost use Prim.Native.Nat.{_≤_, _<_};
 ghost use Rattle.layout.specs.Table.{InFile};
 ghost use Rattle.layout.specs.Item.{itemAt};
-ghost use Rattle.read.specs.Find.{mannerOf};
-ghost use Rattle.check_table.specs.Rules.{parentGood, brokenRule, explained, checkIn, checkTable};
-ghost use Rattle.check_table.specs.Survey.{Survey};
-
-// Each item keeps every rule, or the first that does not and the first rule that it breaks, or why the table does not open. Where the first item breaks
-// rule 1: with what listing it refuses.
-pub enum Checked {
-    Sound,
-    Broken { rule: u32, item: usize },
-    Unlisted { why: Refusal, item: usize },
-    Refused(Refusal),
-}
+ghost use Rattle.read_find.specs.Find.{mannerOf};
+ghost use Rattle.check_rules.specs.Rules.{parentGood, brokenRule, explained, checkIn, checkTable};
+ghost use Rattle.check_rules.specs.Survey.{Survey};
 
 // Rule 6: by the item's bit, where the survey came past its parent; else by the parent's list.
 fn parent_good(

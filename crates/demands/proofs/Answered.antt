@@ -4,23 +4,23 @@ use mathlib.Core.Path.{_≡_, refl, sym, ap, subst}
 use mathlib.Core.List.{List, []}
 use denote.Ref.{RefT}
 use lib.ListN.{length}
-use Rattle.words.specs.Hash.{ruleOf}
+use Rattle.key_hash.specs.Hash.{ruleOf}
 use Rattle.words.proofs.ChoiceLaws.{pick-with}
 use Rattle.layout.specs.Table.{openTable}
 use Rattle.read.specs.Lookup.{lookupValue, lookupTable}
 use Rattle.read_listing.specs.Listing.{keyAt, listed, written}
-use Rattle.check_table.specs.Rules.{checkTable}
+use Rattle.check_rules.specs.Rules.{checkTable}
 use Rattle.build_memory.specs.Memory.{Memory, memory, Outcome, outcome, freshStart}
 use Rattle.build_memory.specs.Answer.{startedNumber}
 use Rattle.build_tables.specs.Table.{addTable, newTable, itemCount}
 use Rattle.build_values.specs.Insert.{insertValue}
 use Rattle.build_nested.specs.Nest.{insertTable}
 use Rattle.write.specs.Write.{writeAnswer, imageAfter}
-use Rattle.gvdb.specs.Manner.{formOf, mannerNamed}
-use Rattle.gvdb.specs.Building.{told, addedAnswer, insertedAnswer, countedAnswer}
-use Rattle.gvdb.specs.Reading.{openedAnswer, lookedAnswer, listedAnswer}
-use Rattle.gvdb.specs.Checking.{checkedAnswer}
-use Rattle.gvdb.specs.Writing.{writtenAnswer}
+use Rattle.answers.specs.Manner.{formOf, mannerNamed}
+use Rattle.answers_build.specs.Building.{told, addedAnswer, insertedAnswer, countedAnswer}
+use Rattle.answers.specs.Reading.{openedAnswer, lookedAnswer, listedAnswer}
+use Rattle.answers.specs.Checking.{checkedAnswer}
+use Rattle.answers_build.specs.Writing.{writtenAnswer}
 use Rattle.demands.specs.Calls.{Call, Does, Starts}
 use Rattle.demands.specs.Readers.{readBy, Opening, Getting, GettingTable, Listing, Checking}
 use Rattle.demands.specs.Model as model

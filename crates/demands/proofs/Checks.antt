@@ -8,7 +8,7 @@ use lib.ListN.{length, take}
 use Rattle.layout.specs.Limits.{deepest, mostFilter}
 use Rattle.layout.specs.Sizes.{headerSize}
 use Rattle.layout.proofs.RefusalLaws.{refused-some}
-use Rattle.words.specs.Hash.{ruleOf}
+use Rattle.key_hash.specs.Hash.{ruleOf}
 use Rattle.text.specs.Utf8.{isUtf8}
 use Rattle.layout.specs.declared.refusal.Refusal.the-variants.{CheckBroken}
 use Rattle.layout.specs.declared.table.Opened.{Opened}
@@ -20,10 +20,10 @@ use Rattle.read.specs.Lookup.{lookupTable}
 use Rattle.read_listing.specs.declared.listing.Listed.{Listed}
 use Rattle.read.specs.Answer.{lookedNumber}
 use Rattle.read_listing.specs.Answer.{listedNumber, listedAt}
-use Rattle.check_table.specs.declared.check.Checked.{Checked}
-use Rattle.check_table.specs.Rules.{checkTable}
-use Rattle.check_table.specs.Answer.{checkedNumber, checkedRule, checkedItem, checkedWhy, checkedAt}
-use Rattle.check_table.specs.Broken.{BrokenAt}
+use Rattle.check_rules.specs.declared.checked.Checked.{Checked}
+use Rattle.check_rules.specs.Rules.{checkTable}
+use Rattle.check_rules.specs.Answer.{checkedNumber, checkedRule, checkedItem, checkedWhy, checkedAt}
+use Rattle.check_rules.specs.Broken.{BrokenAt}
 use Rattle.check_table.proofs.SoundLaws as sound
 use Rattle.check_table.proofs.BrokenLaws as broken
 use Rattle.model.specs.Table.{Content}
@@ -33,13 +33,13 @@ use Rattle.laid.specs.Told.{TableBack, AllBack}
 use Rattle.laid.specs.Passing as laid
 use Rattle.write_numbers.specs.Roster.{stateOf}
 use Rattle.write.specs.Write.{imageAfter}
-use Rattle.gvdb.specs.declared.reading.GvdbOpened.{GvdbOpened}
-use Rattle.gvdb.specs.declared.reading.GvdbPlace.{GvdbPlace}
-use Rattle.gvdb.specs.declared.reading.GvdbKey.{GvdbKey}
-use Rattle.gvdb.specs.declared.checking.GvdbCheck.{GvdbCheck}
-use Rattle.gvdb.specs.Manner.{formOf}
-use Rattle.gvdb.specs.Reading.{openedAnswer, listedAnswer}
-use Rattle.gvdb.specs.Checking.{checkedAnswer}
+use Rattle.answers.specs.declared.reading.GvdbOpened.{GvdbOpened}
+use Rattle.answers.specs.declared.reading.GvdbPlace.{GvdbPlace}
+use Rattle.answers.specs.declared.reading.GvdbKey.{GvdbKey}
+use Rattle.answers.specs.declared.checking.GvdbCheck.{GvdbCheck}
+use Rattle.answers.specs.Manner.{formOf}
+use Rattle.answers.specs.Reading.{openedAnswer, listedAnswer}
+use Rattle.answers.specs.Checking.{checkedAnswer}
 use Rattle.demands.specs.Last.{Held}
 use Rattle.demands.specs.Demand3.{AllPass, EveryImagePasses, PassesExactlyTheSound, NamesTheFirst, SaysWhy, OpensFirst}
 use Rattle.demands.specs.Readers.{readBy, Listing}

@@ -5,34 +5,34 @@ use mathlib.Core.Path.{_≡_, refl, ap}
 use mathlib.Core.List.{List, [], _∷_}
 use denote.Ref.{now}
 use lib.ListN.{length}
-use Rattle.words.specs.Hash.{ruleOf}
-use Rattle.layout.specs.Answer.{headerLaidNumber}
-use Rattle.layout.specs.Header.{readHeader, headerLaid, withHeader}
+use Rattle.key_hash.specs.Hash.{ruleOf}
+use Rattle.file_header.specs.Answer.{headerLaidNumber}
+use Rattle.file_header.specs.Header.{readHeader, headerLaid, withHeader}
 use Rattle.layout.specs.Table.{openTable}
 use Rattle.read.specs.Lookup.{lookupValue, lookupTable}
 use Rattle.read_listing.specs.Listing.{keyAt, listed, written}
-use Rattle.check_table.specs.Rules.{checkTable}
+use Rattle.check_rules.specs.Rules.{checkTable}
 use Rattle.build_memory.specs.Memory.{Memory, memory, Outcome, freshStart}
 use Rattle.build_memory.specs.Answer.{startedNumber}
 use Rattle.build_tables.specs.Table.{newTable, itemCount}
 use Rattle.build_values.specs.Insert.{insertValue}
 use Rattle.build_nested.specs.Nest.{insertTable}
 use Rattle.write.specs.Write.{writeAnswer, imageAfter}
-use Rattle.gvdb.specs.declared.building.GvdbTable.{GvdbTable}
-use Rattle.gvdb.specs.declared.building.GvdbInserted.{GvdbInserted}
-use Rattle.gvdb.specs.declared.building.GvdbCount.{GvdbCount}
-use Rattle.gvdb.specs.declared.writing.GvdbImage.{GvdbImage}
-use Rattle.gvdb.specs.declared.header.GvdbHeader.{GvdbHeader}
-use Rattle.gvdb.specs.declared.reading.GvdbOpened.{GvdbOpened}
-use Rattle.gvdb.specs.declared.reading.GvdbPlace.{GvdbPlace}
-use Rattle.gvdb.specs.declared.reading.GvdbKey.{GvdbKey}
-use Rattle.gvdb.specs.declared.checking.GvdbCheck.{GvdbCheck}
-use Rattle.gvdb.specs.Header.{orderOf, headedAnswer}
-use Rattle.gvdb.specs.Manner.{formOf, mannerNamed}
-use Rattle.gvdb.specs.Building.{told, addedAnswer, insertedAnswer, countedAnswer}
-use Rattle.gvdb.specs.Reading.{openedAnswer, lookedAnswer, listedAnswer}
-use Rattle.gvdb.specs.Checking.{checkedAnswer}
-use Rattle.gvdb.specs.Writing.{writtenAnswer}
+use Rattle.answers_build.specs.declared.building.GvdbTable.{GvdbTable}
+use Rattle.answers_build.specs.declared.building.GvdbInserted.{GvdbInserted}
+use Rattle.answers_build.specs.declared.building.GvdbCount.{GvdbCount}
+use Rattle.answers_build.specs.declared.writing.GvdbImage.{GvdbImage}
+use Rattle.answers.specs.declared.header.GvdbHeader.{GvdbHeader}
+use Rattle.answers.specs.declared.reading.GvdbOpened.{GvdbOpened}
+use Rattle.answers.specs.declared.reading.GvdbPlace.{GvdbPlace}
+use Rattle.answers.specs.declared.reading.GvdbKey.{GvdbKey}
+use Rattle.answers.specs.declared.checking.GvdbCheck.{GvdbCheck}
+use Rattle.answers.specs.Header.{orderOf, headedAnswer}
+use Rattle.answers.specs.Manner.{formOf, mannerNamed}
+use Rattle.answers_build.specs.Building.{told, addedAnswer, insertedAnswer, countedAnswer}
+use Rattle.answers.specs.Reading.{openedAnswer, lookedAnswer, listedAnswer}
+use Rattle.answers.specs.Checking.{checkedAnswer}
+use Rattle.answers_build.specs.Writing.{writtenAnswer}
 use Rattle.demands.specs.Calls.{Call, Does, Starts}
 use Rattle.demands.specs.Readers.{readBy, ReadingHeader, LayingHeader, Opening, Getting, GettingTable, Listing, Checking}
 use Rattle.demands.specs.Model as model

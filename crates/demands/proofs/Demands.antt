@@ -7,8 +7,8 @@ use native.Mathlib.Omega.{arith}
 use borrow.Author.Tests.{lt-ltb, ltb-true}
 use lib.Dec.{ltb}
 use lib.ListN.{length, take, getD}
-use Rattle.words.specs.Hash.{ruleOf}
-use Rattle.words.specs.declared.hash.Form.{Form}
+use Rattle.key_hash.specs.Hash.{ruleOf}
+use Rattle.key_hash.specs.declared.hash.Form.{Form}
 use Rattle.words.proofs.ChoiceLaws.{both, pick-true}
 use Rattle.text.specs.Utf8.{isUtf8}
 use Rattle.layout.specs.Answer.{openedNumber}
@@ -37,15 +37,15 @@ use Rattle.write.specs.declared.Written.{Written}
 use Rattle.build_tables.specs.Table.{freeStanding}
 use Rattle.write.specs.Write.{writtenNumber, writeAnswer, imageAfter}
 use Rattle.write_numbers.proofs.StateLaws.{state-below}
-use Rattle.write.proofs.StateLaws.{content-is}
+use Rattle.write_slots.proofs.StateLaws.{content-is}
 use Rattle.history.specs.Honest.{Honest}
 use Rattle.history.proofs.History.{reached-honest}
 use Rattle.history.proofs.ModelCalls.{count-alike}
 use Rattle.build_memory.proofs.MeaningLaws.{length-listed}
-use Rattle.gvdb.specs.declared.reading.GvdbOpened.{GvdbOpened}
-use Rattle.gvdb.specs.Reading.{openedCount, openedAnswer}
-use Rattle.gvdb.specs.Manner.{formOf}
-use Rattle.gvdb.specs.Writing.{writtenImage}
+use Rattle.answers.specs.declared.reading.GvdbOpened.{GvdbOpened}
+use Rattle.answers.specs.Reading.{openedCount, openedAnswer}
+use Rattle.answers.specs.Manner.{formOf}
+use Rattle.answers_build.specs.Writing.{writtenImage}
 use Rattle.demands.specs.Calls.{Call, Does, Event, History}
 use Rattle.demands.specs.Readers.{readBy, Opening}
 use Rattle.demands.specs.Last.{Held, held}

@@ -9,19 +9,19 @@ use lib.Dec.{ltb, eqb}
 use lib.ListN.{length, take, length-append}
 use Rattle.words.specs.Choice.{pick}
 use Rattle.words.specs.Store.{putAt, zeros}
-use Rattle.words.specs.Hash.{ruleOf}
+use Rattle.key_hash.specs.Hash.{ruleOf}
 use Rattle.words.proofs.ChoiceLaws.{both}
 use Rattle.words.proofs.StoreLaws.{length-put, length-zeros}
-use Rattle.layout.specs.declared.header.ByteOrder.{ByteOrder}
-use Rattle.layout.specs.declared.header.Headed.{Headed}
-use Rattle.layout.specs.declared.header.HeaderLaid.{HeaderLaid}
+use Rattle.file_header.specs.declared.header.ByteOrder.{ByteOrder}
+use Rattle.file_header.specs.declared.header.Headed.{Headed}
+use Rattle.file_header.specs.declared.header.HeaderLaid.{HeaderLaid}
 use Rattle.layout.specs.Limits.{longestFile, deepest}
 use Rattle.layout.specs.Sizes.{headerSize, chunkSize}
-use Rattle.layout.specs.Answer.{headedNumber, headedOrder, headedPointer, headerLaidNumber, orderNumber}
-use Rattle.layout.specs.Header.{headerBytes, readHeader, headerLaid, withHeader}
+use Rattle.file_header.specs.Answer.{headedNumber, headedOrder, headedPointer, headerLaidNumber, orderNumber}
+use Rattle.file_header.specs.Header.{headerBytes, readHeader, headerLaid, withHeader}
 use Rattle.layout.proofs.OpenLaws.{opened-in-file}
-use Rattle.layout.proofs.HeaderLaws.{length-header, laid-there}
-use Rattle.layout.proofs.HeaderReads.{laid-is-read}
+use Rattle.file_header.proofs.HeaderLaws.{length-header, laid-there}
+use Rattle.file_header.proofs.HeaderReads.{laid-is-read}
 use Rattle.model.specs.Table.{State}
 use Rattle.image.specs.Image.{tableBytes, imageOf}
 use Rattle.image.specs.WellFormed.{Writable}
@@ -36,8 +36,8 @@ use Rattle.build_tables.specs.Table.{freeStanding}
 use Rattle.write_numbers.specs.Roster.{stateOf}
 use Rattle.write.specs.declared.Written.{Written}
 use Rattle.write.specs.Write.{writeAnswer, imageAfter}
-use Rattle.gvdb.specs.Manner.{formOf}
-use Rattle.gvdb.specs.Header.{orderOf, headedAnswer}
+use Rattle.answers.specs.Manner.{formOf}
+use Rattle.answers.specs.Header.{orderOf, headedAnswer}
 use Rattle.demands.specs.Success.{Success}
 use Rattle.demands.specs.File.{FileLaid, HeaderIsTaken, HeaderReadsBack, Demand2File, Demand3File}
 use Rattle.demands.specs.Demand3.{AllPass}

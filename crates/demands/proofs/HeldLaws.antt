@@ -9,8 +9,8 @@ use lib.Dec.{eqb}
 use lib.ListN.{length, set}
 use Rattle.words.specs.Choice.{pick}
 use Rattle.words.proofs.ChoiceLaws.{both, both-hold}
-use Rattle.text.specs.Compare.{sameBytes}
-use Rattle.text.proofs.CompareLaws.{same-equal, equal-same}
+use Rattle.key_order.specs.Compare.{sameBytes}
+use Rattle.key_order.proofs.CompareLaws.{same-equal, equal-same}
 use Rattle.model.specs.Table.{Content, Entry, entryAt}
 use Rattle.model.specs.Walk.{findKey, isThere, entry}
 use Rattle.demands.specs.Last.{Held, orElse}

@@ -9,7 +9,7 @@ use lib.Dec.{eqb}
 use lib.ListN.{length, getD}
 use Rattle.words.specs.Choice.{pick}
 use Rattle.words.proofs.ChoiceLaws.{pick-with, pick-same, pick-true, pick-false}
-use Rattle.text.specs.Prefix.{prefixes}
+use Rattle.key_order.specs.Prefix.{prefixes}
 use Rattle.layout.specs.declared.refusal.Refusal.{Refusal}
 use Rattle.layout.specs.declared.refusal.Refusal.the-variants.{SeparatorOutside, TooManyTables}
 use Rattle.layout.specs.Refusal as refusal

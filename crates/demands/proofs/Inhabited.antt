@@ -11,12 +11,12 @@ use Rattle.layout.specs.Limits.{deepest}
 use Rattle.layout.specs.Sizes.{chunkSize}
 use Rattle.words.specs.Choice.{pick}
 use Rattle.words.specs.Below.{someBelow}
-use Rattle.words.specs.declared.hash.Form.{Form}
-use Rattle.words.specs.Hash.{plain, hashFrom, hashBy, ruleOf}
+use Rattle.key_hash.specs.declared.hash.Form.{Form}
+use Rattle.key_hash.specs.Hash.{plain, hashFrom, hashBy, ruleOf}
 use Rattle.words.specs.Store.{part}
 use Rattle.words.proofs.ChoiceLaws.{pick-true, pick-false}
-use Rattle.text.specs.Compare.{sameBytes}
-use Rattle.text.specs.Order.{precedes}
+use Rattle.key_order.specs.Compare.{sameBytes}
+use Rattle.key_order.specs.Order.{precedes}
 use Rattle.text.specs.Utf8.{between, tail, isTwo, startsThree, startsFour, firstOf, sequenceLen, stepLen, oneMore, goodFrom, firstBad, isUtf8}
 use Rattle.model.specs.declared.Inserted.{Inserted}
 use Rattle.layout.specs.Item.{noItem}
@@ -33,9 +33,9 @@ use Rattle.build_tables.specs.Answer.{addedNumber, addedTable}
 use Rattle.build_values.specs.Answer.{insertedNumber, insertedKind, insertedAt}
 use Rattle.write.specs.declared.Written.{Written}
 use Rattle.write.specs.Write.{emptyHeld, hasEmpty, tooLong, writtenNumber}
-use Rattle.gvdb.specs.declared.reading.GvdbPlace.{GvdbPlace}
-use Rattle.gvdb.specs.Manner.{formOf}
-use Rattle.gvdb.specs.Writing.{writtenImage}
+use Rattle.answers.specs.declared.reading.GvdbPlace.{GvdbPlace}
+use Rattle.answers.specs.Manner.{formOf}
+use Rattle.answers_build.specs.Writing.{writtenImage}
 use Rattle.demands.specs.Calls.{Call, Does, Starts, Event, event, History}
 use Rattle.demands.specs.Readers.{Getting}
 use Rattle.demands.specs.Last.{Held, orElse, puts, last, held}

@@ -7,7 +7,7 @@ use native.Mathlib.Omega.{arith}
 use borrow.Author.Tests.{leb-true}
 use lib.Dec.{ltb, leb}
 use lib.ListN.{length}
-use Rattle.words.specs.Hash.{ruleOf}
+use Rattle.key_hash.specs.Hash.{ruleOf}
 use Rattle.layout.specs.Limits.{deepest, mostFilter}
 use Rattle.layout.specs.Sizes.{chunkSize, headerSize}
 use Rattle.words.specs.Choice.{pick}
@@ -26,7 +26,7 @@ use Rattle.history.specs.Reached.{Reached}
 use Rattle.history.proofs.History.{reached-honest, honest-whole}
 use Rattle.history.proofs.ModelCalls.{free-standing-same, value-alike, table-alike, count-alike, fresh-alike}
 use Rattle.history.proofs.ModelNesting.{nest-alike}
-use Rattle.gvdb.specs.Manner.{formOf}
+use Rattle.answers.specs.Manner.{formOf}
 use Rattle.demands.specs.Calls.{Call, Does, Starts, Event, History}
 use Rattle.demands.specs.Model.{tablesOf, imageIn, write, added, inserted, counted, written, says, makes, lays, built, CallsAreTheModels}
 use Rattle.demands.specs.Means.{meant, MemoryMeansTheBuilder}

@@ -5,7 +5,7 @@ use mathlib.Core.Bool.{Bool, true}
 use mathlib.Core.List.{List}
 use native.Mathlib.Omega.{arith}
 use lib.ListN.{length}
-use Rattle.words.specs.Hash.{ruleOf}
+use Rattle.key_hash.specs.Hash.{ruleOf}
 use Rattle.words.specs.Choice.{pick}
 use Rattle.words.proofs.ChoiceLaws.{pick-with, pick-true}
 use Rattle.layout.specs.declared.refusal.Refusal.{Refusal}
@@ -25,7 +25,7 @@ use Rattle.build_rules.specs.Valid.{fullyValid}
 use Rattle.write.specs.declared.Written.{Written}
 use Rattle.write.specs.Write.{writeAnswer, writtenNumber}
 use Rattle.history.proofs.History.{reached-valid, reached-whole}
-use Rattle.gvdb.specs.Manner.{formOf}
+use Rattle.answers.specs.Manner.{formOf}
 use Rattle.demands.specs.Calls.{Call, number}
 use Rattle.demands.specs.Model as model
 use Rattle.demands.specs.Demand1.{Never29}

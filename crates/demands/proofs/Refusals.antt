@@ -5,17 +5,17 @@ use mathlib.Core.Bool.{Bool, true, false}
 use mathlib.Core.List.{List}
 use lib.Dec.{eqb, leb, ltb}
 use lib.ListN.{length}
-use Rattle.words.specs.Hash.{ruleOf}
+use Rattle.key_hash.specs.Hash.{ruleOf}
 use Rattle.words.specs.Choice.{pick}
 use Rattle.words.specs.Store.{putAt}
 use Rattle.words.proofs.ChoiceLaws.{pick-with}
 use Rattle.layout.specs.declared.refusal.Refusal.{Refusal}
 use Rattle.layout.specs.declared.refusal.Refusal.the-variants.{SeparatorOutside, TooManyTables, MemoryBroken, BufferTooShort}
-use Rattle.layout.specs.declared.header.HeaderLaid.{HeaderLaid}
-use Rattle.layout.specs.Answer.{headerLaidNumber}
-use Rattle.layout.specs.Header.{headerBytes, headerLaid, whenLaid, withHeader}
+use Rattle.file_header.specs.declared.header.HeaderLaid.{HeaderLaid}
+use Rattle.file_header.specs.Answer.{headerLaidNumber}
+use Rattle.file_header.specs.Header.{headerBytes, headerLaid, whenLaid, withHeader}
 use Rattle.read_listing.specs.declared.listing.Listed.{Listed}
-use Rattle.read.specs.Chain.{Joined}
+use Rattle.read_chain.specs.Chain.{Joined}
 use Rattle.read_listing.specs.Listing.{keyAt, listed, written}
 use Rattle.read_listing.specs.Answer.{listedNumber}
 use Rattle.model.specs.declared.Inserted.{Inserted}
@@ -31,10 +31,10 @@ use Rattle.build_nested.specs.Nest.{insertTable}
 use Rattle.build_nested.proofs.AnswerLaws.{table-still}
 use Rattle.write.specs.declared.Written.{Written}
 use Rattle.write.specs.Write.{writeAnswer, writtenNumber, imageFor, laidBy, imageAfter}
-use Rattle.gvdb.specs.declared.reading.GvdbKey.{GvdbKey}
-use Rattle.gvdb.specs.Header.{orderOf}
-use Rattle.gvdb.specs.Reading.{listedAnswer}
-use Rattle.gvdb.specs.Manner.{formOf}
+use Rattle.answers.specs.declared.reading.GvdbKey.{GvdbKey}
+use Rattle.answers.specs.Header.{orderOf}
+use Rattle.answers.specs.Reading.{listedAnswer}
+use Rattle.answers.specs.Manner.{formOf}
 use Rattle.demands.specs.Calls.{Call, lent, accepted}
 use Rattle.demands.specs.Model as model
 use Rattle.demands.specs.Demand1.{RefusalChangesNothing, RefusedStartChangesNothing, RefusedListingWritesNothing, RefusedHeaderWritesNothing}

@@ -11,7 +11,7 @@ use Rattle.build_memory.specs.Memory.{itemTotal}
 use Rattle.build_memory.specs.Meaning.{meaning}
 use Rattle.write_numbers.specs.Roster.{stateOf}
 use Rattle.write_numbers.proofs.StateLaws.{state-below, state-table, state-has}
-use Rattle.write.proofs.StateLaws.{table-is, total-is}
+use Rattle.write_slots.proofs.StateLaws.{table-is, total-is}
 use Rattle.demands.specs.Last.{Held}
 use Rattle.demands.proofs.HeldLaws.{heldIn, hit, hit-same, hit-is}
 

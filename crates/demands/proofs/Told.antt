@@ -3,7 +3,7 @@ use Prim.Native.Nat.{ℕ, _-_, _≤_}
 use mathlib.Core.Path.{_≡_, refl, sym, ap, _∙_}
 use mathlib.Core.List.{List}
 use native.Mathlib.Omega.{arith}
-use Rattle.words.specs.Hash.{ruleOf}
+use Rattle.key_hash.specs.Hash.{ruleOf}
 use Rattle.words.specs.Store.{part}
 use Rattle.layout.specs.Limits.{mostFilter}
 use Rattle.layout.proofs.RefusalLaws.{refused-some}
@@ -13,9 +13,9 @@ use Rattle.read.specs.Answer.{lookedNumber, lookedPointer}
 use Rattle.laid.specs.Back.{Lay}
 use Rattle.laid.specs.Told as laid
 use Rattle.laid.proofs.LayLaws.{layOf}
-use Rattle.gvdb.specs.declared.reading.GvdbPlace.{GvdbPlace}
-use Rattle.gvdb.specs.Manner.{formOf, lookupOf}
-use Rattle.gvdb.specs.Reading.{lookedAnswer}
+use Rattle.answers.specs.declared.reading.GvdbPlace.{GvdbPlace}
+use Rattle.answers.specs.Manner.{formOf, lookupOf}
+use Rattle.answers.specs.Reading.{lookedAnswer}
 use Rattle.demands.specs.Readers.{readBy, Getting, GettingTable}
 use Rattle.demands.specs.Demand2.{Both}
 use Rattle.demands.proofs.Contracts.{getting-is, getting-table-is}

@@ -11,8 +11,8 @@ use lib.ListN.{length, set, take}
 use lib.Seq.{take-length}
 use Rattle.words.specs.Choice.{pick}
 use Rattle.words.proofs.ChoiceLaws.{pick-with}
-use Rattle.text.specs.Compare.{sameBytes}
-use Rattle.text.specs.Prefix.{endsFrom, prefixes}
+use Rattle.key_order.specs.Compare.{sameBytes}
+use Rattle.key_order.specs.Prefix.{endsFrom, prefixes}
 use Rattle.model.specs.Table.{Content, Entry, entryAt}
 use Rattle.model.specs.Walk.{findKey, isThere, entry, putKey, Walked, walk}
 use Rattle.demands.specs.Last.{Held, orElse, among}

@@ -21,7 +21,7 @@ use Rattle.write_numbers.specs.Roster.{stateOf}
 use Rattle.write_numbers.proofs.StateLaws.{state-members, state-key, state-below, state-once, state-table, state-has, all-of-table-few}
 use Rattle.build_memory.proofs.MeaningLaws.{key-length}
 use Rattle.write_numbers.proofs.RosterLaws.{whole-fit}
-use Rattle.write.proofs.StateLaws.{above-is, content-past}
+use Rattle.write_slots.proofs.StateLaws.{above-is, content-past}
 use Rattle.demands.proofs.Rising.{member-earlier}
 
 module _ (ws ar : List ℕ) (whole : fullyValid ws ar ≡ true) (t : ℕ) where

@@ -21,7 +21,7 @@ use Rattle.image.specs.WellFormed.{Writable}
 use Rattle.write_numbers.specs.Roster.{stateOf}
 use Rattle.build_tables.specs.Table.{freeStanding}
 use Rattle.write_numbers.proofs.StateLaws.{state-below, state-table}
-use Rattle.write.proofs.StateLaws.{content-is}
+use Rattle.write_slots.proofs.StateLaws.{content-is}
 use Rattle.demands.specs.Success.{FreeStandingWritable}
 use Rattle.demands.proofs.WellFormed.{table-formed}
 

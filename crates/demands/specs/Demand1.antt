@@ -5,7 +5,7 @@ use mathlib.Core.Path.{_≡_}
 use mathlib.Core.Bool.{false}
 use mathlib.Core.List.{List}
 use Rattle.build_memory.specs.Memory.{Memory}
-use Rattle.gvdb.specs.declared.reading.GvdbKey.{GvdbKey}
+use Rattle.answers.specs.declared.reading.GvdbKey.{GvdbKey}
 use Rattle.demands.specs.Calls.{Call, Does, Starts, lent, number, accepted, Event, History}
 use Rattle.demands.specs.Readers.{Listing, LayingHeader}
 

@@ -11,9 +11,9 @@ use Rattle.text.specs.Utf8.{isUtf8}
 use Rattle.model.specs.Table.{Content}
 use Rattle.layout.specs.Limits.{deepest}
 use Rattle.build_memory.specs.Memory.{Memory}
-use Rattle.gvdb.specs.declared.reading.GvdbOpened.{GvdbOpened}
-use Rattle.gvdb.specs.declared.reading.GvdbPlace.{GvdbPlace}
-use Rattle.gvdb.specs.Manner.{formOf}
+use Rattle.answers.specs.declared.reading.GvdbOpened.{GvdbOpened}
+use Rattle.answers.specs.declared.reading.GvdbPlace.{GvdbPlace}
+use Rattle.answers.specs.Manner.{formOf}
 use Rattle.demands.specs.Calls.{Call, Does, Event, History}
 use Rattle.demands.specs.Readers.{Opening, Getting, GettingTable}
 use Rattle.demands.specs.Last.{Held, held}

@@ -7,14 +7,14 @@ use mathlib.Core.Logic.{_↔_}
 use mathlib.Core.List.{List, [], _∷_}
 use lib.ListN.{take}
 use Rattle.check_table.specs.Sound.{SoundTable}
-use Rattle.check_table.specs.Broken.{BrokenAt}
+use Rattle.check_rules.specs.Broken.{BrokenAt}
 use Rattle.layout.specs.Limits.{deepest}
 use Rattle.build_memory.specs.Memory.{Memory}
-use Rattle.gvdb.specs.declared.reading.GvdbOpened.{GvdbOpened}
-use Rattle.gvdb.specs.declared.reading.GvdbPlace.{GvdbPlace}
-use Rattle.gvdb.specs.declared.reading.GvdbKey.{GvdbKey}
-use Rattle.gvdb.specs.declared.checking.GvdbCheck.{GvdbCheck}
-use Rattle.gvdb.specs.Manner.{formOf}
+use Rattle.answers.specs.declared.reading.GvdbOpened.{GvdbOpened}
+use Rattle.answers.specs.declared.reading.GvdbPlace.{GvdbPlace}
+use Rattle.answers.specs.declared.reading.GvdbKey.{GvdbKey}
+use Rattle.answers.specs.declared.checking.GvdbCheck.{GvdbCheck}
+use Rattle.answers.specs.Manner.{formOf}
 use Rattle.demands.specs.Calls.{Call, Does}
 use Rattle.demands.specs.Readers.{readBy, Opening, GettingTable, Listing, Checking}
 

@@ -8,8 +8,8 @@ use lib.Dec.{eqb}
 use Rattle.words.specs.Choice.{pick}
 use Rattle.layout.specs.Limits.{deepest}
 use Rattle.build_memory.specs.Memory.{Memory}
-use Rattle.gvdb.specs.declared.header.GvdbHeader.{GvdbHeader}
-use Rattle.gvdb.specs.Manner.{formOf}
+use Rattle.answers.specs.declared.header.GvdbHeader.{GvdbHeader}
+use Rattle.answers.specs.Manner.{formOf}
 use Rattle.demands.specs.Calls.{Call, Does, Event, History}
 use Rattle.demands.specs.Readers.{ReadingHeader, LayingHeader}
 use Rattle.demands.specs.Demand2.{Answers}

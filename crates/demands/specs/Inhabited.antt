@@ -6,10 +6,10 @@ use mathlib.Core.List.{List, [], _∷_}
 use lib.ListN.{length, take}
 use Rattle.words.specs.Store.{part}
 use Rattle.build_memory.specs.Memory.{Memory, leastWords}
-use Rattle.gvdb.specs.declared.reading.GvdbOpened.{GvdbOpened}
-use Rattle.gvdb.specs.declared.reading.GvdbPlace.{GvdbPlace}
-use Rattle.gvdb.specs.declared.reading.GvdbKey.{GvdbKey}
-use Rattle.gvdb.specs.declared.checking.GvdbCheck.{GvdbCheck}
+use Rattle.answers.specs.declared.reading.GvdbOpened.{GvdbOpened}
+use Rattle.answers.specs.declared.reading.GvdbPlace.{GvdbPlace}
+use Rattle.answers.specs.declared.reading.GvdbKey.{GvdbKey}
+use Rattle.answers.specs.declared.checking.GvdbCheck.{GvdbCheck}
 use Rattle.demands.specs.Calls.{Call, Does, Starts, Event, event, History}
 use Rattle.demands.specs.Readers.{Opening, Getting, GettingTable, Listing, Checking}
 

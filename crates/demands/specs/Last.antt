@@ -6,8 +6,8 @@ use mathlib.Core.List.{List, [], _∷_}
 use lib.Dec.{eqb}
 use lib.ListN.{getD}
 use Rattle.words.specs.Choice.{pick}
-use Rattle.text.specs.Compare.{sameBytes}
-use Rattle.text.specs.Prefix.{prefixes}
+use Rattle.key_order.specs.Compare.{sameBytes}
+use Rattle.key_order.specs.Prefix.{prefixes}
 use Rattle.model.specs.Table.{Content}
 use Rattle.model.specs.Builder.{noSeparator, separatorOf}
 use Rattle.demands.specs.Calls.{Call, Event, accepted}

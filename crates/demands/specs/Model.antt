@@ -9,7 +9,7 @@ use lib.ListN.{length}
 use Rattle.layout.specs.Limits.{deepest, mostFilter}
 use Rattle.layout.specs.Sizes.{chunkSize, headerSize}
 use Rattle.words.specs.Choice.{pick}
-use Rattle.words.specs.Hash.{ruleOf}
+use Rattle.key_hash.specs.Hash.{ruleOf}
 use Rattle.layout.specs.declared.refusal.Refusal.the-variants.{TableUnknown, TooManyFilterWords, EmptyKey, ImageTooLong}
 use Rattle.model.specs.Table.{State, rowsOf}
 use Rattle.model.specs.declared.Inserted.{Inserted}
@@ -22,8 +22,8 @@ use Rattle.build_tables.specs.Answer.{addedNumber, addedTable, countedNumber, c
 use Rattle.build_values.specs.Answer.{insertedNumber, insertedKind, insertedAt}
 use Rattle.write.specs.declared.Written.{Written}
 use Rattle.write.specs.Write.{hasEmpty, tooLong, laidBy, writtenNumber}
-use Rattle.gvdb.specs.Manner.{formOf}
-use Rattle.gvdb.specs.Writing.{writtenImage}
+use Rattle.answers.specs.Manner.{formOf}
+use Rattle.answers_build.specs.Writing.{writtenImage}
 use Rattle.demands.specs.Calls.{Call, Does, Event, History}
 
 -- the tables of a builder, and the image of one of them by a rule for a byte of the hash and a number of filter words

@@ -2,13 +2,13 @@
 use Prim.Native.Nat.{ℕ}
 use mathlib.Core.List.{List}
 use denote.Ref.{now}
-use Rattle.read.specs.Find.{Manner, mannerOf}
-use Rattle.gvdb.specs.Manner.{formOf, lookupOf}
-use Rattle.gvdb.specs.declared.header.GvdbHeader.{GvdbHeader}
-use Rattle.gvdb.specs.declared.reading.GvdbOpened.{GvdbOpened}
-use Rattle.gvdb.specs.declared.reading.GvdbPlace.{GvdbPlace}
-use Rattle.gvdb.specs.declared.reading.GvdbKey.{GvdbKey}
-use Rattle.gvdb.specs.declared.checking.GvdbCheck.{GvdbCheck}
+use Rattle.read_find.specs.Find.{Manner, mannerOf}
+use Rattle.answers.specs.Manner.{formOf, lookupOf}
+use Rattle.answers.specs.declared.header.GvdbHeader.{GvdbHeader}
+use Rattle.answers.specs.declared.reading.GvdbOpened.{GvdbOpened}
+use Rattle.answers.specs.declared.reading.GvdbPlace.{GvdbPlace}
+use Rattle.answers.specs.declared.reading.GvdbKey.{GvdbKey}
+use Rattle.answers.specs.declared.checking.GvdbCheck.{GvdbCheck}
 use Rattle.gvdb.proofs.header.gvdb_read_header.Kinds as read-header-kinds
 use Rattle.gvdb.proofs.header.gvdb_read_header.Reads as read-header-reads
 use Rattle.gvdb.proofs.header.gvdb_lay_header.Kinds as lay-header-kinds

@@ -1,25 +1,12 @@
 // Checking a table.
-use crate::manner::manner_of;
-use check_table::check::Checked;
-use layout::refusal::Refusal;
-use layout::refusal::bad_at;
-use layout::refusal::number_of;
+use answers::checking::GvdbCheck;
+use answers::checking::checked_of;
+use answers::manner::manner_of;
 ghost use mathlib.Core.Path.{_≡_};
-ghost use Rattle.read.specs.Find.{mannerOf};
-ghost use Rattle.check_table.specs.Rules.{checkTable};
-ghost use Rattle.gvdb.specs.Manner.{mannerNamed};
-ghost use Rattle.gvdb.specs.Checking.{checkedAnswer};
-
-// 0 for a sound table; with 40 the rule broken, 1 to 6, and the item; with rule 1 the number that listing that item ends with, and with 9 where the
-// stored fragment is bad.
-#[repr(C)]
-pub struct GvdbCheck {
-    pub number: u32,
-    pub rule: u32,
-    pub item: usize,
-    pub why: u32,
-    pub at: usize,
-}
+ghost use Rattle.read_find.specs.Find.{mannerOf};
+ghost use Rattle.check_rules.specs.Rules.{checkTable};
+ghost use Rattle.answers.specs.Manner.{mannerNamed};
+ghost use Rattle.answers.specs.Checking.{checkedAnswer};
 
 // Checks the table at a pointer.
 #[no_mangle]
@@ -27,35 +14,5 @@ pub extern "C" fn gvdb_check(file: &[u8], start: u32, end: u32, manner: u32) -> 
     ensures { λ r. ⌜ r ≡ checkedAnswer (checkTable (mannerOf (mannerNamed manner)) (now (file .entry)) start end) ⌝ }
 {
     let named = manner_of(manner);
-    let broken = number_of(Refusal::CheckBroken);
-    match check_table::check::check_table(file, start, end, named) {
-        Checked::Sound => GvdbCheck {
-            number: 0,
-            rule: 0,
-            item: 0,
-            why: 0,
-            at: 0,
-        },
-        Checked::Broken { rule, item } => GvdbCheck {
-            number: broken,
-            rule,
-            item,
-            why: 0,
-            at: 0,
-        },
-        Checked::Unlisted { why, item } => GvdbCheck {
-            number: broken,
-            rule: 1,
-            item,
-            why: number_of(why),
-            at: bad_at(why),
-        },
-        Checked::Refused(why) => GvdbCheck {
-            number: number_of(why),
-            rule: 0,
-            item: 0,
-            why: 0,
-            at: 0,
-        },
-    }
+    checked_of(check_table::check::check_table(file, start, end, named))
 }

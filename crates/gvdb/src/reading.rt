@@ -1,89 +1,29 @@
 // Reading a table: opening, lookups, listings.
-use crate::manner::manner_of;
-use layout::refusal::bad_at;
-use layout::refusal::number_of;
-use layout::table::Opened;
-use read::layered::Layered;
-use read::layered::Source;
-use read::lookup::Looked;
-use read_listing::children::Childed;
+use answers::manner::manner_of;
+use answers::reading::GvdbChild;
+use answers::reading::GvdbKey;
+use answers::reading::GvdbLayered;
+use answers::reading::GvdbOpened;
+use answers::reading::GvdbPlace;
+use answers::reading::GvdbValue;
+use answers::reading::childed_of;
+use answers::reading::layered_of;
+use answers::reading::listed_of;
+use answers::reading::looked_of;
+use answers::reading::opened_of;
+use answers::reading::valued_of;
 use read_listing::listing::Cursor;
-use read_listing::listing::Listed;
-use read_listing::listing::Valued;
-use words::wide::byte_word;
 ghost use mathlib.Core.Path.{_≡_};
 ghost use lib.ListN.{length};
 ghost use Rattle.text.specs.Utf8.{firstBad};
 ghost use Rattle.layout.specs.Table.{openTable};
-ghost use Rattle.read.specs.Find.{mannerOf};
+ghost use Rattle.read_find.specs.Find.{mannerOf};
 ghost use Rattle.read.specs.Lookup.{lookupValue, lookupTable};
-ghost use Rattle.read.specs.Answer.{sourceNumber};
 ghost use Rattle.read.specs.Layered.{layeredValue};
 ghost use Rattle.read_listing.specs.Listing.{keyAt, listed, written, valueAt};
 ghost use Rattle.read_listing.specs.Children.{nextChild};
-ghost use Rattle.gvdb.specs.Manner.{mannerNamed};
-ghost use Rattle.gvdb.specs.Reading.{openedAnswer, lookedAnswer, layeredAnswer, listedAnswer, valuedAnswer, childedAnswer};
-
-// What a table opens as.
-#[repr(C)]
-pub struct GvdbOpened {
-    pub number: u32,
-    pub items: u32,
-    pub buckets: u32,
-    pub blooms: u32,
-}
-
-// A pointer into the file: to a value, or to a nested table; with 8 where the given key is bad.
-#[repr(C)]
-pub struct GvdbPlace {
-    pub number: u32,
-    pub start: u32,
-    pub end: u32,
-    pub at: usize,
-}
-
-// A pointer into the file of one of two tables, to a value, and the table that answered: 0 the owner's, 1 the district's, on a refusal too; with 8 where the given
-// key is bad.
-#[repr(C)]
-pub struct GvdbLayered {
-    pub number: u32,
-    pub from: u32,
-    pub start: u32,
-    pub end: u32,
-    pub at: usize,
-}
-
-// A key that was written: its length, and the next position; with 9 where the stored fragment is bad.
-#[repr(C)]
-pub struct GvdbKey {
-    pub number: u32,
-    pub length: usize,
-    pub next: usize,
-    pub at: usize,
-}
-
-// A value: its pointer, its item, and the next position; item and position are told with 2 and 3 of its pointer too.
-#[repr(C)]
-pub struct GvdbValue {
-    pub number: u32,
-    pub start: u32,
-    pub end: u32,
-    pub index: usize,
-    pub next: usize,
-}
-
-// A child of a container: the byte of its kind, the pointer of its fragment, its index, and the next position; with 8 where the given key is bad, with 9 where the
-// fragment is.
-#[repr(C)]
-pub struct GvdbChild {
-    pub number: u32,
-    pub kind: u32,
-    pub start: u32,
-    pub end: u32,
-    pub index: usize,
-    pub next: usize,
-    pub at: usize,
-}
+ghost use Rattle.answers.specs.Manner.{mannerNamed};
+ghost use Rattle.answers.specs.Reading.{openedAnswer, lookedAnswer, layeredAnswer, listedAnswer, valuedAnswer, childedAnswer};
 
 // Where the first sequence that RFC 3629 does not allow starts, or the length of a good text.
 #[no_mangle]
@@ -99,40 +39,7 @@ pub extern "C" fn gvdb_first_bad(text: &[u8]) -> usize
 pub extern "C" fn gvdb_open(file: &[u8], start: u32, end: u32) -> GvdbOpened
     ensures { λ r. ⌜ r ≡ openedAnswer (openTable (now (file .entry)) start end) ⌝ }
 {
-    match layout::table::open_table(file, start, end) {
-        Opened::Table(table) => GvdbOpened {
-            number: 0,
-            items: table.count as u32,
-            buckets: table.buckets as u32,
-            blooms: table.blooms as u32,
-        },
-        Opened::Refused(why) => GvdbOpened {
-            number: number_of(why),
-            items: 0,
-            buckets: 0,
-            blooms: 0,
-        },
-    }
-}
-
-// A lookup's answer as numbers.
-fn place_of(looked: Looked) -> GvdbPlace
-    ensures { λ r. ⌜ r ≡ lookedAnswer looked ⌝ }
-{
-    match looked {
-        Looked::Pointer { start, end } => GvdbPlace {
-            number: 0,
-            start,
-            end,
-            at: 0,
-        },
-        Looked::Refused(why) => GvdbPlace {
-            number: number_of(why),
-            start: 0,
-            end: 0,
-            at: bad_at(why),
-        },
-    }
+    opened_of(layout::table::open_table(file, start, end))
 }
 
 // gvdb-rs: get_bytes.
@@ -142,32 +49,7 @@ pub extern "C" fn gvdb_get(file: &[u8], start: u32, end: u32, key: &[u8], manner
     ensures { λ r. ⌜ r ≡ lookedAnswer (lookupValue (mannerOf (mannerNamed manner)) (now (file .entry)) start end (now (key .entry))) ⌝ }
 {
     let named = manner_of(manner);
-    place_of(read::lookup::lookup_value(file, start, end, key, named))
-}
-
-fn source_of(from: Source) -> u32
-    ensures { λ r. ⌜ r ≡ sourceNumber from ⌝ }
-{
-    match from {
-        Source::Owner => 0,
-        Source::District => 1,
-    }
-}
-
-// The answer of a lookup over two tables as numbers.
-fn layered_of(layered: Layered) -> GvdbLayered
-    ensures { λ r. ⌜ r ≡ layeredAnswer layered ⌝ }
-{
-    let looked = layered.looked;
-    let from = layered.from;
-    let place = place_of(looked);
-    GvdbLayered {
-        number: place.number,
-        from: source_of(from),
-        start: place.start,
-        end: place.end,
-        at: place.at,
-    }
+    looked_of(read::lookup::lookup_value(file, start, end, key, named))
 }
 
 // Looks up the value of a key in the owner's table, and in the district's where the owner's answers 12.
@@ -213,7 +95,7 @@ pub extern "C" fn gvdb_get_table(
     ensures { λ r. ⌜ r ≡ lookedAnswer (lookupTable (mannerOf (mannerNamed manner)) (now (file .entry)) start end (now (key .entry))) ⌝ }
 {
     let named = manner_of(manner);
-    place_of(read::lookup::lookup_table(file, start, end, key, named))
+    looked_of(read::lookup::lookup_table(file, start, end, key, named))
 }
 
 // gvdb-rs: Keys::next.
@@ -230,20 +112,7 @@ pub extern "C" fn gvdb_next_key(
     ensures wrote { λ _. ⌜ now (out .exit) ≡ written (keyAt (now (file .entry)) start end position) (now (out .entry)) ⌝ }
 {
     let cursor = Cursor { at: position };
-    match cursor.next_key(file, start, end, out) {
-        Listed::Key { size, next } => GvdbKey {
-            number: 0,
-            length: size,
-            next: next.at,
-            at: 0,
-        },
-        Listed::Refused(why) => GvdbKey {
-            number: number_of(why),
-            length: 0,
-            next: 0,
-            at: bad_at(why),
-        },
-    }
+    listed_of(cursor.next_key(file, start, end, out))
 }
 
 // gvdb-rs: Values::next.
@@ -253,34 +122,7 @@ pub extern "C" fn gvdb_next_value(file: &[u8], start: u32, end: u32, position: u
     ensures { λ r. ⌜ r ≡ valuedAnswer (valueAt (now (file .entry)) start end position) ⌝ }
 {
     let cursor = Cursor { at: position };
-    match cursor.next_value(file, start, end) {
-        Valued::Value {
-            index,
-            start: from,
-            end: to,
-            next,
-        } => GvdbValue {
-            number: 0,
-            start: from,
-            end: to,
-            index,
-            next: next.at,
-        },
-        Valued::Unopened { why, index, next } => GvdbValue {
-            number: number_of(why),
-            start: 0,
-            end: 0,
-            index,
-            next: next.at,
-        },
-        Valued::Refused(why) => GvdbValue {
-            number: number_of(why),
-            start: 0,
-            end: 0,
-            index: 0,
-            next: 0,
-        },
-    }
+    valued_of(cursor.next_value(file, start, end))
 }
 
 // The child at a position of the container of a key, in stored order.
@@ -297,30 +139,5 @@ pub extern "C" fn gvdb_next_child(
 {
     let cursor = Cursor { at: position };
     let named = manner_of(manner);
-    match cursor.next_child(file, start, end, key, named) {
-        Childed::Child {
-            index,
-            kind,
-            start: from,
-            end: to,
-            next,
-        } => GvdbChild {
-            number: 0,
-            kind: byte_word(kind),
-            start: from,
-            end: to,
-            index,
-            next: next.at,
-            at: 0,
-        },
-        Childed::Refused(why) => GvdbChild {
-            number: number_of(why),
-            kind: 0,
-            start: 0,
-            end: 0,
-            index: 0,
-            next: 0,
-            at: bad_at(why),
-        },
-    }
+    childed_of(cursor.next_child(file, start, end, key, named))
 }

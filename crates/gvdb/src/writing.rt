@@ -1,22 +1,13 @@
 // Writing an image.
-use crate::manner::form_of;
-use layout::refusal::number_of;
-use write::Written;
+use answers::manner::form_of;
+use answers_build::writing::GvdbImage;
+use answers_build::writing::written_of;
 ghost use mathlib.Core.Path.{_≡_};
 ghost use lib.ListN.{length};
-ghost use Rattle.words.specs.Hash.{ruleOf};
+ghost use Rattle.key_hash.specs.Hash.{ruleOf};
 ghost use Rattle.write.specs.Write.{writeAnswer, imageAfter};
-ghost use Rattle.gvdb.specs.Manner.{formOf};
-ghost use Rattle.gvdb.specs.Writing.{writtenAnswer};
-
-// The root pointer, and the image's length.
-#[repr(C)]
-pub struct GvdbImage {
-    pub number: u32,
-    pub start: u32,
-    pub end: u32,
-    pub length: u32,
-}
+ghost use Rattle.answers.specs.Manner.{formOf};
+ghost use Rattle.answers_build.specs.Writing.{writtenAnswer};
 
 // gvdb-rs: write_to_vec_with_table.
 // The image of a table, laid into the front of `image`, with `filter` words in every table of it. The builder stays as it was (its link
@@ -35,18 +26,5 @@ pub extern "C" fn gvdb_write(
     ensures wrote { λ _. ⌜ now (image .exit) ≡ imageAfter (ruleOf (formOf manner)) filter (now (words .entry)) (now (arena .entry)) table (now (image .entry)) ⌝ }
 {
     let form = form_of(manner);
-    match write::write::write(words, arena, table, image, form, filter) {
-        Written::Image { start, end, length } => GvdbImage {
-            number: 0,
-            start,
-            end,
-            length,
-        },
-        Written::Refused(why) => GvdbImage {
-            number: number_of(why),
-            start: 0,
-            end: 0,
-            length: 0,
-        },
-    }
+    written_of(write::write::write(words, arena, table, image, form, filter))
 }

@@ -11,8 +11,8 @@ use lib.ListN.{length, take, getD}
 use lib.Seq.{length-take-le, take-take, getD-take}
 use Rattle.layout.specs.Limits.{deepest, longestKey, mostItems}
 use Rattle.text.specs.Utf8.{isUtf8}
-use Rattle.text.specs.Prefix.{endsPast, nextEnd}
-use Rattle.text.proofs.PrefixLaws.{next-within, next-rises}
+use Rattle.key_order.specs.Prefix.{endsPast, nextEnd}
+use Rattle.key_order.proofs.PrefixLaws.{next-within, next-rises}
 use Rattle.text.proofs.Utf8Parts.{utf8-cut}
 use Rattle.layout.specs.Kind.{kindKnown, containerKind}
 use Rattle.build_memory.specs.Memory.{word, tableTotal, itemTotal, roomUsed, Memory, memory}

@@ -11,8 +11,8 @@ use lib.ListN.{length, take, getD}
 use lib.Seq.{take-all, length-take-le, take-take, getD-take}
 use Rattle.words.specs.Choice.{pick}
 use Rattle.text.specs.Utf8.{isUtf8}
-use Rattle.text.specs.Prefix.{endsPast, nextEnd}
-use Rattle.text.proofs.PrefixLaws.{next-within, next-rises}
+use Rattle.key_order.specs.Prefix.{endsPast, nextEnd}
+use Rattle.key_order.proofs.PrefixLaws.{next-within, next-rises}
 use Rattle.layout.specs.declared.kind.Kind.{Kind}
 use Rattle.layout.specs.declared.refusal.Refusal.{Refusal}
 use Rattle.model.specs.declared.Inserted.{Inserted}

@@ -11,12 +11,12 @@ use lib.Dec.{eqb, ltb, leb}
 use lib.ListN.{length, take}
 use lib.Seq.{length-take-le}
 use Rattle.words.specs.Below.{someBelow}
-use Rattle.words.specs.Hash.{hashOf}
+use Rattle.key_hash.specs.Hash.{hashOf}
 use Rattle.words.proofs.ChoiceLaws.{both, both-hold, pick-with}
 use Rattle.words.proofs.BelowLaws.{below-all, some-below}
-use Rattle.text.specs.Compare.{sameBytes}
+use Rattle.key_order.specs.Compare.{sameBytes}
 use Rattle.text.specs.Utf8.{isUtf8}
-use Rattle.text.proofs.CompareLaws.{equal-same}
+use Rattle.key_order.proofs.CompareLaws.{equal-same}
 use Rattle.layout.specs.Kind.{kindKnown, valueKind, tableKind}
 use Rattle.layout.specs.Limits.{longestKey, deepest}
 use Rattle.layout.specs.Item.{noItem}

@@ -8,7 +8,7 @@ use borrow.Author.Tests.{ltb-true, ltb-false, le-ltb, lt-ltb}
 use lib.Dec.{ltb}
 use Rattle.words.specs.Store.{part}
 use Rattle.text.specs.Utf8.{isUtf8}
-use Rattle.text.specs.Prefix.{endsPast, nextEnd}
+use Rattle.key_order.specs.Prefix.{endsPast, nextEnd}
 use Rattle.layout.specs.declared.refusal.Refusal.{Refusal}
 use Rattle.model.specs.declared.Inserted.{Inserted}
 use Rattle.layout.specs.Limits.{longestKey, mostItems}
@@ -23,8 +23,8 @@ use lib.ListN.{length, take, getD, set, length-set, length-append, drop-of-lengt
 use lib.Seq.{drop-append-seam}
 use Rattle.words.specs.Choice.{pick}
 use Rattle.words.proofs.ChoiceLaws.{pick-true, pick-false}
-use Rattle.text.specs.Prefix.{prefixes}
-use Rattle.text.proofs.PrefixLaws.{next-within, next-rises}
+use Rattle.key_order.specs.Prefix.{prefixes}
+use Rattle.key_order.proofs.PrefixLaws.{next-within, next-rises}
 use Rattle.layout.specs.declared.refusal.Refusal.the-variants.{TooManyItems, ArenaFull, NotContainer, NestedTooDeep}
 use Rattle.layout.specs.Item.{noItem}
 use Rattle.model.specs.Table.{Content, Entry, entryAt}

@@ -11,8 +11,8 @@ use lib.Dec.{eqb, ltb}
 use lib.ListN.{length, getD}
 use Rattle.words.specs.Choice.{pick}
 use Rattle.words.proofs.ChoiceLaws.{both-hold, not-both}
-use Rattle.text.specs.Compare.{sameBytes}
-use Rattle.text.proofs.CompareLaws.{same-equal, same-refl}
+use Rattle.key_order.specs.Compare.{sameBytes}
+use Rattle.key_order.proofs.CompareLaws.{same-equal, same-refl}
 use Rattle.model.specs.Table.{Entry, noEntry, entryAt}
 use Rattle.model.specs.Walk.{findKey, isThere}
 use Rattle.build_memory.specs.Memory.{itemTotal}

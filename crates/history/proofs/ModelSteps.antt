@@ -8,7 +8,7 @@ use mathlib.Core.Bool.{Bool, true, false, _||_}
 use borrow.Author.Tests.{eqb-true, eqb-false, ne-eqb, lt-ltb}
 use lib.Dec.{eqb}
 use Rattle.text.specs.Utf8.{isUtf8}
-use Rattle.text.specs.Prefix.{endsPast, nextEnd}
+use Rattle.key_order.specs.Prefix.{endsPast, nextEnd}
 use Rattle.layout.specs.Kind.{kindKnown, valueKind, tableKind, containerKind}
 use Rattle.layout.specs.declared.kind.Kind.{Kind}
 use Rattle.layout.specs.Limits.{longestKey, mostItems}

@@ -12,8 +12,8 @@ use lib.ListN.{length, take, length-append}
 use lib.Seq.{length-take-le, take-length}
 use Rattle.words.specs.Choice.{pick}
 use Rattle.words.proofs.ChoiceLaws.{pick-true, pick-false}
-use Rattle.text.specs.Prefix.{prefixes, endsPast, nextEnd}
-use Rattle.text.proofs.PrefixLaws.{past-last, next-within, next-rises}
+use Rattle.key_order.specs.Prefix.{prefixes, endsPast, nextEnd}
+use Rattle.key_order.proofs.PrefixLaws.{past-last, next-within, next-rises}
 use Rattle.model.specs.Table.{Content, Entry, entryAt, isContainer}
 use Rattle.model.specs.Walk.{findKey, isThere, entry, putKey, Walked, walk, keyRoom}
 use Rattle.build_values.specs.Walk.{sum}

@@ -10,7 +10,7 @@ use lib.Dec.{eqb}
 use borrow.Author.Tests.{eqb-true, ltb-true}
 use Rattle.words.specs.Choice.{pick}
 use Rattle.words.proofs.ChoiceLaws.{both, pick-with}
-use Rattle.text.specs.Compare.{sameBytes}
+use Rattle.key_order.specs.Compare.{sameBytes}
 use Rattle.model.specs.Table.{Content, Entry, noEntry, entryAt}
 use Rattle.model.specs.Walk.{findKey, entry, putKey, Walked, walk}
 

@@ -11,7 +11,7 @@ use lib.Dec.{eqb}
 use lib.ListN.{length}
 use Rattle.words.specs.Choice.{pick}
 use Rattle.words.specs.Store.{part}
-use Rattle.words.specs.Hash.{hashOf}
+use Rattle.key_hash.specs.Hash.{hashOf}
 use Rattle.build_memory.specs.Memory.{word, leastWords, headsFrom, itemAt, headAt, linkAt, itemTotal, roomUsed, itemOlder, keyOf, Memory, memory, buckets}
 use Rattle.build_memory.specs.Item.{Stored, makeItem}
 use Rattle.build_memory.proofs.MadeLaws.{made-length, made-arena, made-items, made-used, made-low, made-head, other-head, its-word, other-word, made-behind, old-part, key-part, value-part}

@@ -9,7 +9,7 @@ use borrow.Author.Tests.{eqb-true, eqb-false}
 use lib.Dec.{eqb}
 use lib.ListN.{length}
 use Rattle.words.specs.Store.{part, putAt}
-use Rattle.words.specs.Hash.{hashOf}
+use Rattle.key_hash.specs.Hash.{hashOf}
 use Rattle.words.proofs.StoreLaws.{length-put, get-put, get-before, get-after, part-put, part-before}
 use Rattle.build_memory.specs.Memory.{word, itemAt, headAt, linkAt, itemTotal, roomUsed, itemTable, keyOf, Memory, memory, buckets}
 use Rattle.build_memory.specs.Item.{Stored, replaceItem}

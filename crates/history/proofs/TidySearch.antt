@@ -9,10 +9,10 @@ use borrow.Author.Tests.{eqb-true, eqb-false, eq-eqb, ne-eqb}
 use lib.Dec.{eqb}
 use lib.ListN.{length}
 use Rattle.words.specs.Choice.{pick}
-use Rattle.words.specs.Hash.{hashOf}
+use Rattle.key_hash.specs.Hash.{hashOf}
 use Rattle.words.proofs.ChoiceLaws.{both, pick-with}
-use Rattle.text.specs.Compare.{sameBytes}
-use Rattle.text.proofs.CompareLaws.{same-equal, same-refl}
+use Rattle.key_order.specs.Compare.{sameBytes}
+use Rattle.key_order.proofs.CompareLaws.{same-equal, same-refl}
 use Rattle.build_memory.specs.Memory.{buckets, itemTotal, itemTable, itemHash, itemOlder, keySize, keyOf}
 use Rattle.build_memory.specs.Find.{isItem, seek, findKey}
 use Rattle.build_memory.proofs.MeaningLaws.{key-length}

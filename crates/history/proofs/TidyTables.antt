@@ -5,7 +5,7 @@ use mathlib.Core.Path.{_≡_, sym, ap, _∙_, fun-ext}
 use mathlib.Core.List.{List, [], _∷_}
 use lib.ListN.{length}
 use Rattle.words.specs.Store.{putAt, copies}
-use Rattle.words.specs.Hash.{hashOf}
+use Rattle.key_hash.specs.Hash.{hashOf}
 use Rattle.words.proofs.StoreLaws.{length-put, get-put, get-before, length-copies, get-copies}
 use Rattle.layout.specs.Item.{noItem}
 use Rattle.build_memory.specs.Memory.{word, buckets, links, leastWords, linksFrom, headsFrom, itemAt, headAt, linkAt, tableTotal, itemTotal, roomUsed, keyOf, freshWords}

@@ -10,8 +10,8 @@ use lib.Dec.{eqb}
 use lib.ListN.{length, take, drop, getD, length-drop}
 use lib.Seq.{getD-drop}
 use Rattle.words.specs.Choice.{pick}
-use Rattle.text.specs.Prefix.{endsPast, nextFrom, nextEnd}
-use Rattle.text.proofs.PrefixLaws.{next-low, next-past}
+use Rattle.key_order.specs.Prefix.{endsPast, nextFrom, nextEnd}
+use Rattle.key_order.proofs.PrefixLaws.{next-low, next-past}
 use Rattle.build_memory.specs.Memory.{itemTotal, itemKind}
 use Rattle.build_memory.specs.Find.{findKey}
 use Rattle.build_values.specs.declared.walk.Way.{Way}

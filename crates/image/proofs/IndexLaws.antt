@@ -6,9 +6,9 @@ use mathlib.Core.List.{List, [], _∷_, map}
 use Prim.Native.Nat.{ℕ, zero, suc, _-_, _%_, _≤_, _<_}
 use native.Mathlib.Omega.{arith}
 use lib.ListN.{length, getD, length-map}
-use Rattle.words.specs.Hash.{hashBy}
-use Rattle.text.specs.Order.{precedes}
-use Rattle.text.proofs.OrderLaws.{total}
+use Rattle.key_hash.specs.Hash.{hashBy}
+use Rattle.key_order.specs.Order.{precedes}
+use Rattle.key_order.proofs.OrderLaws.{total}
 use Rattle.model.specs.Table.{Rows, times, Has}
 use Rattle.image.specs.Index.{keyOrder, hashesOf, bucketOf, byBucket, bucketStart, byIndex, itemOf, indexIn, laidIndex}
 use Rattle.image.specs.Indexing.{Each, Indexing}

@@ -7,8 +7,8 @@ use Prim.Native.Nat.{ℕ, zero, suc, _-_, _<_}
 use native.Mathlib.Omega.{arith}
 use lib.ListN.{length, getD}
 use Rattle.words.proofs.ChoiceLaws.{pick-with, clash, eq-or-ne}
-use Rattle.text.specs.Order.{precedes}
-use Rattle.text.proofs.OrderLaws.{transitive, total, asymmetric}
+use Rattle.key_order.specs.Order.{precedes}
+use Rattle.key_order.proofs.OrderLaws.{transitive, total, asymmetric}
 use Rattle.model.specs.Table.{Rows, times, Has}
 use Rattle.image.specs.Index.{insertKey, sortKeys, keyOrder}
 use Rattle.image.specs.Indexing.{Ascending}

@@ -4,7 +4,7 @@ use mathlib.Core.Path.{_≡_}
 use mathlib.Core.List.{List, [], _++_}
 use lib.ListN.{length}
 use Rattle.words.specs.Store.{zeros}
-use Rattle.words.specs.Hash.{hashBy}
+use Rattle.key_hash.specs.Hash.{hashBy}
 use Rattle.layout.specs.Limits.{deepest}
 use Rattle.layout.specs.Kind.{kindByte}
 use Rattle.layout.specs.Sizes.{headerSize, headSize, bucketSize, recordSize}

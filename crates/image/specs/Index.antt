@@ -4,8 +4,8 @@ use mathlib.Core.List.{List, [], _∷_, _++_, map}
 use lib.Dec.{eqb}
 use lib.ListN.{length, getD}
 use Rattle.words.specs.Choice.{pick}
-use Rattle.words.specs.Hash.{hashBy}
-use Rattle.text.specs.Order.{precedes}
+use Rattle.key_hash.specs.Hash.{hashBy}
+use Rattle.key_order.specs.Order.{precedes}
 use Rattle.model.specs.Table.{Rows}
 
 -- an item inserted among items in ascending key order

@@ -6,7 +6,7 @@ use mathlib.Core.List.{List, [], _∷_}
 use lib.Dec.{ltb}
 use lib.ListN.{length, getD}
 use Rattle.words.specs.Choice.{pick}
-use Rattle.text.specs.Order.{precedes}
+use Rattle.key_order.specs.Order.{precedes}
 use Rattle.model.specs.Table.{Rows, Has}
 use Rattle.image.specs.Index.{bucketOf, runsBelow}
 

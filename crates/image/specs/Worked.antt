@@ -7,9 +7,9 @@ use Rattle.words.specs.Bits.{bitPut}
 use Rattle.words.specs.Choice.{pick}
 use Rattle.words.specs.Store.{copies}
 use Rattle.words.specs.Field.{spelled}
-use Rattle.words.specs.Hash.{hashFrom, hashBy, plain}
+use Rattle.key_hash.specs.Hash.{hashFrom, hashBy, plain}
 use Rattle.words.specs.Align.{aligned}
-use Rattle.text.specs.Order.{precedes}
+use Rattle.key_order.specs.Order.{precedes}
 use Rattle.layout.specs.Item.{noItem}
 use Rattle.model.specs.Table.{Content, State, entryAt, isChild, fragmentAt, membersBelow, rowsOf}
 use Rattle.model.specs.Walk.{entry}

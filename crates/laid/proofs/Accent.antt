@@ -8,25 +8,25 @@ use Rattle.words.specs.Field.{field, spelled}
 use Rattle.words.specs.Field as fields
 use Rattle.words.specs.Align.{aligned}
 use Rattle.words.specs.Bits.{bloomCount}
-use Rattle.words.specs.Hash.{hashFrom, hashBy, plain, signed}
+use Rattle.key_hash.specs.Hash.{hashFrom, hashBy, plain, signed}
 use Rattle.words.specs.Store.{copies}
-use Rattle.text.specs.Compare.{sameBytes}
-use Rattle.text.specs.Order.{precedes}
+use Rattle.key_order.specs.Compare.{sameBytes}
+use Rattle.key_order.specs.Order.{precedes}
 use Rattle.text.specs.Utf8.{between, tail, isTwo, startsThree, startsFour, firstOf, sequenceLen, stepLen, oneMore, goodFrom, firstBad, isUtf8}
 use Rattle.layout.specs.Pointer.{openPointer}
 use Rattle.layout.specs.Table.{tableOf, tableIn, openTable}
 use Rattle.layout.specs.Item.{noItem, itemAt}
 use Rattle.layout.specs.Sizes.{chunkSize}
 use Rattle.read.specs.declared.lookup.Looked.{Looked}
-use Rattle.read.specs.Chain.{fragmentOf, parentOf, afterPointer, climbFrom, append, joinStep, keyOf, names}
-use Rattle.read.specs.Find as find
-use Rattle.read.specs.Find.{rust, bloomPasses, bucketWord, runOf, itemMatches, firstFrom, findItem}
+use Rattle.read_chain.specs.Chain.{fragmentOf, parentOf, afterPointer, climbFrom, append, joinStep, keyOf, names}
+use Rattle.read_find.specs.Find as find
+use Rattle.read_find.specs.Find.{rust, bloomPasses, bucketWord, runOf, itemMatches, firstFrom, findItem}
 use Rattle.read_listing.specs.Forms.{glib}
 use Rattle.read.specs.Lookup.{atFound, lookupIn, atOpened, lookupItem, atItem, atPointer, lookupValue}
 use Rattle.read.specs.Lookup as lookup
 use Rattle.read.specs.Answer.{lookedNumber}
-use Rattle.check_table.specs.declared.check.Checked.{Checked}
-use Rattle.check_table.specs.Rules.{isJoined, keyLists, indexOf, soughtAt, isAt, keyFinds, isInside, valueOpens, childrenGood, parentGood, parentKeeps, brokenRule, firstBroken, explained, checkIn, checkOpened, checkTable}
+use Rattle.check_rules.specs.declared.checked.Checked.{Checked}
+use Rattle.check_rules.specs.Rules.{isJoined, keyLists, indexOf, soughtAt, isAt, keyFinds, isInside, valueOpens, childrenGood, parentGood, parentKeeps, brokenRule, firstBroken, explained, checkIn, checkOpened, checkTable}
 use Rattle.model.specs.Table.{Content, State, entryAt, membersBelow, rowsOf, isChild, fragmentAt}
 use Rattle.model.specs.Walk.{entry}
 use Rattle.image.specs.Index.{insertKey, sortKeys, keyOrder, hashesOf, bucketOf, run, runsBelow, byBucket, bucketStart, byIndex, itemOf, indexIn, laidIndex}

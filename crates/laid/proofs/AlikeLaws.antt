@@ -9,10 +9,10 @@ use Rattle.layout.specs.declared.refusal.Refusal.the-variants.{KeyNotUtf8}
 use Rattle.layout.specs.declared.table.Table.{Table}
 use Rattle.layout.specs.declared.table.Opened.{Opened}
 use Rattle.layout.specs.Limits.{longestFile}
-use Rattle.read.specs.declared.manner.Lookup.{Lookup}
-use Rattle.read.specs.declared.lookup.Found.{Found}
+use Rattle.read_find.specs.declared.manner.Lookup.{Lookup}
+use Rattle.read_find.specs.declared.find.Found.{Found}
 use Rattle.read.specs.declared.lookup.Sought.{Sought}
-use Rattle.read.specs.Find.{findItem}
+use Rattle.read_find.specs.Find.{findItem}
 use Rattle.read.specs.Lookup.{atFound, lookupIn, atOpened, lookupItem, atItem, valueOf, nestedOf, lookupValue, lookupTable}
 use Rattle.check_table.specs.Strict.{mannerBy}
 use Rattle.model.specs.Table.{State}

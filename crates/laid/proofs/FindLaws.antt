@@ -11,14 +11,14 @@ use lib.ListN.{length}
 use borrow.Author.Tests.{ltb-true, eqb-false}
 use Rattle.words.specs.Choice.{pick}
 use Rattle.words.specs.Field.{wordAt}
-use Rattle.words.specs.Hash.{hashBy}
+use Rattle.key_hash.specs.Hash.{hashBy}
 use Rattle.words.specs.Bits.{bitSet}
 use Rattle.layout.specs.declared.table.Table.{Table}
 use Rattle.layout.specs.Limits.{longestFile}
 use Rattle.layout.specs.Item.{itemAt}
-use Rattle.read.specs.declared.lookup.Found.{Found}
-use Rattle.read.specs.Chain.{Joined, keyOf}
-use Rattle.read.specs.Find.{Manner, bloomPasses, bucketWord, runOf, findItem}
+use Rattle.read_find.specs.declared.find.Found.{Found}
+use Rattle.read_chain.specs.Chain.{Joined, keyOf}
+use Rattle.read_find.specs.Find.{Manner, bloomPasses, bucketWord, runOf, findItem}
 use Rattle.read_listing.proofs.Plain.{runFor, found-names, not-found}
 use Rattle.image.specs.Plan.{Plan, firstWord, filterWord, planBytes}
 use Rattle.image.specs.Laid.{Holds}

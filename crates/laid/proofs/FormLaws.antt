@@ -7,7 +7,7 @@ use native.Mathlib.Omega.{arith}
 use lib.ListN.{length, getD}
 use Rattle.words.specs.Choice.{pick}
 use Rattle.words.specs.Store.{zeros}
-use Rattle.words.specs.Hash.{plain, signed, hashBy}
+use Rattle.key_hash.specs.Hash.{plain, signed, hashBy}
 use Rattle.text.specs.Ascii.{isAscii}
 use Rattle.text.proofs.AsciiLaws.{ascii-hash}
 use Rattle.layout.specs.Item.{noItem}

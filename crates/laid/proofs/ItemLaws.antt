@@ -5,15 +5,15 @@ use Prim.Native.Nat.{ℕ, zero, suc, _+_, _%_, _^_, _≤_, _<_}
 use native.Mathlib.Omega.{arith}
 use lib.ListN.{length}
 use Rattle.words.specs.Align.{aligned}
-use Rattle.words.specs.Hash.{hashBy}
+use Rattle.key_hash.specs.Hash.{hashBy}
 use Rattle.layout.specs.declared.table.Opened.{Opened}
 use Rattle.layout.specs.Limits.{longestFile}
 use Rattle.layout.specs.Table.{openTable}
 use Rattle.layout.specs.Item.{itemAt}
 use Rattle.layout.specs.Kind.{kindByte}
-use Rattle.read.specs.declared.lookup.Found.{Found}
-use Rattle.read.specs.Chain.{Joined, keyOf}
-use Rattle.read.specs.Find.{findItem}
+use Rattle.read_find.specs.declared.find.Found.{Found}
+use Rattle.read_chain.specs.Chain.{Joined, keyOf}
+use Rattle.read_find.specs.Find.{findItem}
 use Rattle.model.specs.Table.{Content, State, Has, kindOf}
 use Rattle.image.specs.Index.{indexIn, laidIndex, itemOf}
 use Rattle.layout.specs.Sizes.{chunkSize}

@@ -10,7 +10,7 @@ use Rattle.text.specs.Utf8.{isUtf8}
 use Rattle.layout.specs.declared.table.Table.{Table}
 use Rattle.layout.specs.Limits.{longestFile}
 use Rattle.layout.specs.Item.{itemAt, noItem}
-use Rattle.read.specs.Chain.{fragmentOf, Joined, append, keyOf}
+use Rattle.read_chain.specs.Chain.{fragmentOf, Joined, append, keyOf}
 use Rattle.read_listing.proofs.AnswerLaws.{key-root, key-up}
 use Rattle.image.specs.Plan.{Plan, planBytes}
 use Rattle.image.specs.Laid.{Holds}

@@ -12,9 +12,9 @@ use Rattle.layout.specs.Limits.{longestFile}
 use Rattle.layout.specs.Item.{itemAt, noItem}
 use Rattle.layout.specs.Kind.{kindByte}
 use Rattle.layout.proofs.AnswerLaws.{pointer-inside-is}
-use Rattle.read.specs.declared.lookup.Found.{Found}
+use Rattle.read_find.specs.declared.find.Found.{Found}
 use Rattle.read_listing.specs.Children.{childAt, childCount}
-use Rattle.check_table.specs.Rules.{indexOf}
+use Rattle.check_rules.specs.Rules.{indexOf}
 use Rattle.check_table.specs.Sound.{ValueGood, InList, SoundIn}
 use Rattle.model.specs.Table.{Content, State, Has, kindOf, isContainer, isChild}
 use Rattle.image.specs.Index.{indexIn, itemOf, laidIndex}

@@ -4,8 +4,8 @@ use native.Mathlib.Omega.{arith}
 use mathlib.Core.Path.{_≡_, refl}
 use mathlib.Core.Logic.{_⊎_, inl, inr}
 use Rattle.words.specs.Bits.{bloomShift}
-use Rattle.read.specs.declared.manner.Lookup.{Lookup}
-use Rattle.read.specs.Find.{shiftOf}
+use Rattle.read_find.specs.declared.manner.Lookup.{Lookup}
+use Rattle.read_find.specs.Find.{shiftOf}
 use Rattle.check_table.specs.Strict.{mannerBy}
 use Rattle.image.specs.Plan.{firstWord}
 use Rattle.laid.specs.Back.{Lay}

@@ -14,7 +14,7 @@ use Rattle.layout.specs.Table.{openTable}
 use Rattle.layout.specs.Item.{itemAt}
 use Rattle.layout.specs.Kind.{kindByte}
 use Rattle.read.specs.declared.lookup.Looked.{Looked}
-use Rattle.read.specs.Chain.{Joined}
+use Rattle.read_chain.specs.Chain.{Joined}
 use Rattle.read.specs.Lookup.{lookupValue, lookupTable}
 use Rattle.read_listing.specs.Listing.{keyAt}
 use Rattle.read.specs.Answer.{lookedNumber, lookedBytes}

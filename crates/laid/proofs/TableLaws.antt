@@ -9,9 +9,9 @@ use native.Mathlib.Omega.{arith}
 use lib.Dec.{ltb}
 use lib.ListN.{length, drop, length-drop, take-append-drop}
 use Rattle.words.specs.Choice.{pick}
-use Rattle.words.specs.Hash.{hashBy}
+use Rattle.key_hash.specs.Hash.{hashBy}
 use Rattle.words.proofs.ChoiceLaws.{pick-with}
-use Rattle.words.proofs.HashLaws.{hash-below}
+use Rattle.key_hash.proofs.HashLaws.{hash-below}
 use Rattle.text.specs.Utf8.{isUtf8}
 use Rattle.text.proofs.Utf8Parts.{utf8-rest}
 use Rattle.layout.specs.Item.{noItem}

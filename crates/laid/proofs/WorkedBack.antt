@@ -9,15 +9,15 @@ use lib.ListN.{length}
 use Rattle.words.specs.Choice.{pick}
 use Rattle.words.specs.Store.{copies}
 use Rattle.words.specs.Field.{spelled}
-use Rattle.words.specs.Hash.{hashFrom, hashBy, plain}
+use Rattle.key_hash.specs.Hash.{hashFrom, hashBy, plain}
 use Rattle.words.specs.Align.{aligned}
-use Rattle.text.specs.Order.{precedes}
+use Rattle.key_order.specs.Order.{precedes}
 use Rattle.text.specs.Utf8.{between, tail, isTwo, startsThree, startsFour, firstOf, sequenceLen, stepLen, oneMore, goodFrom, firstBad, isUtf8}
 use Rattle.read.specs.declared.lookup.Looked.{Looked}
 use Rattle.read.specs.Lookup.{lookupValue, lookupTable}
 use Rattle.read.specs.Answer.{lookedBytes}
-use Rattle.read.specs.declared.manner.Lookup.{Lookup}
-use Rattle.read.specs.Find.{rust}
+use Rattle.read_find.specs.declared.manner.Lookup.{Lookup}
+use Rattle.read_find.specs.Find.{rust}
 use Rattle.model.specs.Table.{Content, times, Has, entryAt, isChild, fragmentAt, membersBelow, rowsOf}
 use Rattle.image.specs.Index.{insertKey, sortKeys, keyOrder, hashesOf, bucketOf, run, runsBelow, byBucket, bucketStart, byIndex, itemOf, indexIn, laidIndex}
 use Rattle.layout.specs.Sizes.{chunkSize}

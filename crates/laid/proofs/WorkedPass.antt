@@ -4,13 +4,13 @@ use mathlib.Core.List.{List, [], _∷_}
 use Prim.Native.Nat.{ℕ, _+_}
 use native.Mathlib.Omega.{arith}
 use Rattle.words.specs.Choice.{pick}
-use Rattle.words.specs.Hash.{plain}
+use Rattle.key_hash.specs.Hash.{plain}
 use Rattle.read.specs.declared.lookup.Looked.{Looked}
 use Rattle.read.specs.Lookup.{lookupTable}
-use Rattle.read.specs.declared.manner.Lookup.{Lookup}
-use Rattle.read.specs.Find.{rust}
-use Rattle.check_table.specs.declared.check.Checked.{Checked}
-use Rattle.check_table.specs.Rules.{checkTable}
+use Rattle.read_find.specs.declared.manner.Lookup.{Lookup}
+use Rattle.read_find.specs.Find.{rust}
+use Rattle.check_rules.specs.declared.checked.Checked.{Checked}
+use Rattle.check_rules.specs.Rules.{checkTable}
 use Rattle.model.specs.Table.{times, entryAt, membersBelow, rowsOf}
 use Rattle.layout.specs.Sizes.{chunkSize}
 use Rattle.image.specs.Image.{imageOf}

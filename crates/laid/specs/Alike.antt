@@ -4,7 +4,7 @@ use mathlib.Core.Path.{_≡_}
 use mathlib.Core.List.{List}
 use lib.ListN.{length}
 use Rattle.layout.specs.Limits.{longestFile}
-use Rattle.read.specs.declared.manner.Lookup.{Lookup}
+use Rattle.read_find.specs.declared.manner.Lookup.{Lookup}
 use Rattle.read.specs.declared.lookup.Looked.{Looked}
 use Rattle.read.specs.Lookup.{lookupValue, lookupTable}
 use Rattle.check_table.specs.Strict.{mannerBy}

@@ -2,7 +2,7 @@
 use Prim.Native.Nat.{ℕ, zero, suc}
 use mathlib.Core.Path.{_≡_}
 use mathlib.Core.Bool.{true}
-use Rattle.words.specs.Hash.{plain, signed}
+use Rattle.key_hash.specs.Hash.{plain, signed}
 use Rattle.text.specs.Ascii.{isAscii}
 use Rattle.layout.specs.Limits.{deepest}
 use Rattle.model.specs.Table.{Content, State, Has}

@@ -5,7 +5,7 @@ use mathlib.Core.Bool.{true}
 use mathlib.Core.List.{List, _++_}
 use lib.Dec.{ltb}
 use Rattle.words.specs.Choice.{pick}
-use Rattle.words.specs.Hash.{hashBy}
+use Rattle.key_hash.specs.Hash.{hashBy}
 use Rattle.text.specs.Utf8.{isUtf8}
 use Rattle.layout.specs.Item.{noItem}
 use Rattle.image.specs.Plan.{Plan}

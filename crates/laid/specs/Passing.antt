@@ -8,8 +8,8 @@ use Rattle.words.specs.Store.{putAt}
 use Rattle.layout.specs.Limits.{longestFile, deepest}
 use Rattle.read.specs.declared.lookup.Looked.{Looked}
 use Rattle.read.specs.Lookup.{lookupTable}
-use Rattle.check_table.specs.declared.check.Checked.{Checked}
-use Rattle.check_table.specs.Rules.{checkTable}
+use Rattle.check_rules.specs.declared.checked.Checked.{Checked}
+use Rattle.check_rules.specs.Rules.{checkTable}
 use Rattle.model.specs.Table.{Content, State, Has}
 use Rattle.layout.specs.Sizes.{headerSize}
 use Rattle.image.specs.Image.{tableBytes, imageOf}

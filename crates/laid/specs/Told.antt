@@ -9,11 +9,11 @@ use Rattle.text.specs.Utf8.{isUtf8}
 use Rattle.layout.specs.declared.table.Opened.{Opened}
 use Rattle.layout.specs.Table.{openTable}
 use Rattle.read.specs.declared.lookup.Looked.{Looked}
-use Rattle.read.specs.Chain.{Joined}
+use Rattle.read_chain.specs.Chain.{Joined}
 use Rattle.read.specs.Lookup.{lookupValue, lookupTable}
 use Rattle.read_listing.specs.Listing.{keyAt}
 use Rattle.read.specs.Answer.{lookedNumber}
-use Rattle.read.specs.Find.{Manner}
+use Rattle.read_find.specs.Find.{Manner}
 use Rattle.model.specs.Table.{Content, State, Has}
 use Rattle.image.specs.Index.{laidIndex}
 use Rattle.laid.specs.Back.{Lay, endOf, tableOpened}

@@ -6,5 +6,3 @@ pub mod Pointer
 pub mod Table
 pub mod Item
 pub mod Answer
-pub mod Header
-pub mod Worked

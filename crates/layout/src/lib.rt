@@ -1,5 +1,4 @@
 // How a file is laid out: limits and sizes, the header, refusals and their numbers, kinds, pointers, items, tables.
-pub mod header;
 pub mod item;
 pub mod kind;
 pub mod limits;

@@ -11,7 +11,7 @@ use borrow.Author.Tests.{eqb-false, ne-eqb}
 use Rattle.words.specs.Choice.{pick}
 use Rattle.words.proofs.ChoiceLaws.{pick-with}
 use Rattle.text.specs.Utf8.{isUtf8}
-use Rattle.text.specs.Prefix.{prefixes}
+use Rattle.key_order.specs.Prefix.{prefixes}
 use Rattle.text.specs.Bad.{BadText}
 use Rattle.text.proofs.BadLaws.{bad-text, bad-no-utf8}
 use Rattle.layout.specs.Limits.{deepest}

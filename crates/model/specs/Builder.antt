@@ -7,7 +7,7 @@ use lib.Dec.{eqb, ltb, leb}
 use lib.ListN.{length, getD, set, drop}
 use Rattle.words.specs.Choice.{pick}
 use Rattle.text.specs.Utf8.{firstBad, isUtf8}
-use Rattle.text.specs.Prefix.{prefixes}
+use Rattle.key_order.specs.Prefix.{prefixes}
 use Rattle.layout.specs.Limits.{longestKey, mostItems, mostTables, deepest}
 use Rattle.layout.specs.declared.refusal.Refusal.{Refusal}
 use Rattle.layout.specs.declared.refusal.Refusal.the-variants.{KeyNotUtf8, KeyTooLong, NotContainer, TooManyItems, ArenaFull, TableUnknown, TableInItself, NestedTooDeep, TooManyTables, SeparatorOutside}

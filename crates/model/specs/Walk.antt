@@ -5,7 +5,7 @@ use mathlib.Core.List.{List, [], _∷_, _++_}
 use lib.Dec.{eqb, ltb}
 use lib.ListN.{length, set}
 use Rattle.words.specs.Choice.{pick}
-use Rattle.text.specs.Compare.{sameBytes}
+use Rattle.key_order.specs.Compare.{sameBytes}
 use Rattle.model.specs.Table.{Content, Entry, entryAt, isContainer}
 
 -- the index of the item of table t with a key, or the count of the items where there is none

@@ -4,9 +4,9 @@ use mathlib.Core.Path.{_≡_, refl}
 use mathlib.Core.Bool.{false}
 use mathlib.Core.List.{List, [], _∷_}
 use Rattle.words.specs.Choice.{pick}
-use Rattle.text.specs.Compare.{sameBytes}
+use Rattle.key_order.specs.Compare.{sameBytes}
 use Rattle.text.specs.Utf8.{between, tail, isTwo, startsThree, startsFour, firstOf, sequenceLen, stepLen, oneMore, goodFrom, firstBad, isUtf8}
-use Rattle.text.specs.Prefix.{endsFrom, prefixes}
+use Rattle.key_order.specs.Prefix.{endsFrom, prefixes}
 use Rattle.layout.specs.declared.kind.Kind.{Kind}
 use Rattle.layout.specs.declared.refusal.Refusal.{Refusal}
 use Rattle.model.specs.declared.Inserted.{Inserted}

@@ -9,10 +9,6 @@ use Rattle.gvdb.proofs.header.gvdb_read_header.Kinds as read-header-kinds
 use Rattle.gvdb.proofs.header.gvdb_read_header.Reads as read-header-reads
 use Rattle.gvdb.proofs.header.gvdb_lay_header.Kinds as lay-header-kinds
 use Rattle.gvdb.proofs.header.gvdb_lay_header.Reads as lay-header-reads
-use Rattle.gvdb.proofs.manner.form_of.Kinds as form-of-kinds
-use Rattle.gvdb.proofs.manner.form_of.Reads as form-of-reads
-use Rattle.gvdb.proofs.manner.manner_of.Kinds as manner-of-kinds
-use Rattle.gvdb.proofs.manner.manner_of.Reads as manner-of-reads
 use Rattle.gvdb.proofs.building.gvdb_memory_words.Kinds as memory-words-kinds
 use Rattle.gvdb.proofs.building.gvdb_memory_words.Reads as memory-words-reads
 use Rattle.gvdb.proofs.building.gvdb_fresh.Kinds as fresh-kinds
@@ -54,12 +50,6 @@ read-header-unique κs a s t x y p q = p ∙ sym q
 
 pub lay-header-unique : One lay-header-kinds.ps lay-header-kinds.r lay-header-reads.Post (λ κs s t x y. (s ≡ t) × (now (x .0) ≡ now (y .0)))
 lay-header-unique κs a s t x y p q = (p .0 ∙ sym (q .0), p .1 ∙ sym (q .1))
-
-pub form-of-unique : OneAnswer form-of-kinds.ps form-of-kinds.r form-of-reads.Post
-form-of-unique κs a s t x y p q = p ∙ sym q
-
-pub manner-of-unique : OneAnswer manner-of-kinds.ps manner-of-kinds.r manner-of-reads.Post
-manner-of-unique κs a s t x y p q = p ∙ sym q
 
 pub memory-words-unique : OneAnswer memory-words-kinds.ps memory-words-kinds.r memory-words-reads.Post
 memory-words-unique κs a s t x y p q = p ∙ sym q

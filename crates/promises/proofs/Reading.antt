@@ -1,19 +1,19 @@
--- Looking up, listing and checking: read, check_keys and check_table.
+-- Looking up, listing and checking: the crates read, read_listing, check_rules and check_table.
 use mathlib.Core.Path.{_≡_, sym, _∙_}
 use denote.Ref.{now}
 use Rattle.promises.specs.One.{One, OneAnswer}
-use Rattle.read.proofs.chain.parent_of.Kinds as parent-of-kinds
-use Rattle.read.proofs.chain.parent_of.Reads as parent-of-reads
-use Rattle.read.proofs.chain.climb.Kinds as climb-kinds
-use Rattle.read.proofs.chain.climb.Reads as climb-reads
-use Rattle.read.proofs.chain.chain_names.Kinds as chain-names-kinds
-use Rattle.read.proofs.chain.chain_names.Reads as chain-names-reads
-use Rattle.read.proofs.lookup.bloom_passes.Kinds as bloom-passes-kinds
-use Rattle.read.proofs.lookup.bloom_passes.Reads as bloom-passes-reads
-use Rattle.read.proofs.lookup.run_of.Kinds as run-of-kinds
-use Rattle.read.proofs.lookup.run_of.Reads as run-of-reads
-use Rattle.read.proofs.lookup.find_item.Kinds as find-item-kinds
-use Rattle.read.proofs.lookup.find_item.Reads as find-item-reads
+use Rattle.read_chain.proofs.chain.parent_of.Kinds as parent-of-kinds
+use Rattle.read_chain.proofs.chain.parent_of.Reads as parent-of-reads
+use Rattle.read_chain.proofs.chain.climb.Kinds as climb-kinds
+use Rattle.read_chain.proofs.chain.climb.Reads as climb-reads
+use Rattle.read_chain.proofs.chain.chain_names.Kinds as chain-names-kinds
+use Rattle.read_chain.proofs.chain.chain_names.Reads as chain-names-reads
+use Rattle.read_find.proofs.find.bloom_passes.Kinds as bloom-passes-kinds
+use Rattle.read_find.proofs.find.bloom_passes.Reads as bloom-passes-reads
+use Rattle.read_find.proofs.find.run_of.Kinds as run-of-kinds
+use Rattle.read_find.proofs.find.run_of.Reads as run-of-reads
+use Rattle.read_find.proofs.find.find_item.Kinds as find-item-kinds
+use Rattle.read_find.proofs.find.find_item.Reads as find-item-reads
 use Rattle.read.proofs.lookup.lookup_in.Kinds as lookup-in-kinds
 use Rattle.read.proofs.lookup.lookup_in.Reads as lookup-in-reads
 use Rattle.read.proofs.lookup.value_of.Kinds as value-of-kinds
@@ -34,10 +34,14 @@ use Rattle.read_listing.proofs.children.child_count.Kinds as child-count-kinds
 use Rattle.read_listing.proofs.children.child_count.Reads as child-count-reads
 use Rattle.read_listing.proofs.listing.Cursor.next_child.Kinds as next-child-kinds
 use Rattle.read_listing.proofs.listing.Cursor.next_child.Reads as next-child-reads
-use Rattle.check_keys.proofs.tally.joined_key.Kinds as joined-key-kinds
-use Rattle.check_keys.proofs.tally.joined_key.Reads as joined-key-reads
+use Rattle.check_hash.proofs.tally.joined_key.Kinds as joined-key-kinds
+use Rattle.check_hash.proofs.tally.joined_key.Reads as joined-key-reads
 use Rattle.check_keys.proofs.search.find_joined.Kinds as find-joined-kinds
 use Rattle.check_keys.proofs.search.find_joined.Reads as find-joined-reads
+use Rattle.check_rules.proofs.rules.value_opens.Kinds as value-opens-kinds
+use Rattle.check_rules.proofs.rules.value_opens.Reads as value-opens-reads
+use Rattle.check_rules.proofs.rules.lists_it.Kinds as lists-it-kinds
+use Rattle.check_rules.proofs.rules.lists_it.Reads as lists-it-reads
 use Rattle.check_table.proofs.check.check_table.Kinds as check-table-kinds
 use Rattle.check_table.proofs.check.check_table.Reads as check-table-reads
 
@@ -99,7 +103,13 @@ joined-key-unique κs a s t x y p q = p ∙ sym q
 pub find-joined-unique : OneAnswer find-joined-kinds.ps find-joined-kinds.r find-joined-reads.Post
 find-joined-unique κs a s t x y p q = p ∙ sym q
 
--- ---- check_table
+-- ---- check_rules and check_table
+
+pub value-opens-unique : OneAnswer value-opens-kinds.ps value-opens-kinds.r value-opens-reads.Post
+value-opens-unique κs a s t x y p q = p ∙ sym q
+
+pub lists-it-unique : OneAnswer lists-it-kinds.ps lists-it-kinds.r lists-it-reads.Post
+lists-it-unique κs a s t x y p q = p ∙ sym q
 
 pub check-table-unique : OneAnswer check-table-kinds.ps check-table-kinds.r check-table-reads.Post
 check-table-unique κs a s t x y p q = p ∙ sym q

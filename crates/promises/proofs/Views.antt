@@ -38,8 +38,8 @@ use Rattle.view_part.proofs.part.opened_pointer.Kinds as opened-pointer-kinds
 use Rattle.view_part.proofs.part.opened_pointer.Reads as opened-pointer-reads
 use Rattle.view_through.proofs.through.value_bytes.Kinds as value-bytes-kinds
 use Rattle.view_through.proofs.through.value_bytes.Reads as value-bytes-reads
-use Rattle.view_through.proofs.through.layered_bytes.Kinds as layered-bytes-kinds
-use Rattle.view_through.proofs.through.layered_bytes.Reads as layered-bytes-reads
+use Rattle.view_layered.proofs.layered.layered_bytes.Kinds as layered-bytes-kinds
+use Rattle.view_layered.proofs.layered.layered_bytes.Reads as layered-bytes-reads
 use Rattle.view_through.proofs.through.nested_bytes.Kinds as nested-bytes-kinds
 use Rattle.view_through.proofs.through.nested_bytes.Reads as nested-bytes-reads
 

@@ -1,5 +1,2 @@
-pub mod ChainLaws
-pub mod MatchLaws
-pub mod FindLaws
 pub mod SoughtLaws
 pub mod LayeredLaws

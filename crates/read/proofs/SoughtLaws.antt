@@ -15,10 +15,10 @@ use Rattle.layout.specs.declared.item.Item.{Item}
 use Rattle.layout.specs.Pointer.{openPointer}
 use Rattle.layout.specs.Table.{openTable}
 use Rattle.layout.specs.Item.{itemAt}
-use Rattle.read.specs.declared.lookup.Found.{Found}
+use Rattle.read_find.specs.declared.find.Found.{Found}
 use Rattle.read.specs.declared.lookup.Sought.{Sought}
 use Rattle.read.specs.declared.lookup.Looked.{Looked}
-use Rattle.read.specs.Find.{Manner, findItem}
+use Rattle.read_find.specs.Find.{Manner, findItem}
 use Rattle.read.specs.Lookup.{atFound, lookupIn, atOpened, lookupItem, atPointer, atNested, valueOf, nestedOf, atItem, lookupValue, lookupTable}
 
 -- the table opens, the key is UTF-8, and the item is the one found

@@ -9,7 +9,7 @@ use Rattle.words.specs.Choice.{pick}
 use Rattle.read.specs.declared.lookup.Looked.{Looked}
 use Rattle.read.specs.declared.layered.Source.{Source}
 use Rattle.read.specs.declared.layered.Layered.{Layered}
-use Rattle.read.specs.Find.{Manner}
+use Rattle.read_find.specs.Find.{Manner}
 use Rattle.read.specs.Lookup.{lookupValue}
 use Rattle.read.specs.Answer.{lookedNumber}
 

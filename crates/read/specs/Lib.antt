@@ -1,5 +1,3 @@
-pub mod Chain
-pub mod Find
 pub mod Lookup
 pub mod Answer
 pub mod Layered

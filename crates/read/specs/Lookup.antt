@@ -16,10 +16,10 @@ use Rattle.layout.specs.Kind.{kindByte}
 use Rattle.layout.specs.Pointer.{openPointer}
 use Rattle.layout.specs.Table.{openTable}
 use Rattle.layout.specs.Item.{itemAt}
-use Rattle.read.specs.declared.lookup.Found.{Found}
+use Rattle.read_find.specs.declared.find.Found.{Found}
 use Rattle.read.specs.declared.lookup.Sought.{Sought}
 use Rattle.read.specs.declared.lookup.Looked.{Looked}
-use Rattle.read.specs.Find.{Manner, findItem}
+use Rattle.read_find.specs.Find.{Manner, findItem}
 
 -- 12 where nothing is found
 unfoldable pub atFound : List ℕ → Table → Found → Sought

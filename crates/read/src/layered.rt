@@ -1,22 +1,22 @@
 // A value lookup over two tables: the owner's is asked first, and the district's under it only where the owner's answers 12.
-use crate::lookup::Found;
 use crate::lookup::Looked;
-use crate::lookup::find_item;
 use crate::lookup::value_of;
-use crate::manner::Manner;
 use layout::item::item_at;
 use layout::refusal::Refusal;
 use layout::refusal::number_of;
 use layout::table::Opened;
 use layout::table::Table;
 use layout::table::open_table;
+use read_find::find::Found;
+use read_find::find::find_item;
+use read_find::manner::Manner;
 use text::utf8::first_bad;
 use text::utf8::is_utf8;
 ghost use mathlib.Core.Path.{_≡_};
 ghost use lib.Dec.{eqb};
 ghost use Rattle.text.specs.Utf8.{isUtf8};
 ghost use Rattle.layout.specs.Table.{InFile};
-ghost use Rattle.read.specs.Find.{mannerOf};
+ghost use Rattle.read_find.specs.Find.{mannerOf};
 ghost use Rattle.read.specs.Lookup.{lookupIn, valueOf, lookupValue, atItem};
 ghost use Rattle.read.specs.Answer.{lookedNumber};
 ghost use Rattle.read.specs.Layered.{layeredValue};

@@ -1,5 +1,3 @@
 // Reading a table: an item's key through its parents, and lookup of a key in one table or in one over another.
-pub mod chain;
 pub mod layered;
 pub mod lookup;
-pub mod manner;

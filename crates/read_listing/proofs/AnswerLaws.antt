@@ -21,17 +21,17 @@ use Rattle.layout.specs.Table.{openTable}
 use Rattle.layout.specs.Item.{itemAt, noItem}
 use Rattle.layout.specs.Answer.{pointedNumber, openedNumber}
 use Rattle.layout.proofs.AnswerLaws.{pointer-inside-is}
-use Rattle.read.specs.declared.lookup.Found.{Found}
+use Rattle.read_find.specs.declared.find.Found.{Found}
 use Rattle.read_listing.specs.declared.listing.Listed.{Listed}
 use Rattle.read_listing.specs.declared.children.Childed.{Childed}
-use Rattle.read.specs.Chain.{fragmentOf, parentOf, afterPointer, climbFrom, Joined, append, joinStep, keyOf}
-use Rattle.read.specs.Find.{Manner, findItem}
+use Rattle.read_chain.specs.Chain.{fragmentOf, parentOf, afterPointer, climbFrom, Joined, append, joinStep, keyOf}
+use Rattle.read_find.specs.Find.{Manner, findItem}
 use Rattle.read.specs.Lookup.{atFound, lookupIn, atOpened, lookupItem, atPointer, atNested, valueOf, nestedOf, atItem, lookupValue, lookupTable}
 use Rattle.read_listing.specs.Listing.{keyIn, keyOpened, keyAt, listed, nextValue, valueOpened, valueFrom, valueInOpened, valueAt}
 use Rattle.read_listing.specs.Children.{childAt, childCount, openList, atFragment, childNamed, childOf, childFrom, childOfSought, childInOpened, nextChild}
 use Rattle.read.specs.Answer.{lookedNumber}
 use Rattle.read_listing.specs.Answer.{listedNumber, valuedNumber, valuedItem, childedNumber, childedAt}
-use Rattle.read.proofs.ChainLaws.{climb-on}
+use Rattle.read_chain.proofs.ChainLaws.{climb-on}
 use Rattle.read_listing.proofs.ChildLaws.{list-refused, list-whole, list-uneven}
 
 -- ---- the number of an answer is that of the pointer or the table behind it

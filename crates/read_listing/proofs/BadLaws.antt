@@ -23,13 +23,13 @@ use Rattle.layout.specs.Pointer.{openPointer}
 use Rattle.layout.specs.Table.{openTable}
 use Rattle.layout.specs.Item.{itemAt}
 use Rattle.layout.proofs.AnswerLaws.{pointed-below, opened-below, pointed-low, opened-low}
-use Rattle.read.specs.declared.chain.Step.{Step}
-use Rattle.read.specs.declared.lookup.Found.{Found}
+use Rattle.read_chain.specs.declared.chain.Step.{Step}
+use Rattle.read_find.specs.declared.find.Found.{Found}
 use Rattle.read.specs.declared.lookup.Sought.{Sought}
 use Rattle.read.specs.declared.lookup.Looked.{Looked}
 use Rattle.read_listing.specs.declared.listing.Listed.{Listed}
-use Rattle.read.specs.Chain.{fragmentOf, parentOf, afterPointer, climbFrom, Joined, append, joinStep, keyOf}
-use Rattle.read.specs.Find.{Manner, findItem}
+use Rattle.read_chain.specs.Chain.{fragmentOf, parentOf, afterPointer, climbFrom, Joined, append, joinStep, keyOf}
+use Rattle.read_find.specs.Find.{Manner, findItem}
 use Rattle.read.specs.Lookup.{atFound, lookupIn, atOpened, lookupItem, valueOf, nestedOf, atItem, lookupValue, lookupTable}
 use Rattle.read_listing.specs.Listing.{keyIn, keyOpened, keyAt, listed}
 use Rattle.read.specs.Answer.{lookedNumber}

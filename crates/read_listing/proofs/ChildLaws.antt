@@ -19,7 +19,7 @@ use Rattle.layout.specs.Pointer.{openPointer}
 use Rattle.layout.proofs.OpenLaws.{pointer-inside}
 use Rattle.read_listing.specs.declared.children.Childed.{Childed}
 use Rattle.read_listing.specs.Children.{wholeWords, openList, atFragment, childNamed}
-use Rattle.read.proofs.ChainLaws.{fragment-taken, same-place}
+use Rattle.read_chain.proofs.ChainLaws.{fragment-taken, same-place}
 
 -- ---- a container's list
 

@@ -5,7 +5,7 @@ use mathlib.Core.List.{List}
 use Prim.Native.Nat.{ℕ, zero, suc, _+_, _%_}
 use lib.Dec.{leb, eqb}
 use Rattle.words.specs.Choice.{pick}
-use Rattle.words.specs.Hash.{hashBy}
+use Rattle.key_hash.specs.Hash.{hashBy}
 use Rattle.text.specs.Ascii.{isAscii}
 use Rattle.text.specs.Utf8.{isUtf8, firstBad}
 use Rattle.text.proofs.AsciiLaws.{ascii-hash}
@@ -14,11 +14,11 @@ use Rattle.layout.specs.declared.table.Table.{Table}
 use Rattle.layout.specs.declared.table.Opened.{Opened}
 use Rattle.layout.specs.Table.{openTable}
 use Rattle.layout.specs.Item.{itemAt}
-use Rattle.read.specs.declared.lookup.Found.{Found}
-use Rattle.read.specs.declared.lookup.Run.{Run}
+use Rattle.read_find.specs.declared.find.Found.{Found}
+use Rattle.read_find.specs.declared.find.Run.{Run}
 use Rattle.read.specs.declared.lookup.Sought.{Sought}
-use Rattle.read.specs.Chain.{keyOf, names}
-use Rattle.read.specs.Find.{Manner, rust, bloomPasses, runOf, itemMatches, firstFrom, firstOf, findItem}
+use Rattle.read_chain.specs.Chain.{keyOf, names}
+use Rattle.read_find.specs.Find.{Manner, rust, bloomPasses, runOf, itemMatches, firstFrom, firstOf, findItem}
 use Rattle.read.specs.Lookup.{atFound, lookupIn, atOpened, lookupItem, atItem, valueOf, nestedOf, lookupValue, lookupTable}
 use Rattle.read_listing.specs.Children.{childOfSought, childInOpened, nextChild}
 use Rattle.read_listing.specs.Forms.{glib, AsciiLookups}

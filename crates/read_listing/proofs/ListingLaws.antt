@@ -21,7 +21,7 @@ use Rattle.layout.specs.Pointer.{openPointer}
 use Rattle.read_listing.specs.declared.listing.Cursor.{Cursor}
 use Rattle.read_listing.specs.declared.listing.Measured.{Measured}
 use Rattle.read_listing.specs.declared.listing.Listed.{Listed}
-use Rattle.read.specs.Chain.{Joined, keyOf}
+use Rattle.read_chain.specs.Chain.{Joined, keyOf}
 use Rattle.read_listing.specs.Listing.{measure, keyIn, listed, written, nextOf, nextValue, valueOpened, valueFrom}
 use Rattle.read_listing.proofs.WriteLaws.{size-is}
 

@@ -18,7 +18,7 @@ use Rattle.read_listing.specs.declared.listing.Valued.{Valued}
 use Rattle.read_listing.specs.declared.children.Childed.{Childed}
 use Rattle.read.specs.Lookup.{lookupIn, atPointer, atNested, valueOf, nestedOf, atItem, lookupValue, lookupTable}
 use Rattle.read_listing.specs.Listing.{nextValue, valueOpened, valueFrom, valueInOpened, valueAt}
-use Rattle.read.specs.Find.{Manner}
+use Rattle.read_find.specs.Find.{Manner}
 use Rattle.read_listing.specs.Children.{childAt, openList, atFragment, childNamed, childOf, childFrom, childOfSought, childInOpened, nextChild}
 
 -- ---- a pointer whose table opens

@@ -10,11 +10,11 @@ use Rattle.layout.specs.declared.refusal.Refusal.the-variants.{ParentsEndless}
 use Rattle.layout.specs.declared.table.Table.{Table}
 use Rattle.layout.specs.declared.item.Item.{Item}
 use Rattle.layout.specs.Item.{itemAt}
-use Rattle.read.specs.declared.chain.Step.{Step}
+use Rattle.read_chain.specs.declared.chain.Step.{Step}
 use Rattle.read_listing.specs.declared.listing.Measured.{Measured}
-use Rattle.read.specs.Chain.{Joined, append, joinStep, keyOf, climbFrom, fragmentOf}
+use Rattle.read_chain.specs.Chain.{Joined, append, joinStep, keyOf, climbFrom, fragmentOf}
 use Rattle.read_listing.specs.Listing.{measure}
-use Rattle.read.proofs.ChainLaws.{StepFits, climb-fits, key-turn, key-over, fragment-size}
+use Rattle.read_chain.proofs.ChainLaws.{StepFits, climb-fits, key-turn, key-over, fragment-size}
 
 -- a key's length, with so many bytes behind it
 unfoldable pub measureFrom : ℕ → Joined → Measured

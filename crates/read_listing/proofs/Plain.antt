@@ -7,7 +7,7 @@ use native.Mathlib.Omega.{arith}
 use lib.ListN.{length, take, drop}
 use borrow.Author.Tests.{lt-ltb, ne-eqb}
 use Rattle.words.specs.Choice.{pick}
-use Rattle.words.specs.Hash.{hashBy}
+use Rattle.key_hash.specs.Hash.{hashBy}
 use Rattle.words.proofs.ChoiceLaws.{pick-same}
 use Rattle.text.specs.Utf8.{isUtf8}
 use Rattle.layout.specs.declared.refusal.Refusal.{Refusal}
@@ -19,22 +19,22 @@ use Rattle.layout.specs.declared.item.Item.{Item}
 use Rattle.layout.specs.Pointer.{openPointer}
 use Rattle.layout.specs.Table.{openTable, InFile}
 use Rattle.layout.specs.Item.{itemAt, noItem}
-use Rattle.read.specs.declared.chain.Step.{Step}
-use Rattle.read.specs.declared.lookup.Run.{Run}
-use Rattle.read.specs.declared.lookup.Found.{Found}
+use Rattle.read_chain.specs.declared.chain.Step.{Step}
+use Rattle.read_find.specs.declared.find.Run.{Run}
+use Rattle.read_find.specs.declared.find.Found.{Found}
 use Rattle.read.specs.declared.lookup.Looked.{Looked}
 use Rattle.read_listing.specs.declared.listing.Cursor.{Cursor}
 use Rattle.read_listing.specs.declared.listing.Listed.{Listed}
 use Rattle.read_listing.specs.declared.listing.Valued.{Valued}
 use Rattle.read_listing.specs.declared.children.Childed.{Childed}
-use Rattle.read.specs.Chain.{fragmentOf, parentOf, climbFrom, Joined, append, joinStep, keyOf, names}
-use Rattle.read.specs.Find.{Manner, bloomPasses, runOf, itemMatches, findItem}
+use Rattle.read_chain.specs.Chain.{fragmentOf, parentOf, climbFrom, Joined, append, joinStep, keyOf, names}
+use Rattle.read_find.specs.Find.{Manner, bloomPasses, runOf, itemMatches, findItem}
 use Rattle.read.specs.Lookup.{lookupValue, lookupTable}
 use Rattle.read_listing.specs.Answer.{listedNumber}
 use Rattle.read_listing.specs.Listing.{keyIn, keyOpened, keyAt, listed, written, nextValue, valueAt}
 use Rattle.read_listing.specs.Children.{nextChild}
-use Rattle.read.proofs.ChainLaws.{climb-on, joined-names}
-use Rattle.read.proofs.FindLaws.{FindSays, find-says, match-true, match-false}
+use Rattle.read_chain.proofs.ChainLaws.{climb-on, joined-names}
+use Rattle.read_find.proofs.FindLaws.{FindSays, find-says, match-true, match-false}
 use Rattle.read_listing.proofs.LookupLaws.{LookedFits, value-looked-fits, table-looked-fits, ValuedFits, valued-fits, ChildedFits, childed-fits}
 use Rattle.read.proofs.SoughtLaws.{Placed, value-answers, table-answers}
 use Rattle.read_listing.proofs.ListingLaws.{in-range, key-in-range, front, refused-keeps, NextSays, next-says}

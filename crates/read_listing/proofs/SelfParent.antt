@@ -8,14 +8,14 @@ use Rattle.words.specs.Store.{zeros, copies}
 use Rattle.words.specs.Field.{field}
 use Rattle.words.specs.Field as fields
 use Rattle.words.specs.Bits.{bloomCount}
-use Rattle.words.specs.Hash.{hashBy, hashFrom}
+use Rattle.key_hash.specs.Hash.{hashBy, hashFrom}
 use Rattle.text.specs.Utf8.{isUtf8, firstBad, goodFrom}
 use Rattle.layout.specs.Pointer.{openPointer}
 use Rattle.layout.specs.Table.{tableOf, tableIn, openTable}
 use Rattle.layout.specs.Item.{itemAt}
 use Rattle.layout.specs.Answer.{openedNumber}
-use Rattle.read.specs.Chain.{fragmentOf, parentOf, afterPointer, climbFrom, append, joinStep, keyOf, names}
-use Rattle.read.specs.Find.{rust, bloomPasses, bucketWord, runOf, itemMatches, firstFrom, firstOf, findItem}
+use Rattle.read_chain.specs.Chain.{fragmentOf, parentOf, afterPointer, climbFrom, append, joinStep, keyOf, names}
+use Rattle.read_find.specs.Find.{rust, bloomPasses, bucketWord, runOf, itemMatches, firstFrom, firstOf, findItem}
 use Rattle.read.specs.Lookup.{atFound, lookupIn, atOpened, lookupItem, atItem, lookupValue}
 use Rattle.read_listing.specs.Listing.{keyIn, keyOpened, keyAt, listed}
 use Rattle.read.specs.Answer.{lookedNumber}

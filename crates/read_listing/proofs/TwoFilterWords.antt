@@ -7,16 +7,16 @@ use Rattle.words.specs.Choice.{pick}
 use Rattle.words.specs.Field.{field}
 use Rattle.words.specs.Field as fields
 use Rattle.words.specs.Bits.{bloomCount, bitSet}
-use Rattle.words.specs.Hash.{hashBy, hashFrom}
-use Rattle.text.specs.Compare.{sameBytes}
+use Rattle.key_hash.specs.Hash.{hashBy, hashFrom}
+use Rattle.key_order.specs.Compare.{sameBytes}
 use Rattle.text.specs.Utf8.{between, tail, isTwo, startsThree, startsFour, firstOf, sequenceLen, stepLen, oneMore, goodFrom, firstBad, isUtf8}
 use Rattle.layout.specs.Pointer.{openPointer}
 use Rattle.layout.specs.Table.{tableOf, tableIn, openTable}
 use Rattle.layout.specs.Item.{itemAt}
 use Rattle.read.specs.declared.lookup.Looked.{Looked}
-use Rattle.read.specs.Chain.{fragmentOf, parentOf, afterPointer, climbFrom, append, joinStep, keyOf, names}
-use Rattle.read.specs.Find as find
-use Rattle.read.specs.Find.{rust, bloomPasses, bucketWord, runOf, itemMatches, firstFrom, findItem}
+use Rattle.read_chain.specs.Chain.{fragmentOf, parentOf, afterPointer, climbFrom, append, joinStep, keyOf, names}
+use Rattle.read_find.specs.Find as find
+use Rattle.read_find.specs.Find.{rust, bloomPasses, bucketWord, runOf, itemMatches, firstFrom, findItem}
 use Rattle.read.specs.Lookup.{atFound, lookupIn, atOpened, lookupItem, atItem, atPointer, valueOf, lookupValue}
 use Rattle.read.specs.Answer.{lookedNumber}
 

@@ -13,12 +13,12 @@ use Rattle.layout.specs.declared.item.Item.{Item}
 use Rattle.layout.specs.Pointer.{openPointer}
 use Rattle.layout.specs.Table.{openTable}
 use Rattle.layout.specs.Item.{itemAt}
-use Rattle.read.specs.declared.chain.Step.{Step}
+use Rattle.read_chain.specs.declared.chain.Step.{Step}
 use Rattle.read.specs.declared.lookup.Looked.{Looked}
 use Rattle.read_listing.specs.declared.listing.Listed.{Listed}
-use Rattle.read.specs.Chain.{fragmentOf, climbFrom}
+use Rattle.read_chain.specs.Chain.{fragmentOf, climbFrom}
 use Rattle.read.specs.Lookup.{lookupValue, lookupTable}
-use Rattle.read.specs.Find.{Manner}
+use Rattle.read_find.specs.Find.{Manner}
 use Rattle.read_listing.specs.Listing.{keyAt, listed}
 
 -- the statement: 8 comes exactly where the table opens and the given key is bad, with the offset at which it is

@@ -19,8 +19,8 @@ use Rattle.layout.specs.Table.{openTable}
 use Rattle.layout.specs.Item.{itemAt}
 use Rattle.read.specs.declared.lookup.Sought.{Sought}
 use Rattle.read_listing.specs.declared.children.Childed.{Childed}
-use Rattle.read.specs.Chain.{fragmentOf}
-use Rattle.read.specs.Find.{Manner}
+use Rattle.read_chain.specs.Chain.{fragmentOf}
+use Rattle.read_find.specs.Find.{Manner}
 use Rattle.read.specs.Lookup.{lookupIn}
 
 -- the child indices of a container: a word each, from an offset on

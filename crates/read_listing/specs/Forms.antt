@@ -3,10 +3,10 @@ use Prim.Native.Nat.{ℕ}
 use mathlib.Core.Path.{_≡_}
 use mathlib.Core.Bool.{true}
 use mathlib.Core.List.{List}
-use Rattle.words.specs.Hash.{signed}
+use Rattle.key_hash.specs.Hash.{signed}
 use Rattle.text.specs.Ascii.{isAscii}
-use Rattle.read.specs.declared.manner.Lookup.{Lookup}
-use Rattle.read.specs.Find.{Manner, shiftOf, rust}
+use Rattle.read_find.specs.declared.manner.Lookup.{Lookup}
+use Rattle.read_find.specs.Find.{Manner, shiftOf, rust}
 use Rattle.read.specs.Lookup.{lookupValue, lookupTable}
 use Rattle.read_listing.specs.Children.{nextChild}
 

@@ -19,7 +19,7 @@ use Rattle.layout.specs.Item.{itemAt}
 use Rattle.read_listing.specs.declared.listing.Measured.{Measured}
 use Rattle.read_listing.specs.declared.listing.Listed.{Listed}
 use Rattle.read_listing.specs.declared.listing.Valued.{Valued}
-use Rattle.read.specs.Chain.{Joined, keyOf}
+use Rattle.read_chain.specs.Chain.{Joined, keyOf}
 
 -- a key's length
 unfoldable pub measure : Joined → Measured

@@ -12,7 +12,7 @@ use layout::table::Table;
 use layout::table::open_table;
 use read::lookup::Sought;
 use read::lookup::lookup_in;
-use read::manner::Manner;
+use read_find::manner::Manner;
 use text::utf8::first_bad;
 use text::utf8::is_utf8;
 use words::align::Alignment;
@@ -24,7 +24,7 @@ ghost use Prim.Native.Nat.{_≤_, _<_};
 ghost use lib.ListN.{length};
 ghost use Rattle.layout.specs.Limits.{longestFile};
 ghost use Rattle.layout.specs.Table.{InFile};
-ghost use Rattle.read.specs.Find.{mannerOf};
+ghost use Rattle.read_find.specs.Find.{mannerOf};
 ghost use Rattle.read_listing.specs.Children.{childCount, openList, childNamed, childOf, childFrom, childInOpened, nextChild};
 
 // A child: its index, the byte of its kind, the pointer of its fragment, and the next position; or why there is none. A refused child can be passed over.

@@ -7,9 +7,9 @@ use layout::refusal::Refusal;
 use layout::table::Opened;
 use layout::table::Table;
 use layout::table::open_table;
-use read::chain::Step;
-use read::chain::climb;
-use read::chain::parent_of;
+use read_chain::chain::Step;
+use read_chain::chain::climb;
+use read_chain::chain::parent_of;
 use words::align::Alignment;
 use words::store::put_bytes;
 use words::wide::half_size;
@@ -18,7 +18,7 @@ ghost use mathlib.Core.Path.{_≡_};
 ghost use Prim.Native.Nat.{_≤_, _<_};
 ghost use lib.ListN.{length};
 ghost use Rattle.layout.specs.Table.{InFile};
-ghost use Rattle.read.specs.Chain.{keyOf};
+ghost use Rattle.read_chain.specs.Chain.{keyOf};
 ghost use Rattle.read_listing.specs.Listing.{measure, written, listed, keyIn, keyAt, nextValue, valueFrom, valueAt};
 
 // gvdb-rs: Keys, Values; keys and values start with a cursor at 0.

@@ -1,15 +1,15 @@
 // Calls on a builder: whether the library answers, and lays, as the record says.
 use crate::list;
 use crate::list::Record;
+use answers_build::writing::GvdbImage;
 use build_memory::fields::part_of;
 use gvdb::building::gvdb_fresh;
 use gvdb::building::gvdb_insert;
 use gvdb::building::gvdb_insert_table;
 use gvdb::building::gvdb_item_count;
 use gvdb::building::gvdb_new_table;
-use gvdb::writing::GvdbImage;
 use gvdb::writing::gvdb_write;
-use text::compare::same_bytes;
+use key_order::compare::same_bytes;
 use words::wide::word_size;
 
 // The bytes of an image's header, which gvdb-rs fills and the library leaves empty.

@@ -7,9 +7,9 @@ use gvdb::reading::gvdb_get_table;
 use gvdb::reading::gvdb_next_key;
 use gvdb::reading::gvdb_next_value;
 use gvdb::reading::gvdb_open;
-use text::compare::same_bytes;
+use key_hash::hash::djb_hash;
+use key_order::compare::same_bytes;
 use text::utf8::first_bad;
-use words::hash::djb_hash;
 use words::wide::word_size;
 
 // Items, buckets and bloom words.

@@ -11,11 +11,11 @@ use lib.Dec.{leb, eqb}
 use lib.Bits.{bitAnd, and-zero-l, and-high, and-block}
 use borrow.Author.Tests.{leb-true, leb-false, lt-leb, le-leb, eqb-true, eqb-false, eq-eqb, ne-eqb}
 use Rattle.words.specs.Store.{part}
-use Rattle.words.specs.Hash.{hashStep, hashFrom, hashBy, plain, signed}
+use Rattle.key_hash.specs.Hash.{hashStep, hashFrom, hashBy, plain, signed}
 use Rattle.words.specs.Field.{littleEndian, field}
 use Rattle.words.proofs.ChoiceLaws.{both, both-hold}
 use Rattle.words.proofs.StoreLaws.{length-part}
-use Rattle.words.proofs.HashLaws.{signed-low}
+use Rattle.key_hash.proofs.HashLaws.{signed-low}
 use Rattle.words.proofs.FieldLaws.{stretch-bytes}
 use Rattle.text.specs.Ascii.{isAscii}
 use Rattle.text.specs.Utf8.{goodFrom, firstBad, isUtf8, oneMore}

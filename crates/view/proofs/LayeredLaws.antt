@@ -11,7 +11,7 @@ use Rattle.layout.specs.declared.refusal.Refusal.{Refusal}
 use Rattle.read.specs.declared.lookup.Looked.{Looked}
 use Rattle.read.specs.declared.layered.Source.{Source}
 use Rattle.read.specs.declared.layered.Layered.{Layered}
-use Rattle.read.specs.Find.{mannerOf}
+use Rattle.read_find.specs.Find.{mannerOf}
 use Rattle.read.specs.Lookup.{lookupValue}
 use Rattle.read.specs.Answer.{lookedNumber}
 use Rattle.read.specs.Layered.{marked, layeredValue}

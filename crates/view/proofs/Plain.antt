@@ -6,8 +6,8 @@ use native.Mathlib.Omega.{arith}
 use lib.ListN.{length, take, drop}
 use denote.Ref.{RefT, now}
 use Rattle.words.specs.Choice.{pick}
-use Rattle.read.specs.declared.manner.Manner as code
-use Rattle.read.specs.Find.{Manner, mannerOf}
+use Rattle.read_find.specs.declared.manner.Manner as code
+use Rattle.read_find.specs.Find.{Manner, mannerOf}
 use Rattle.words.proofs.ChoiceLaws.{pick-with}
 use Rattle.layout.specs.declared.refusal.Refusal.{Refusal}
 use Rattle.layout.specs.declared.refusal.Refusal.the-variants.{TableTooShort}

@@ -4,10 +4,10 @@ use Prim.Native.Nat.{ℕ}
 use mathlib.Core.Path.{_≡_, sym, ap, subst, _∙_}
 use mathlib.Core.List.{List}
 use denote.Ref.{RefT, now}
-use Rattle.read.specs.declared.manner.Manner.{Manner}
-use Rattle.read.specs.Find.{mannerOf}
-use Rattle.check_table.specs.declared.check.Checked.{Checked}
-use Rattle.check_table.specs.Rules.{checkTable}
+use Rattle.read_find.specs.declared.manner.Manner.{Manner}
+use Rattle.read_find.specs.Find.{mannerOf}
+use Rattle.check_rules.specs.declared.checked.Checked.{Checked}
+use Rattle.check_rules.specs.Rules.{checkTable}
 use Rattle.layout.specs.declared.table.Opened.{Opened}
 use Rattle.read.specs.declared.lookup.Looked.{Looked}
 use Rattle.read.specs.declared.layered.Layered.{Layered}

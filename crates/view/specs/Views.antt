@@ -4,8 +4,8 @@ use mathlib.Core.Path.{_≡_}
 use mathlib.Core.List.{List}
 use lib.ListN.{length}
 use denote.Ref.{RefT, now}
-use Rattle.read.specs.declared.manner.Manner.{Manner}
-use Rattle.read.specs.Find.{mannerOf}
+use Rattle.read_find.specs.declared.manner.Manner.{Manner}
+use Rattle.read_find.specs.Find.{mannerOf}
 use Rattle.layout.specs.Table.{openTable}
 use Rattle.read.specs.Lookup.{lookupValue, lookupTable}
 use Rattle.read.specs.Layered.{marked, layeredValue}

@@ -1,17 +1,17 @@
 // A table as a view that borrows its file. Each function takes the view apart and calls functions over slices and numbers: no branch, no arithmetic,
 // no loop. A view holds no proof that it is good: each call opens the table again, so a view of any numbers is harmless.
-use check_table::check::Checked;
+use check_rules::checked::Checked;
 use layout::table::Opened;
 use read::layered::Source;
 use read::lookup::Looked;
-use read::manner::Manner;
+use read_find::manner::Manner;
 use read_listing::children::Childed;
 use read_listing::listing::Cursor;
 use read_listing::listing::Listed;
 use read_listing::listing::Valued;
 ghost use mathlib.Core.Path.{_≡_};
-ghost use Rattle.read.specs.Find.{mannerOf};
-ghost use Rattle.check_table.specs.Rules.{checkTable};
+ghost use Rattle.read_find.specs.Find.{mannerOf};
+ghost use Rattle.check_rules.specs.Rules.{checkTable};
 ghost use Rattle.view.specs.Views.{OpenedOf, ValueOf, LayeredOf, NestedOf, ListedOf, ChildOf, KeyOf};
 
 // gvdb-rs: HashTable.

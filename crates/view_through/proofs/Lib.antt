@@ -1,2 +1,0 @@
-pub mod ThroughLaws
-pub mod LayeredLaws

@@ -2,7 +2,6 @@ pub mod Choice
 pub mod Below
 pub mod Store
 pub mod Field
-pub mod Hash
 pub mod Align
 pub mod Bits
 pub mod Worked

@@ -1,8 +1,6 @@
 -- Numbers by hand that the definitions compute.
 use mathlib.Core.Path.{_≡_, refl}
 use mathlib.Core.Bool.{true, false}
-use mathlib.Core.List.{[], _∷_}
-use Rattle.words.specs.Hash.{hashFrom, hashBy, hashOf}
 use Rattle.words.specs.Bits.{bloomCount, bloomShift, bitSet}
 
 -- a first word: 27 bits count, five are the shift
@@ -18,8 +16,3 @@ shifts = (refl, refl, refl)
 pub bits : (bitSet 0x80000001 0 ≡ true) × (bitSet 0x80000001 1 ≡ false) × (bitSet 0x80000001 31 ≡ true)
 unfolding bitSet
 bits = (refl, refl, refl)
-
--- "é": a byte above 127 counts 128 to 255, and is not a negative number
-pub accent : hashOf (0xC3 ∷ 0xA9 ∷ []) ≡ 5866513
-unfolding hashBy hashFrom
-accent = refl

@@ -2,6 +2,5 @@
 pub mod align;
 pub mod bits;
 pub mod field;
-pub mod hash;
 pub mod store;
 pub mod wide;

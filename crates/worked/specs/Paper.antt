@@ -2,10 +2,10 @@
 use Prim.Native.Nat.{ℕ}
 use mathlib.Core.Path.{_≡_}
 use mathlib.Core.List.{List, [], _∷_}
-use Rattle.words.specs.Hash.{hashOf}
+use Rattle.key_hash.specs.Hash.{hashOf}
 use Rattle.words.specs.Align.{aligned}
 use Rattle.words.specs.Bits.{bloomCount}
-use Rattle.text.specs.Prefix.{prefixes}
+use Rattle.key_order.specs.Prefix.{prefixes}
 
 -- a line of the table, what is asked and what is answered
 pub data Line : Type 0 where

@@ -1,12 +1,11 @@
 // The header of a file whose root table stands from 24 to 60, laid in both byte orders and read back, and each refusal.
-use crate::say;
-use layout::header::ByteOrder;
-use layout::header::Headed;
-use layout::header::HeaderLaid;
+use file_header::header::ByteOrder;
+use file_header::header::Headed;
+use file_header::header::HeaderLaid;
 use layout::refusal::number_of;
 
 fn read(file: &[u8]) {
-    match layout::header::read_header(file) {
+    match file_header::header::read_header(file) {
         Headed::Root { order, start, end } => {
             match order {
                 ByteOrder::Little => say::text(b"little, root"),
@@ -21,7 +20,7 @@ fn read(file: &[u8]) {
 
 fn lay(target: &mut [u8], order: ByteOrder) {
     say::text(b"header ");
-    match layout::header::lay_header(target, order, 24, 60) {
+    match file_header::header::lay_header(target, order, 24, 60) {
         HeaderLaid::Laid => say::text(b"laid "),
         HeaderLaid::Refused(why) => say::number(number_of(why) as u64),
     }

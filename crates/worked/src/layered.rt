@@ -1,12 +1,11 @@
 // A file of data/ over another: which of the two tables answers a key, what it answers, and the value's bytes as a view shows them.
-use crate::say;
+use key_hash::hash::Form;
 use read::layered::Source;
 use read::layered::lookup_layered;
-use read::manner::Lookup;
-use read::manner::Manner;
-use view_through::through::layered_bytes;
+use read_find::manner::Lookup;
+use read_find::manner::Manner;
+use view_layered::layered::layered_bytes;
 use words::field::word_at;
-use words::hash::Form;
 
 fn source(from: Source) {
     match from {

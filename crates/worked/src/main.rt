@@ -1,11 +1,8 @@
-// Document 01's worked numbers and images as the code answers and lays them, document 02's images with filter words, the limits from both sides,
-// and the boundary cases of UTF-8 and of opening. What it writes is held to the file stdout.
-mod filter;
+// Document 01's worked numbers as the code answers them, small files read by every call, and the boundary cases of UTF-8 and of opening. What it writes is held to the
+// file stdout.
 mod header;
-mod laid;
 mod layered;
 mod open;
-mod say;
 mod seen;
 mod small;
 mod tour;
@@ -22,8 +19,6 @@ fn main() {
     open::tables();
     header::headers();
     tour::files();
-    laid::tables();
-    filter::tables();
     seen::files();
     layered::files();
 }

@@ -1,5 +1,4 @@
 // Opening a pointer and a table, each refusal from both sides.
-use crate::say;
 use layout::pointer::Pointed;
 use layout::table::Opened;
 use words::align::Alignment;

@@ -1,12 +1,11 @@
 // P1 to P12, and the order of keys.
-use crate::say;
 use words::align::Alignment;
 
 fn hash(key: &[u8]) {
     say::text(b"hash \"");
     say::text(key);
     say::text(b"\" ");
-    say::number(words::hash::djb_hash(key) as u64);
+    say::number(key_hash::hash::djb_hash(key) as u64);
     say::end();
 }
 
@@ -76,7 +75,7 @@ fn walk(key: &[u8], separator: usize) {
     say::text(b"\":");
     let mut end = 0;
     loop {
-        end = text::prefix::next_end(key, end, separator);
+        end = key_order::prefix::next_end(key, end, separator);
         prefix(&key[..end]);
         if key.len() <= end {
             say::end();
@@ -100,7 +99,7 @@ fn order(a: &[u8], b: &[u8]) {
     say::text(b"\" before \"");
     say::text(b);
     say::text(b"\": ");
-    say::yes_no(text::keyorder::less(a, b));
+    say::yes_no(key_order::keyorder::less(a, b));
     say::end();
 }
 

@@ -1,5 +1,4 @@
 // Each class of sequence that RFC 3629 allows or not, at its edges, and cut at the end of the text.
-use crate::say;
 
 fn sequence(s: &[u8]) {
     say::text(b"utf8 ");

@@ -16,13 +16,13 @@ use Rattle.layout.specs.declared.refusal.Refusal.{Refusal}
 use Rattle.layout.specs.declared.refusal.Refusal.the-variants.{MemoryBroken, TableUnknown, TooManyFilterWords, EmptyKey, ImageTooLong}
 use Rattle.build_rules.specs.Valid.{fullyValid}
 use Rattle.layout.specs.Sizes.{headerSize, chunkSize}
-use Rattle.write_bytes.specs.Numbered.{slotCount, numberedImage}
+use Rattle.write_parts.specs.Numbered.{slotCount, numberedImage}
 use Rattle.write_numbers.specs.Roster.{stateOf}
 use Rattle.write.specs.declared.Written.{Written}
 use Rattle.build_tables.specs.Table.{freeStanding}
 use Rattle.write.specs.Write.{hasEmpty, tooLong, imageFor, writeAnswer, laidBy, imageAfter}
 use Rattle.write.specs.Answer.{sizeAnswer, fitAnswer, tableAnswer}
-use Rattle.write.specs.NumberedAs.{NumberedAs}
+use Rattle.write_slots.specs.NumberedAs.{NumberedAs}
 use Rattle.write.proofs.NumberedLaws.{numbered-image, numbered-count}
 
 -- ---- an answer, and what it lays

@@ -17,16 +17,16 @@ use Rattle.build_memory.specs.Memory.{itemTotal, keySize, itemKind, itemGuest, 
 use Rattle.image.specs.Index.{itemOf, indexIn, laidIndex}
 use Rattle.image.proofs.TimesLaws.{times-some, index-stands}
 use Rattle.image.proofs.IndexLaws.{item-within, index-within, item-index}
-use Rattle.write_bytes.specs.Numbered.{firstSlot, slotCount}
+use Rattle.write_parts.specs.Numbered.{firstSlot, slotCount}
 use Rattle.write_numbers.specs.Roster.{stateOf, slotItem, Rostered}
 use Rattle.write_numbers.proofs.StateLaws.{state-key, state-once}
 use Rattle.build_memory.proofs.MeaningLaws.{key-length}
 use Rattle.layout.specs.Limits.{mostItems, mostTables}
 use Rattle.write.specs.Write.{emptyHeld, hasEmpty}
 use Rattle.write.specs.Empty.{itemEmpty}
-use Rattle.write.proofs.StateLaws.{Right, content-is}
-use Rattle.write.proofs.RosterLaws.{item-in}
-use Rattle.write.proofs.ItemLaws.{content-value, content-table, content-container}
+use Rattle.write_slots.proofs.StateLaws.{Right, content-is}
+use Rattle.write_slots.proofs.RosterLaws.{item-in}
+use Rattle.write_slots.proofs.ItemLaws.{content-value, content-table, content-container}
 
 -- ---- one item, as the code finds it
 

@@ -1,11 +1,4 @@
 pub mod NumberedLaws
-pub mod StateLaws
-pub mod SiblingLaws
-pub mod SlotLaws
-pub mod RosterLaws
-pub mod TurnLaws
-pub mod ItemLaws
-pub mod PlanLaws
 pub mod EmptyLaws
 pub mod AnswerLaws
 pub mod NumberLaws

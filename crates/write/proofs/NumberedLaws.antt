@@ -14,11 +14,11 @@ use Rattle.image.specs.Image.{planOf, tableBytes, imageOf}
 use Rattle.image.proofs.SameLaws.{plan-same}
 use Rattle.words.proofs.ChoiceLaws.{eq-or-ne}
 use Rattle.layout.specs.Kind.{valueKind, tableKind}
-use Rattle.write_bytes.specs.Numbered.{firstSlot, slotCount, slotKind, slotValueWord, slotValueSize, childWord, byKind, slotValue, numberedPlan, numberedBytes, numberedImage, NumberedFits, slotCover}
-use Rattle.write_bytes.proofs.KindLaws.{kind-value, kind-container}
+use Rattle.write_parts.specs.Numbered.{firstSlot, slotCount, slotKind, slotValueWord, slotValueSize, childWord, byKind, slotValue, numberedPlan, numberedBytes, numberedImage, NumberedFits, slotCover}
+use Rattle.write_parts.proofs.KindLaws.{kind-value, kind-container}
 use Rattle.write_numbers.specs.Roster.{stateOf}
 use Rattle.write.specs.Write.{imageFor}
-use Rattle.write.specs.NumberedAs.{NumberedAs}
+use Rattle.write_slots.specs.NumberedAs.{NumberedAs}
 
 -- ---- nested tables laid alike
 

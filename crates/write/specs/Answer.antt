@@ -6,7 +6,7 @@ use Rattle.words.specs.Choice.{pick}
 use Rattle.layout.specs.declared.refusal.Refusal.the-variants.{EmptyKey, ImageTooLong}
 use Rattle.layout.specs.Sizes.{headerSize, chunkSize}
 use Rattle.layout.specs.Limits.{deepest}
-use Rattle.write_bytes.specs.Numbered.{slotCount, numberedImage}
+use Rattle.write_parts.specs.Numbered.{slotCount, numberedImage}
 use Rattle.write_numbers.specs.Roster.{stateOf}
 use Rattle.write.specs.Write.{hasEmpty, tooLong, imageFor}
 use Rattle.write.specs.declared.Written.{Written}

@@ -1,8 +1,5 @@
 // A write: the image of a table of the builder, laid into a lent buffer.
-mod children;
 mod empty;
-mod numbered;
-mod slot;
 pub mod write;
 
 use layout::refusal::Refusal;

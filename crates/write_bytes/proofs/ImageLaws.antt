@@ -9,7 +9,7 @@ use Rattle.words.proofs.StoreLaws.{length-zeros}
 use Rattle.layout.specs.Sizes.{headerSize}
 use Rattle.layout.specs.Limits.{deepest}
 use Rattle.image.specs.Laid.{Laid}
-use Rattle.write_bytes.specs.Numbered.{numberedBytes, numberedImage}
+use Rattle.write_parts.specs.Numbered.{numberedBytes, numberedImage}
 use Rattle.words.proofs.StoreLaws.{put-then}
 
 module _ (filter : ℕ) (numbered arena : List ℕ) (root : ℕ) where

@@ -11,11 +11,11 @@ use Rattle.words.proofs.ChoiceLaws.{eq-or-ne}
 use Rattle.image.proofs.LaidLaws.{laid-join}
 use Rattle.layout.specs.Kind.{valueKind, tableKind}
 use Rattle.layout.specs.Limits.{mostItems, mostFilter, longestFile}
-use Rattle.write_bytes.specs.Numbered.{slotKind, slotValueWord, slotValue, SlotFits, NumberedFits, slotCover}
-use Rattle.write_bytes.specs.Slot.{slotStart, slotRecord, slotKey, plainValue, slotItem, SlotIn, CoverFits, RecordFits}
-use Rattle.write_bytes.proofs.KindLaws.{kind-value, kind-table, kind-container}
-use Rattle.write_bytes.proofs.SlotLaws.{cover-value, cover-table, cover-container, start-above, length-key}
-use Rattle.write_bytes.proofs.PutLaws.{plain-bytes, plain-children, length-bytes, length-children}
+use Rattle.write_parts.specs.Numbered.{slotKind, slotValueWord, slotValue, SlotFits, NumberedFits, slotCover}
+use Rattle.write_parts.specs.Slot.{slotStart, slotRecord, slotKey, plainValue, slotItem, SlotIn, CoverFits, RecordFits}
+use Rattle.write_parts.proofs.KindLaws.{kind-value, kind-table, kind-container}
+use Rattle.write_parts.proofs.SlotLaws.{cover-value, cover-table, cover-container, start-above, length-key}
+use Rattle.write_parts.proofs.PutLaws.{plain-bytes, plain-children, length-bytes, length-children}
 
 -- a slot of a numbered table that fits
 pub record AtSlot (numbered arena : List ℕ) (s : ℕ) : Type 0 where

@@ -1,7 +1,3 @@
-pub mod KindLaws
-pub mod SlotLaws
-pub mod PutLaws
-pub mod FilterLaws
 pub mod ItemLaws
 pub mod TableLaws
 pub mod TurnLaws

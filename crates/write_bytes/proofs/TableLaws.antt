@@ -13,9 +13,9 @@ use Rattle.image.specs.Laid.{Laid}
 use Rattle.image.proofs.LaidLaws.{put-both}
 use Rattle.image.proofs.PlanLaws.{length-words, length-record, length-records, length-item, offset-zero, offset-next, offset-rises, payload-more, records-more, plan-end}
 use Rattle.layout.specs.Limits.{mostTables, mostItems}
-use Rattle.write_bytes.specs.Numbered.{firstSlot, slotCount, slotFragment, slotFragmentSize, slotBucket, numberedPlan, numberedBytes, NumberedFits, slotCover}
-use Rattle.write_bytes.specs.Slot.{headBytes, slotFilter, slotStart, slotRecord, slotKey, slotItem}
-use Rattle.write_bytes.proofs.PutLaws.{length-head}
+use Rattle.write_parts.specs.Numbered.{firstSlot, slotCount, slotFragment, slotFragmentSize, slotBucket, numberedPlan, numberedBytes, NumberedFits, slotCover}
+use Rattle.write_parts.specs.Slot.{headBytes, slotFilter, slotStart, slotRecord, slotKey, slotItem}
+use Rattle.write_parts.proofs.PutLaws.{length-head}
 
 -- ---- a plan, and what a loop over its items has laid
 

@@ -12,10 +12,10 @@ use Rattle.image.specs.Laid.{Laid}
 use Rattle.image.proofs.LaidLaws.{laid-none, laid-as}
 use Rattle.image.proofs.PlanLaws.{offset-zero, offset-rises, plan-end}
 use Rattle.layout.specs.Limits.{mostTables, mostItems, mostFilter, longestFile}
-use Rattle.write_bytes.specs.Numbered.{firstSlot, slotCount, slotHash, slotBucket, numberedPlan, numberedBytes, NumberedFits}
+use Rattle.write_parts.specs.Numbered.{firstSlot, slotCount, slotHash, slotBucket, numberedPlan, numberedBytes, NumberedFits}
 use Rattle.write_bytes.specs.declared.Measured.{Measured}
 use Rattle.write_bytes.specs.Measure.{measured}
-use Rattle.write_bytes.specs.Slot.{headBytes, slotFilter, slotStart, slotRecord, slotItem}
+use Rattle.write_parts.specs.Slot.{headBytes, slotFilter, slotStart, slotRecord, slotItem}
 use Rattle.write_bytes.proofs.MeasureLaws.{end-is, long-is}
 use Rattle.write_bytes.proofs.TableLaws.{Half, half-none, half-more, half-all, offset-more, plan-count, plan-words, plan-filter, plan-first, plan-start, plan-item, plan-record, table-none, table-plan}
 

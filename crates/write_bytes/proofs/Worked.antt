@@ -9,7 +9,7 @@ use Rattle.words.specs.Field.{spelled}
 use Rattle.words.specs.Align.{aligned}
 use Rattle.layout.specs.Sizes.{chunkSize}
 use Rattle.image.specs.Plan.{wordsOf, valueStart, itemBytes, payload, place, recordBytes, records, planBytes}
-use Rattle.write_bytes.specs.Numbered.{firstSlot, slotCount, slotWord, childWord, byKind, slotValue, numberedPlan, numberedBytes, numberedImage, slotCover}
+use Rattle.write_parts.specs.Numbered.{firstSlot, slotCount, slotWord, childWord, byKind, slotValue, numberedPlan, numberedBytes, numberedImage, slotCover}
 
 -- "a/bt", 1, 2, 7
 abbrev arena : List ℕ

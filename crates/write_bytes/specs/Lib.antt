@@ -1,3 +1,1 @@
-pub mod Numbered
-pub mod Slot
 pub mod Measure

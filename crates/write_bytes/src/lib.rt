@@ -1,8 +1,5 @@
 // A numbered table measured, and laid as an image.
 pub mod measure;
-pub mod numbered;
-pub mod put;
-pub mod slot;
 pub mod table;
 pub mod whole;
 

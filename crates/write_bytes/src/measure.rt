@@ -1,23 +1,23 @@
 // A table measured before a byte of it is laid: two functions that call each other as in laying, without an image.
 use crate::Measured;
-use crate::numbered::KIND;
-use crate::numbered::VALUE;
-use crate::numbered::first_slot;
-use crate::numbered::slot_count;
-use crate::numbered::slot_word;
-use crate::slot::cover;
-use crate::slot::value_start;
 use layout::kind::TABLE_KIND;
 use layout::limits::LONGEST_FILE;
 use layout::sizes::CHUNK_STEP;
 use layout::sizes::FILTER_SIZE;
 use layout::sizes::HEAD_SIZE;
+use write_parts::numbered::KIND;
+use write_parts::numbered::VALUE;
+use write_parts::numbered::first_slot;
+use write_parts::numbered::slot_count;
+use write_parts::numbered::slot_word;
+use write_parts::slot::cover;
+use write_parts::slot::value_start;
 ghost use mathlib.Core.Path.{_≡_};
 ghost use Prim.Native.Nat.{_+_, _≤_, _<_};
 ghost use lib.ListN.{length};
 ghost use Rattle.layout.specs.Limits.{longestFile, mostTables, mostItems, mostFilter};
-ghost use Rattle.write_bytes.specs.Numbered.{numberedBytes, NumberedFits};
-ghost use Rattle.write_bytes.specs.Slot.{slotItem};
+ghost use Rattle.write_parts.specs.Numbered.{numberedBytes, NumberedFits};
+ghost use Rattle.write_parts.specs.Slot.{slotItem};
 ghost use Rattle.write_bytes.specs.Measure.{measured};
 
 // Measures a table that starts at `at`.

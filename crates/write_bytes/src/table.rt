@@ -1,27 +1,27 @@
 // A table laid with all its chunks: laying a table and laying an item call each other, and the depth left falls.
-use crate::numbered::KIND;
-use crate::numbered::VALUE;
-use crate::numbered::first_slot;
-use crate::numbered::slot_count;
-use crate::numbered::slot_word;
-use crate::put::lay_front;
-use crate::put::lay_key;
-use crate::put::lay_plain;
-use crate::put::lay_record;
-use crate::slot::value_start;
 use layout::kind::TABLE_KIND;
 use layout::sizes::BUCKET_SIZE;
 use layout::sizes::FILTER_SIZE;
 use layout::sizes::HEAD_SIZE;
 use layout::sizes::RECORD_SIZE;
+use write_parts::numbered::KIND;
+use write_parts::numbered::VALUE;
+use write_parts::numbered::first_slot;
+use write_parts::numbered::slot_count;
+use write_parts::numbered::slot_word;
+use write_parts::put::lay_front;
+use write_parts::put::lay_key;
+use write_parts::put::lay_plain;
+use write_parts::put::lay_record;
+use write_parts::slot::value_start;
 ghost use Prim.Native.Nat.{_+_, _≤_, _<_};
 ghost use lib.ListN.{length};
 ghost use Rattle.words.specs.Store.{putAt};
 ghost use Rattle.image.specs.Laid.{Laid};
 ghost use Rattle.layout.specs.Limits.{longestFile, mostTables, mostItems, mostFilter};
 ghost use Rattle.layout.specs.Sizes.{recordSize};
-ghost use Rattle.write_bytes.specs.Numbered.{numberedBytes, NumberedFits};
-ghost use Rattle.write_bytes.specs.Slot.{slotStart, slotRecord, slotItem};
+ghost use Rattle.write_parts.specs.Numbered.{numberedBytes, NumberedFits};
+ghost use Rattle.write_parts.specs.Slot.{slotStart, slotRecord, slotItem};
 
 // gvdb-rs: add_simple_hash_table.
 // Lays a table at `at`. Answers where it ends. At depth 0 nothing is laid.

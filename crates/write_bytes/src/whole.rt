@@ -10,7 +10,7 @@ ghost use Prim.Native.Nat.{_≤_, _<_};
 ghost use lib.ListN.{length};
 ghost use Rattle.words.specs.Store.{putAt};
 ghost use Rattle.layout.specs.Limits.{longestFile, mostTables, mostFilter};
-ghost use Rattle.write_bytes.specs.Numbered.{numberedImage, NumberedFits};
+ghost use Rattle.write_parts.specs.Numbered.{numberedImage, NumberedFits};
 ghost use Rattle.write_bytes.specs.Measure.{measured};
 
 // gvdb-rs: file_size.

@@ -12,7 +12,7 @@ use Rattle.build_memory.specs.Memory.{itemTotal, itemTable}
 use Rattle.image.specs.Index.{hashesOf, bucketStart, itemOf, laidIndex}
 use Rattle.build_rules.specs.Valid.{fullyValid}
 use Rattle.build_rules.proofs.ValidFacts.{whole-facts}
-use Rattle.write_bytes.specs.Numbered.{slotsFrom, firstSlot, slotCount}
+use Rattle.write_parts.specs.Numbered.{slotsFrom, firstSlot, slotCount}
 use Rattle.write_numbers.specs.Roster.{indicesFrom, bucketsFrom, rosterSize, stateOf, slotItem, itemIndex, bucketWord, Rostered}
 use Rattle.write_numbers.specs.Fill.{firstSlotOf, Fit, Judged, Sized, Filled}
 use Rattle.write_numbers.proofs.OfTableLaws.{slot-few}

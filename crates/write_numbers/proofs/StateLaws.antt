@@ -7,7 +7,7 @@ use mathlib.Core.List.{List, [], _∷_, _++_}
 use lib.Dec.{eqb}
 use lib.ListN.{length}
 use Rattle.words.specs.Choice.{pick}
-use Rattle.words.specs.Hash.{hashOf}
+use Rattle.key_hash.specs.Hash.{hashOf}
 use Rattle.layout.specs.Limits.{mostItems}
 use Rattle.model.specs.Table.{Entry, Has, times, entryAt, membersBelow, rowsOf}
 use Rattle.build_memory.specs.Memory.{itemTotal, itemTable, itemHash, keyOf}

@@ -5,8 +5,8 @@ use mathlib.Core.Path.{_≡_, sym, ap, _∙_}
 use mathlib.Core.List.{List}
 use lib.ListN.{length, take, drop, length-drop, length-map}
 use lib.Seq.{length-take-le, getD-take, getD-drop}
-use Rattle.words.specs.declared.hash.Form.{Form}
-use Rattle.words.specs.Hash.{ruleOf}
+use Rattle.key_hash.specs.declared.hash.Form.{Form}
+use Rattle.key_hash.specs.Hash.{ruleOf}
 use Rattle.words.specs.Store.{putAt}
 use Rattle.words.proofs.StoreLaws.{part-put, length-put}
 use Rattle.image.specs.Index.{keyOrder, hashesOf, byBucket, byIndex}

@@ -7,13 +7,13 @@ use lib.Dec.{eqb}
 use lib.ListN.{length, getD, take}
 use Rattle.words.specs.Choice.{pick}
 use Rattle.words.specs.Below.{someBelow}
-use Rattle.words.specs.Hash.{hashOf}
+use Rattle.key_hash.specs.Hash.{hashOf}
 use Rattle.words.specs.Store.{putAt}
 use Rattle.layout.specs.Limits.{mostItems}
 use Rattle.layout.specs.Item.{noItem}
 use Rattle.build_memory.specs.Memory.{word, leastWords, links, linkAt, tableTotal, itemTotal, itemTable, itemHash, keyOf}
 use Rattle.image.specs.Index.{keyOrder, hashesOf, bucketStart, byIndex, itemOf, laidIndex}
-use Rattle.write_bytes.specs.Numbered.{headWords}
+use Rattle.write_parts.specs.Numbered.{headWords}
 use Rattle.write_order.specs.Chain.{starts}
 use Rattle.write_order.specs.Items.{indicesPut}
 use Rattle.write_numbers.specs.Roster.{stateOf}

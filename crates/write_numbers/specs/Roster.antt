@@ -12,7 +12,7 @@ use Rattle.layout.specs.Limits.{mostItems, mostTables}
 use Rattle.build_memory.specs.Memory.{itemTotal, itemTable}
 use Rattle.build_memory.specs.Meaning.{meaning}
 use Rattle.image.specs.Index.{hashesOf, bucketStart, itemOf, laidIndex}
-use Rattle.write_bytes.specs.Numbered.{slotsFrom, firstSlot, slotCount}
+use Rattle.write_parts.specs.Numbered.{slotsFrom, firstSlot, slotCount}
 
 abbrev pub indicesFrom : ℕ
 indicesFrom = slotsFrom + mostItems

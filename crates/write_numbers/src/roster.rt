@@ -1,6 +1,6 @@
 // Where the words of a roster stand: specs/Roster.antt says what each holds. Its tables and its slots stand as those of a numbered table.
 use layout::limits::MOST_ITEMS;
-use write_bytes::numbered::SLOTS_FROM;
+use write_parts::numbered::SLOTS_FROM;
 
 pub const INDICES_FROM: usize = SLOTS_FROM + MOST_ITEMS;
 

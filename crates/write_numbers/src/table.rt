@@ -2,15 +2,15 @@
 use crate::collect::in_order;
 use build_memory::fields::LEAST_WORDS;
 use build_memory::fields::LINKS_FROM;
+use key_hash::hash::Form;
 use layout::limits::MOST_ITEMS;
-use words::hash::Form;
 use write_order::buckets::index_by_bucket;
 use write_order::items::hash_all;
 use write_order::items::items_at;
 ghost use mathlib.Core.Path.{_≡_};
 ghost use Prim.Native.Nat.{_≤_};
 ghost use lib.ListN.{length};
-ghost use Rattle.words.specs.Hash.{ruleOf};
+ghost use Rattle.key_hash.specs.Hash.{ruleOf};
 ghost use Rattle.words.specs.Store.{putAt};
 ghost use Rattle.layout.specs.Limits.{mostItems};
 ghost use Rattle.image.specs.Index.{byBucket};

@@ -10,8 +10,8 @@ use native.Mathlib.Omega.{arith}
 use lib.ListN.{length, take, getD, set, length-set, length-map}
 use lib.Seq.{length-take-le, take-all, getD-set-same, getD-set-other}
 use Rattle.words.specs.Store.{putAt}
-use Rattle.words.specs.declared.hash.Form.{Form}
-use Rattle.words.specs.Hash.{hashOf, hashBy, plain, signed, ruleOf}
+use Rattle.key_hash.specs.declared.hash.Form.{Form}
+use Rattle.key_hash.specs.Hash.{hashOf, hashBy, plain, signed, ruleOf}
 use Rattle.words.proofs.StoreLaws.{put-none, put-snoc}
 use Rattle.model.specs.Table.{Rows, times, Has}
 use Rattle.image.specs.Index.{keyOrder, hashesOf, byBucket, byIndex, indexIn, laidIndex}

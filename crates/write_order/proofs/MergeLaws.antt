@@ -11,8 +11,8 @@ use borrow.Rule.Slice.PartMut.{putMid, postOf, post-is}
 use Rattle.words.specs.Choice.{pick}
 use Rattle.words.specs.Store.{putAt}
 use Rattle.words.proofs.StoreLaws.{part-put}
-use Rattle.text.specs.Order.{precedes}
-use Rattle.text.proofs.OrderLaws.{transitive}
+use Rattle.key_order.specs.Order.{precedes}
+use Rattle.key_order.proofs.OrderLaws.{transitive}
 use Rattle.model.specs.Table.{Rows}
 use Rattle.image.specs.Index.{insertKey, sortKeys, keyOrder}
 use Rattle.image.proofs.OrderLaws.{not-before}

@@ -2,8 +2,8 @@
 use Prim.Native.Nat.{ℕ, zero, suc, _<_}
 use mathlib.Core.List.{List, map}
 use lib.ListN.{length, getD, set}
-use Rattle.words.specs.declared.hash.Form.{Form}
-use Rattle.words.specs.Hash.{hashBy, signed}
+use Rattle.key_hash.specs.declared.hash.Form.{Form}
+use Rattle.key_hash.specs.Hash.{hashBy, signed}
 use Rattle.build_memory.specs.Memory.{itemHash, keyOf}
 
 -- every element is below n

@@ -3,7 +3,7 @@ use Prim.Native.Nat.{ℕ}
 use mathlib.Core.Bool.{Bool, true, false}
 use mathlib.Core.List.{List, [], _∷_}
 use Rattle.words.specs.Choice.{pick}
-use Rattle.text.specs.Order.{precedes}
+use Rattle.key_order.specs.Order.{precedes}
 
 module _ (key : ℕ → List ℕ) where
   -- whether the right list's item goes next

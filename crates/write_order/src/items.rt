@@ -2,8 +2,8 @@
 use build_memory::fields::HASH;
 use build_memory::fields::item_word;
 use build_memory::fields::key_of;
-use words::hash::Form;
-use words::hash::hash_key;
+use key_hash::hash::Form;
+use key_hash::hash::hash_key;
 use words::wide::word_size;
 ghost use mathlib.Core.Path.{_≡_};
 ghost use Prim.Native.Nat.{_≤_, _<_};

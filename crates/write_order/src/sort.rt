@@ -1,12 +1,12 @@
 // Items sorted by their keys, in a merge sort over lent words. Of equal keys the earlier item stays first.
 use build_memory::fields::key_of;
-use text::keyorder::less;
+use key_order::keyorder::less;
 use words::store::put_words;
 ghost use mathlib.Core.Path.{_≡_};
 ghost use Prim.Native.Nat.{_≤_, _<_};
 ghost use lib.ListN.{length, take, drop};
 ghost use Rattle.words.specs.Store.{putAt};
-ghost use Rattle.text.specs.Order.{precedes};
+ghost use Rattle.key_order.specs.Order.{precedes};
 ghost use Rattle.layout.specs.Limits.{mostItems};
 ghost use Rattle.build_memory.specs.Memory.{leastWords, keyOf};
 ghost use Rattle.image.specs.Index.{keyOrder};

@@ -1,6 +1,6 @@
 -- `build_memory::find::is_item` meets its contract, field by field.
 use Rattle.build_memory.proofs.FindLaws.{item-table, item-hash, item-size, item-bytes}
-use Rattle.text.specs.Compare.{sameBytes}
+use Rattle.key_order.specs.Compare.{sameBytes}
 use Prim.Native.Nat.{ℕ}
 use mathlib.Core.List.{List}
 use mathlib.Core.Path.{sym, ap, _∙_}

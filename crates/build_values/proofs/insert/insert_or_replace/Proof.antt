@@ -1,7 +1,7 @@
 -- `build_values::insert::insert_or_replace` meets its contract.
 use Rattle.build_values.proofs.InsertLaws.{along-old, along-new}
-use Rattle.words.specs.Hash.{plain}
-use Rattle.words.proofs.HashLaws.{hash-whole}
+use Rattle.key_hash.specs.Hash.{plain}
+use Rattle.key_hash.proofs.HashLaws.{hash-whole}
 use mathlib.Core.Path.{_∙_}
 use borrow.Author.Needs.{needs}
 use Rattle.build_values.proofs.insert.insert_or_replace.Statement.{statement}

@@ -7,9 +7,9 @@ use Rattle.build_memory.proofs.MadeLaws.{made-all}
 use Rattle.build_memory.specs.Item.{stored}
 use Rattle.layout.specs.Kind.{containerKind}
 use Rattle.build_memory.specs.Memory.{itemTotal, roomUsed, memory}
-use Rattle.text.specs.Prefix.{endsPast}
-use Rattle.words.specs.Hash.{hashOf, plain}
-use Rattle.words.proofs.HashLaws.{hash-further}
+use Rattle.key_order.specs.Prefix.{endsPast}
+use Rattle.key_hash.specs.Hash.{hashOf, plain}
+use Rattle.key_hash.proofs.HashLaws.{hash-further}
 use borrow.Author.Needs.{needs}
 use lib.Seq.{length-take-le}
 use lib.ListN.{length, take}

@@ -2,7 +2,7 @@
 use Rattle.build_values.proofs.WalkLaws.{further, last}
 use Rattle.build_values.specs.Walk.{sum}
 use Rattle.layout.specs.Limits.{longestKey}
-use Rattle.text.specs.Prefix.{endsPast}
+use Rattle.key_order.specs.Prefix.{endsPast}
 use lib.ListN.{length}
 use native.Mathlib.Omega.{arith}
 use Prim.Native.Nat.{_+_, _*_, _-_, _≤_}

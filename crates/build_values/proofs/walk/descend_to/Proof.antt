@@ -3,9 +3,9 @@
 use Rattle.build_values.proofs.WalkLaws.{further, walked-is, walk-end, walk-miss, walk-block, walk-pass}
 use Rattle.build_values.specs.Walk.{descend}
 use Rattle.layout.specs.Limits.{mostItems}
-use Rattle.text.specs.Prefix.{endsPast}
-use Rattle.words.specs.Hash.{hashOf, plain}
-use Rattle.words.proofs.HashLaws.{hash-none, hash-further}
+use Rattle.key_order.specs.Prefix.{endsPast}
+use Rattle.key_hash.specs.Hash.{hashOf, plain}
+use Rattle.key_hash.proofs.HashLaws.{hash-none, hash-further}
 use lib.Seq.{length-take-le}
 use lib.ListN.{length, take}
 use borrow.Author.Needs.{needs}

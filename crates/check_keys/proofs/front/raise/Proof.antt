@@ -2,7 +2,7 @@
 use mathlib.Core.Path.{sym, ap, _∙_}
 use native.Mathlib.Omega.{arith}
 use Rattle.layout.specs.declared.item.Item.{Item}
-use Rattle.read.specs.Chain.{parentOf}
+use Rattle.read_chain.specs.Chain.{parentOf}
 use Rattle.check_keys.proofs.FrontLaws.{parent-below, raise-root, raise-refused, raise-up, left-some}
 use borrow.Author.Needs.{needs}
 use Rattle.check_keys.proofs.front.raise.Statement.{statement}

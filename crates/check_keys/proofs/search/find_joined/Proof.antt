@@ -3,7 +3,7 @@ use mathlib.Core.Path.{sym, _∙_}
 use native.Mathlib.Omega.{arith}
 use Prim.Native.Nat.{_<_}
 use native.Mathlib.Nat.{mod-lt}
-use Rattle.read.proofs.FindLaws.{find-no-buckets, find-filtered, find-in-run}
+use Rattle.read_find.proofs.FindLaws.{find-no-buckets, find-filtered, find-in-run}
 use borrow.Author.Needs.{needs}
 use Rattle.check_keys.proofs.search.find_joined.Statement.{statement}
 use Rattle.check_keys.proofs.search.find_joined.Tie as tie

@@ -1,10 +1,10 @@
 -- `check_keys::search::first_same` meets its contract: what the search has still to say from here is what it had to say from the start.
 use mathlib.Core.Path.{_≡_}
 use Prim.Native.Nat.{_-_}
-use Rattle.read.specs.Chain.{keyOf}
-use Rattle.read.specs.Find.{mannerOf, firstFrom, firstOf, itemMatches}
-use Rattle.read.proofs.FindLaws.{first-past, first-hit, first-on, first-over}
-use Rattle.check_keys.specs.Key.{bytesOf}
+use Rattle.read_chain.specs.Chain.{keyOf}
+use Rattle.read_find.specs.Find.{mannerOf, firstFrom, firstOf, itemMatches}
+use Rattle.read_find.proofs.FindLaws.{first-past, first-hit, first-on, first-over}
+use Rattle.check_hash.specs.Key.{bytesOf}
 use borrow.Author.Needs.{needs}
 use Rattle.check_keys.proofs.search.first_same.Statement.{statement}
 use Rattle.check_keys.proofs.search.first_same.Tie as tie

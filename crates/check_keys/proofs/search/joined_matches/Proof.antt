@@ -1,7 +1,7 @@
 -- `check_keys::search::joined_matches` meets its contract: each return is a case of the definition.
 use mathlib.Core.Path.{_∙_}
-use Rattle.read.proofs.FindLaws.{other-hash, same-hash}
-use Rattle.check_keys.proofs.KeyLaws.{names-at}
+use Rattle.read_find.proofs.FindLaws.{other-hash, same-hash}
+use Rattle.check_hash.proofs.KeyLaws.{names-at}
 use borrow.Author.Needs.{needs}
 use Rattle.check_keys.proofs.search.joined_matches.Statement.{statement}
 use Rattle.check_keys.proofs.search.joined_matches.Tie as tie

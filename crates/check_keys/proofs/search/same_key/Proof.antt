@@ -1,7 +1,7 @@
 -- `check_keys::search::same_key` meets its contract: the invariant is `Comparing`, and the measure is the steps left.
 use mathlib.Core.Path.{subst}
-use Rattle.read.specs.Chain.{keyOf}
-use Rattle.check_keys.specs.Key.{bytesOf}
+use Rattle.read_chain.specs.Chain.{keyOf}
+use Rattle.check_hash.specs.Key.{bytesOf}
 use Rattle.check_keys.specs.Front.{ItemCompared}
 use Rattle.check_keys.proofs.SameLaws.{Comparing, same-start, same-over, same-ended, same-up}
 use borrow.Author.Needs.{needs}

@@ -1,8 +1,8 @@
 -- `check_table::check::broken_rule` meets its contract: each return is a rule of the cascade; the survey stopped where rule 5 is broken first.
 use mathlib.Core.Path.{sym, _∙_}
 use borrow.Author.Tests.{not-true, not-false}
-use Rattle.check_table.proofs.RuleLaws.{breaks-key, breaks-3, breaks-4, breaks-5, breaks-6, breaks-none}
-use Rattle.check_table.proofs.SurveyLaws.{five-fails, five-holds}
+use Rattle.check_rules.proofs.RuleLaws.{breaks-key, breaks-3, breaks-4, breaks-5, breaks-6, breaks-none}
+use Rattle.check_rules.proofs.SurveyLaws.{five-fails, five-holds}
 use borrow.Author.Needs.{needs}
 use Rattle.check_table.proofs.check.broken_rule.Statement.{statement}
 use Rattle.check_table.proofs.check.broken_rule.Tie as tie

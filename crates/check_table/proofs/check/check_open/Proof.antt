@@ -1,5 +1,5 @@
 -- `check_table::check::check_open` meets its contract: zeros have no bit set.
-use Rattle.check_table.proofs.SurveyLaws.{blank, enough}
+use Rattle.check_rules.proofs.SurveyLaws.{blank, enough}
 use borrow.Author.Needs.{needs}
 use Rattle.check_table.proofs.check.check_open.Statement.{statement}
 use Rattle.check_table.proofs.check.check_open.Tie as tie

@@ -1,10 +1,10 @@
 -- `check_table::check::check_surveyed` meets its contract: what the search has still to say from here is what it had to say from the start.
 use mathlib.Core.Path.{_≡_, refl, sym, ap, _∙_}
 use Prim.Native.Nat.{_-_, _≤_}
-use Rattle.read.specs.Find.{mannerOf}
-use Rattle.check_table.specs.Rules.{firstBroken, brokenRule, explained, checkIn}
-use Rattle.check_table.proofs.RuleLaws.{broken-start, broken-here, broken-later, broken-over}
-use Rattle.check_table.proofs.SurveyLaws.{passes-on}
+use Rattle.read_find.specs.Find.{mannerOf}
+use Rattle.check_rules.specs.Rules.{firstBroken, brokenRule, explained, checkIn}
+use Rattle.check_rules.proofs.RuleLaws.{broken-start, broken-here, broken-later, broken-over}
+use Rattle.check_rules.proofs.SurveyLaws.{passes-on}
 use borrow.Author.Needs.{needs}
 use Rattle.check_table.proofs.check.check_surveyed.Statement.{statement}
 use Rattle.check_table.proofs.check.check_surveyed.Tie as tie

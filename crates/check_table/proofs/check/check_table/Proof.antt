@@ -1,7 +1,7 @@
 -- `check_table::check::check_table` meets its contract: each arm is a case of the definition.
 use mathlib.Core.Path.{sym, ap, _∙_}
 use Rattle.layout.proofs.OpenLaws.{opened-in-file}
-use Rattle.check_table.specs.Rules.{checkTable, checkOpened}
+use Rattle.check_rules.specs.Rules.{checkTable, checkOpened}
 use borrow.Author.Needs.{needs}
 use Rattle.check_table.proofs.check.check_table.Statement.{statement}
 use Rattle.check_table.proofs.check.check_table.Tie as tie

@@ -1,6 +1,6 @@
 -- `check_table::check::explain` meets its contract: a rule that is not 1 stays, and rule 1 is told with what the key measures.
 use mathlib.Core.Path.{sym, _∙_}
-use Rattle.check_table.proofs.RuleLaws.{explained-other, explained-refused, explained-sized}
+use Rattle.check_rules.proofs.RuleLaws.{explained-other, explained-refused, explained-sized}
 use borrow.Author.Needs.{needs}
 use Rattle.check_table.proofs.check.explain.Statement.{statement}
 use Rattle.check_table.proofs.check.explain.Tie as tie

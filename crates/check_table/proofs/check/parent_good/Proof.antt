@@ -1,9 +1,9 @@
 -- `check_table::check::parent_good` meets its contract: where the survey came past the parent, the bit says whether it lists the item.
 use mathlib.Core.Path.{sym, ap, _∙_}
-use Rattle.check_table.specs.Rules.{parentKeeps, listsIt}
-use Rattle.check_table.proofs.RuleLaws.{parent-keeps}
+use Rattle.check_rules.specs.Rules.{parentKeeps, listsIt}
+use Rattle.check_rules.proofs.RuleLaws.{parent-keeps}
 use Rattle.check_keys.proofs.FrontLaws.{parent-below}
-use Rattle.check_table.proofs.SurveyLaws.{six-bit-set}
+use Rattle.check_rules.proofs.SurveyLaws.{six-bit-set}
 use borrow.Author.Needs.{needs}
 use Rattle.check_table.proofs.check.parent_good.Statement.{statement}
 use Rattle.check_table.proofs.check.parent_good.Tie as tie

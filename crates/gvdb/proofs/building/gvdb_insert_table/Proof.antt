@@ -1,6 +1,6 @@
 -- `gvdb::building::gvdb_insert_table` meets its contract: the insert's answer as numbers, and its memory.
 use mathlib.Core.Path.{ap}
-use Rattle.gvdb.specs.Building.{told, insertedAnswer}
+use Rattle.answers_build.specs.Building.{told, insertedAnswer}
 use borrow.Author.Needs.{needs}
 use Rattle.gvdb.proofs.building.gvdb_insert_table.Statement.{statement}
 use Rattle.gvdb.proofs.building.gvdb_insert_table.Tie as tie

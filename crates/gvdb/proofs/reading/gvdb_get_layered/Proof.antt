@@ -1,6 +1,6 @@
 -- `gvdb::reading::gvdb_get_layered` meets its contract: the answer of the lookup over two tables as numbers.
 use mathlib.Core.Path.{ap, _∙_}
-use Rattle.gvdb.specs.Reading.{layeredAnswer}
+use Rattle.answers.specs.Reading.{layeredAnswer}
 use borrow.Author.Needs.{needs}
 use Rattle.gvdb.proofs.reading.gvdb_get_layered.Statement.{statement}
 use Rattle.gvdb.proofs.reading.gvdb_get_layered.Tie as tie

@@ -5,7 +5,7 @@ use borrow.Author.Needs.{needs}
 use borrow.Author.Tests.{not-true, not-false}
 use Rattle.words.specs.Choice.{pick}
 use Rattle.text.specs.Utf8.{isUtf8}
-use Rattle.read.specs.Find.{mannerOf}
+use Rattle.read_find.specs.Find.{mannerOf}
 use Rattle.read.specs.Lookup.{lookupValue}
 use Rattle.read.specs.Layered.{layeredValue}
 use Rattle.read.proofs.LayeredLaws.{fromTurn, turn-district, turn-owner, turn-next}

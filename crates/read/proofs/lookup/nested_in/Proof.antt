@@ -6,7 +6,7 @@ use Rattle.words.specs.Choice.{pick}
 use Rattle.layout.specs.declared.refusal.Refusal.the-variants.{KeyNotUtf8}
 use Rattle.read.specs.declared.lookup.Looked.{Looked}
 use Rattle.read.specs.Lookup.{lookupIn, atFound, atItem, nestedOf}
-use Rattle.read.proofs.FindLaws.{FoundBelow, found-below}
+use Rattle.read_find.proofs.FindLaws.{FoundBelow, found-below}
 use Rattle.read.proofs.lookup.nested_in.Statement.{statement}
 use Rattle.read.proofs.lookup.nested_in.Tie as tie
 

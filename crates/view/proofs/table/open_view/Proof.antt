@@ -45,9 +45,9 @@ use Rattle.view.specs.Views.{OpenedOf}
 use Rattle.layout.specs.declared.table.Opened.{Opened}
 use Rattle.layout.proofs.table.Opened as DOpened
 use Rattle.layout.proofs.table.Opened.Laws as DOpened′
-use Rattle.read.specs.declared.manner.Manner.{Manner}
-use Rattle.read.proofs.manner.Manner as DManner
-use Rattle.read.proofs.manner.Manner.Laws as DManner′
+use Rattle.read_find.specs.declared.manner.Manner.{Manner}
+use Rattle.read_find.proofs.manner.Manner as DManner
+use Rattle.read_find.proofs.manner.Manner.Laws as DManner′
 use Rattle.view.specs.declared.table.OpenedView.{OpenedView}
 use Rattle.view.proofs.table.OpenedView as DOpenedView
 use Rattle.view.proofs.table.OpenedView.Laws as DOpenedView′

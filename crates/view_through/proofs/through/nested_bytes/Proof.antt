@@ -40,19 +40,19 @@ use denote.Triple.Table.{entered, cited}
 use denote.Triple.Walked.{says, Stays, stay-none, stay-none-slice, walkOf, goes-none, goes-none-slice, Walks, ends-at, walked, walk-meets}
 use denote.Exit.{yes}
 use denote.Triple.Clauses.{ensured, lasts}
-use Rattle.read.specs.Find.{mannerOf}
+use Rattle.read_find.specs.Find.{mannerOf}
 use Rattle.view_part.specs.Part.{ValueIn}
 use Rattle.view.specs.Views.{OpenedOf, ValueOf, NestedOf}
-use Rattle.view_through.specs.Through.{nestedValue}
-use Rattle.view_through.proofs.ThroughLaws.{nested-through}
+use Rattle.view.specs.Through.{nestedValue}
+use Rattle.view.proofs.ThroughLaws.{nested-through}
 use Rattle.view.proofs.HoldsLaws.{and-left, and-right}
 use Rattle.layout.proofs.table.Opened as DOpened
 use Rattle.layout.proofs.table.Opened.Laws as DOpened′
 use Rattle.read.proofs.lookup.Looked as DLooked
 use Rattle.read.proofs.lookup.Looked.Laws as DLooked′
-use Rattle.read.specs.declared.manner.Manner.{Manner}
-use Rattle.read.proofs.manner.Manner as DManner
-use Rattle.read.proofs.manner.Manner.Laws as DManner′
+use Rattle.read_find.specs.declared.manner.Manner.{Manner}
+use Rattle.read_find.proofs.manner.Manner as DManner
+use Rattle.read_find.proofs.manner.Manner.Laws as DManner′
 use Rattle.view.specs.declared.table.NestedView.{NestedView}
 use Rattle.view.proofs.table.NestedView as DNestedView
 use Rattle.view.proofs.table.NestedView.Laws as DNestedView′

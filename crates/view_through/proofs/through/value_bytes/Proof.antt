@@ -40,17 +40,17 @@ use denote.Triple.Table.{entered, cited}
 use denote.Triple.Walked.{says, Stays, stay-none, stay-none-slice, walkOf, goes-none, goes-none-slice, Walks, ends-at, walked, walk-meets}
 use denote.Exit.{yes}
 use denote.Triple.Clauses.{ensured, lasts}
-use Rattle.read.specs.Find.{mannerOf}
+use Rattle.read_find.specs.Find.{mannerOf}
 use Rattle.read.specs.Lookup.{lookupValue}
 use Rattle.view_part.specs.Part.{ValueIn}
 use Rattle.view.specs.Views.{OpenedOf, ValueOf}
-use Rattle.view_through.proofs.ThroughLaws.{value-through}
+use Rattle.view.proofs.ThroughLaws.{value-through}
 use Rattle.view.proofs.HoldsLaws.{and-left, and-right}
 use Rattle.layout.proofs.table.Opened as DOpened
 use Rattle.layout.proofs.table.Opened.Laws as DOpened′
-use Rattle.read.specs.declared.manner.Manner.{Manner}
-use Rattle.read.proofs.manner.Manner as DManner
-use Rattle.read.proofs.manner.Manner.Laws as DManner′
+use Rattle.read_find.specs.declared.manner.Manner.{Manner}
+use Rattle.read_find.proofs.manner.Manner as DManner
+use Rattle.read_find.proofs.manner.Manner.Laws as DManner′
 use Rattle.view.specs.declared.table.OpenedView.{OpenedView}
 use Rattle.view.proofs.table.OpenedView as DOpenedView
 use Rattle.view.proofs.table.OpenedView.Laws as DOpenedView′

@@ -4,7 +4,7 @@ use native.Mathlib.Omega.{arith}
 use mathlib.Core.Path.{sym}
 use lib.ListN.{length}
 use lib.Seq.{length-take-le}
-use Rattle.text.proofs.PrefixLaws.{next-rises}
+use Rattle.key_order.proofs.PrefixLaws.{next-rises}
 use borrow.Author.Needs.{needs}
 use Rattle.worked.proofs.small.walk.Statement.{statement}
 use Rattle.worked.proofs.small.walk.Tie as tie

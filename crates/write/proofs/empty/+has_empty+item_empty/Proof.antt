@@ -4,8 +4,8 @@ use mathlib.Core.Path.{_≡_, sym, _∙_}
 use mathlib.Core.Bool.{false}
 use native.Mathlib.Omega.{arith}
 use borrow.Author.Needs.{needs}
-use Rattle.words.specs.Hash.{ruleOf}
-use Rattle.write.proofs.StateLaws.{fully-valid}
+use Rattle.key_hash.specs.Hash.{ruleOf}
+use Rattle.write_slots.proofs.StateLaws.{fully-valid}
 use Rattle.write.proofs.EmptyLaws.{foundBelow, empty-own, empty-plain, empty-held, slot-at, slot-in, slots-few, found-none, found-turn, empty-end, empty-hit, empty-nowhere}
 use Prim.Native.Nat.{ℕ, _+_, _-_, _≤_, _<_}
 use borrow.Fn.Kinds.{In}

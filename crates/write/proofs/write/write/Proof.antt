@@ -3,10 +3,10 @@ use Rattle.build_tables.specs.Table.{freeStanding}
 use mathlib.Core.Path.{refl, ap, _∙_}
 use Prim.Native.Nat.{_<_}
 use native.Mathlib.Omega.{arith}
-use Rattle.words.specs.Hash.{ruleOf}
+use Rattle.key_hash.specs.Hash.{ruleOf}
 use Rattle.build_memory.specs.Memory.{tableTotal}
-use Rattle.write.proofs.StateLaws.{fully-valid}
-use Rattle.write.proofs.SlotLaws.{turned-on, turned-off}
+use Rattle.write_slots.proofs.StateLaws.{fully-valid}
+use Rattle.write_slots.proofs.SlotLaws.{turned-on, turned-off}
 use Rattle.write.proofs.AnswerLaws.{write-broken, write-unknown, write-many, index-and-write, image-after}
 use Rattle.build_tables.proofs.TableLaws.{free-standing-facts}
 use borrow.Author.Needs.{needs}

@@ -1,8 +1,8 @@
 -- `write::write::write_unless_empty` meets its contract: the numbered table's image is the one that the memory means.
 use Prim.Native.Nat.{ℕ}
 use lib.ListN.{length-replicate, getD-replicate}
-use Rattle.words.specs.Hash.{ruleOf}
-use Rattle.write_bytes.specs.Numbered.{numberedSize}
+use Rattle.key_hash.specs.Hash.{ruleOf}
+use Rattle.write_parts.specs.Numbered.{numberedSize}
 use Rattle.write.proofs.AnswerLaws.{table-empty, table-indexed}
 use borrow.Author.Needs.{needs}
 use Rattle.write.proofs.write.write_unless_empty.Statement.{statement}

@@ -10,8 +10,8 @@ use lib.ListN.{length}
 use Rattle.layout.specs.Limits.{mostItems, mostFilter, longestFile}
 use Rattle.image.specs.Plan.{place}
 use Rattle.layout.specs.Kind.{tableKind}
-use Rattle.write_bytes.specs.Numbered.{slotKind, numberedBytes}
-use Rattle.write_bytes.specs.Slot.{slotItem}
+use Rattle.write_parts.specs.Numbered.{slotKind, numberedBytes}
+use Rattle.write_parts.specs.Slot.{slotItem}
 use Rattle.write_bytes.specs.Measure.{measured}
 use Rattle.write_bytes.proofs.ItemLaws.{AtSlot, slot-in, slot-fits, cover-fits, item-end, table-item, plain-item}
 use Rattle.write_bytes.proofs.TurnLaws.{AtTable, planAt, baseAt, nothing-long, first-offset, table-ends, table-least, few, item-over, item-ends}
@@ -22,11 +22,11 @@ use Rattle.write_bytes.proofs.measure.+measure_item+measure_table.Lts-m
 use Rattle.write_bytes.proofs.measure.measure_table.Reads as measure-table
 use Rattle.write_bytes.proofs.measure.measure_table.Kinds as measure-table-kinds
 use Rattle.write_bytes.proofs.measure.+measure_item+measure_table.Lts-measure_table as measure-table-lts
-use Rattle.write_bytes.proofs.numbered.first_slot.Reads as first-slot-reads
-use Rattle.write_bytes.proofs.numbered.slot_count.Reads as slot-count-reads
-use Rattle.write_bytes.proofs.numbered.slot_word.Reads as slot-word-reads
-use Rattle.write_bytes.proofs.slot.cover.Reads as cover-reads
-use Rattle.write_bytes.proofs.slot.value_start.Reads as value-start-reads
+use Rattle.write_parts.proofs.numbered.first_slot.Reads as first-slot-reads
+use Rattle.write_parts.proofs.numbered.slot_count.Reads as slot-count-reads
+use Rattle.write_parts.proofs.numbered.slot_word.Reads as slot-word-reads
+use Rattle.write_parts.proofs.slot.cover.Reads as cover-reads
+use Rattle.write_parts.proofs.slot.value_start.Reads as value-start-reads
 use Rattle.write_bytes.proofs.measure.+measure_item+measure_table.{statement}
 use Rattle.write_bytes.proofs.measure.+measure_item+measure_table.Tie.{close}
 

@@ -9,8 +9,8 @@ use borrow.Fn.Kinds.{In}
 use borrow.Fn.PlainCycle.{Measures, is, falls, and}
 use lib.ListN.{length}
 use Rattle.layout.specs.Kind.{tableKind}
-use Rattle.write_bytes.specs.Numbered.{slotKind, numberedBytes}
-use Rattle.write_bytes.proofs.SlotLaws.{start-above}
+use Rattle.write_parts.specs.Numbered.{slotKind, numberedBytes}
+use Rattle.write_parts.proofs.SlotLaws.{start-above}
 use Rattle.write_bytes.proofs.ItemLaws.{AtSlot, slot-in, slot-fits, cover-fits, item-end, record-fits, item-laid, guest-is, table-item, plain-end, value-plain}
 use Rattle.write_bytes.proofs.TableLaws.{Half}
 use Rattle.write_bytes.proofs.TurnLaws.{AtTable, planAt, baseAt, nothing-laid, table-least, few, front-fits, turn, begun, more, whole}
@@ -20,14 +20,14 @@ use Rattle.write_bytes.proofs.table.+lay_item+lay_table.Lts-lay_item as
 use Rattle.write_bytes.proofs.table.lay_table.Reads as lay-table
 use Rattle.write_bytes.proofs.table.lay_table.Kinds as lay-table-kinds
 use Rattle.write_bytes.proofs.table.+lay_item+lay_table.Lts-lay_table as lay-table-lts
-use Rattle.write_bytes.proofs.put.lay_front.Reads as lay-front-reads
-use Rattle.write_bytes.proofs.put.lay_key.Reads as lay-key-reads
-use Rattle.write_bytes.proofs.put.lay_plain.Reads as lay-plain-reads
-use Rattle.write_bytes.proofs.put.lay_record.Reads as lay-record-reads
-use Rattle.write_bytes.proofs.numbered.first_slot.Reads as first-slot-reads
-use Rattle.write_bytes.proofs.numbered.slot_count.Reads as slot-count-reads
-use Rattle.write_bytes.proofs.numbered.slot_word.Reads as slot-word-reads
-use Rattle.write_bytes.proofs.slot.value_start.Reads as value-start-reads
+use Rattle.write_parts.proofs.put.lay_front.Reads as lay-front-reads
+use Rattle.write_parts.proofs.put.lay_key.Reads as lay-key-reads
+use Rattle.write_parts.proofs.put.lay_plain.Reads as lay-plain-reads
+use Rattle.write_parts.proofs.put.lay_record.Reads as lay-record-reads
+use Rattle.write_parts.proofs.numbered.first_slot.Reads as first-slot-reads
+use Rattle.write_parts.proofs.numbered.slot_count.Reads as slot-count-reads
+use Rattle.write_parts.proofs.numbered.slot_word.Reads as slot-word-reads
+use Rattle.write_parts.proofs.slot.value_start.Reads as value-start-reads
 use Rattle.write_bytes.proofs.table.+lay_item+lay_table.{statement}
 use Rattle.write_bytes.proofs.table.+lay_item+lay_table.Tie.{close}
 

@@ -3,7 +3,7 @@ use mathlib.Core.Path.{_≡_, refl, sym, ap, _∙_}
 use Prim.Native.Nat.{_-_, _≤_}
 use native.Mathlib.Omega.{arith}
 use lib.ListN.{length, length-set}
-use Rattle.words.specs.Hash.{ruleOf}
+use Rattle.key_hash.specs.Hash.{ruleOf}
 use Rattle.layout.specs.Limits.{mostTables}
 use Rattle.write_numbers.specs.Fill.{firstSlotOf, Fits, Sized, Filled}
 use Rattle.write_numbers.proofs.OfTableLaws.{slot-start, slot-few}

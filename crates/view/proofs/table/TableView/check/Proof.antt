@@ -39,14 +39,14 @@ use denote.Triple.Table.{entered, cited}
 use denote.Triple.Walked.{says, Stays, stay-none, walkOf, goes-none, Walks, ends-at, walked, walk-meets}
 use denote.Exit.{yes}
 use denote.Triple.Clauses.{ensured, lasts}
-use Rattle.read.specs.Find.{mannerOf}
-use Rattle.check_table.specs.Rules.{checkTable}
+use Rattle.read_find.specs.Find.{mannerOf}
+use Rattle.check_rules.specs.Rules.{checkTable}
 use Rattle.view.proofs.HoldsLaws.{and-left}
-use Rattle.check_table.specs.declared.check.Checked.{Checked}
-use Rattle.check_table.proofs.check.Checked as DChecked
-use Rattle.check_table.proofs.check.Checked.Laws as DChecked′
-use Rattle.read.proofs.manner.Manner as DManner
-use Rattle.read.proofs.manner.Manner.Laws as DManner′
+use Rattle.check_rules.specs.declared.checked.Checked.{Checked}
+use Rattle.check_rules.proofs.checked.Checked as DChecked
+use Rattle.check_rules.proofs.checked.Checked.Laws as DChecked′
+use Rattle.read_find.proofs.manner.Manner as DManner
+use Rattle.read_find.proofs.manner.Manner.Laws as DManner′
 use Rattle.view.specs.declared.table.TableView.{TableView}
 use Rattle.view.proofs.table.TableView as DTableView
 use Rattle.view.proofs.table.TableView.Laws as DTableView′

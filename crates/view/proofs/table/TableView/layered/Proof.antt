@@ -41,7 +41,7 @@ use denote.Triple.Table.{entered, cited}
 use denote.Triple.Walked.{says, Stays, stay-none, stay-none-slice, walkOf, goes-none, goes-none-slice, Walks, ends-at, walked, walk-meets}
 use denote.Exit.{yes}
 use denote.Triple.Clauses.{ensured, lasts}
-use Rattle.read.specs.Find.{mannerOf}
+use Rattle.read_find.specs.Find.{mannerOf}
 use Rattle.read.specs.Layered.{layeredValue}
 use Rattle.view_part.specs.Part.{LayeredIn}
 use Rattle.view.specs.Views.{LayeredOf}
@@ -56,8 +56,8 @@ use Rattle.read.proofs.layered.Source.Laws as DSource′
 use Rattle.read.specs.declared.lookup.Looked.{Looked}
 use Rattle.read.proofs.lookup.Looked as DLooked
 use Rattle.read.proofs.lookup.Looked.Laws as DLooked′
-use Rattle.read.proofs.manner.Manner as DManner
-use Rattle.read.proofs.manner.Manner.Laws as DManner′
+use Rattle.read_find.proofs.manner.Manner as DManner
+use Rattle.read_find.proofs.manner.Manner.Laws as DManner′
 use Rattle.view.specs.declared.table.LayeredView.{LayeredView}
 use Rattle.view.proofs.table.LayeredView as DLayeredView
 use Rattle.view.proofs.table.LayeredView.Laws as DLayeredView′

@@ -41,7 +41,7 @@ use denote.Triple.Table.{entered, cited}
 use denote.Triple.Walked.{says, Stays, stay-none, stay-none-slice, walkOf, goes-none, goes-none-slice, Walks, ends-at, walked, walk-meets}
 use denote.Exit.{yes}
 use denote.Triple.Clauses.{ensured, lasts}
-use Rattle.read.specs.Find.{mannerOf}
+use Rattle.read_find.specs.Find.{mannerOf}
 use Rattle.read.specs.Lookup.{lookupTable}
 use Rattle.view_part.specs.Part.{NestedIn, pointerStart, pointerEnd}
 use Rattle.view.specs.Views.{NestedOf}
@@ -49,8 +49,8 @@ use Rattle.view.proofs.HoldsLaws.{and-left}
 use Rattle.read.specs.declared.lookup.Looked.{Looked}
 use Rattle.read.proofs.lookup.Looked as DLooked
 use Rattle.read.proofs.lookup.Looked.Laws as DLooked′
-use Rattle.read.proofs.manner.Manner as DManner
-use Rattle.read.proofs.manner.Manner.Laws as DManner′
+use Rattle.read_find.proofs.manner.Manner as DManner
+use Rattle.read_find.proofs.manner.Manner.Laws as DManner′
 use Rattle.view.specs.declared.table.NestedView.{NestedView}
 use Rattle.view.proofs.table.NestedView as DNestedView
 use Rattle.view.proofs.table.NestedView.Laws as DNestedView′

@@ -41,13 +41,13 @@ use denote.Triple.Table.{entered, cited}
 use denote.Triple.Walked.{says, Stays, stay-none, stay-none-slice, walkOf, goes-none, goes-none-slice, Walks, ends-at, walked, walk-meets}
 use denote.Exit.{yes}
 use denote.Triple.Clauses.{ensured, lasts}
-use Rattle.read.specs.Find.{mannerOf}
+use Rattle.read_find.specs.Find.{mannerOf}
 use Rattle.read_listing.specs.Children.{nextChild}
 use Rattle.view_part.specs.Part.{ChildIn}
 use Rattle.view.specs.Views.{ChildOf}
 use Rattle.view.proofs.HoldsLaws.{and-left}
-use Rattle.read.proofs.manner.Manner as DManner
-use Rattle.read.proofs.manner.Manner.Laws as DManner′
+use Rattle.read_find.proofs.manner.Manner as DManner
+use Rattle.read_find.proofs.manner.Manner.Laws as DManner′
 use Rattle.read_listing.specs.declared.children.Childed.{Childed}
 use Rattle.read_listing.proofs.children.Childed as DChilded
 use Rattle.read_listing.proofs.children.Childed.Laws as DChilded′

@@ -1,0 +1,5 @@
+pub mod Bits
+pub mod Rules
+pub mod Broken
+pub mod Survey
+pub mod Answer

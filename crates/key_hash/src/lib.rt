@@ -1,0 +1,2 @@
+// The hash of a key, in both forms.
+pub mod hash;

@@ -1,0 +1,3 @@
+pub mod CompareLaws
+pub mod OrderLaws
+pub mod PrefixLaws

@@ -1,0 +1,2 @@
+// Two tables through views, one over the other.
+pub mod layered;

@@ -1,0 +1,4 @@
+pub mod KindLaws
+pub mod SlotLaws
+pub mod PutLaws
+pub mod FilterLaws
