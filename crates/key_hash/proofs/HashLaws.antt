@@ -44,6 +44,27 @@ module _ (rule : ℕ → ℕ) where
   unfolding hashFrom
   hash-end key i h past = rw (drop-of-length-le key past)
 
+  -- no byte more, one, two and three
+  module _ (key : List ℕ) (h : ℕ) where
+    pub tail-none : length key ≡ 0 → h ≡ hashFrom rule h key
+    tail-none n = sym (hash-end key 0 h (omega arith))
+
+    module _ {a : ℕ} (first : a ≡ hashStep rule h (getD key 0 0)) where
+      pub tail-one : length key ≡ 1 → a ≡ hashFrom rule h key
+      tail-one n = first ∙ sym (hash-turn key 0 h (omega arith) ∙ hash-end key 1 _ (omega arith))
+
+      module _ {b : ℕ} (second : b ≡ hashStep rule a (getD key 1 0)) where
+        both-told : b ≡ hashStep rule (hashStep rule h (getD key 0 0)) (getD key 1 0)
+        both-told = second ∙ ap (λ (v : ℕ). hashStep rule v (getD key 1 0)) first
+
+        pub tail-two : length key ≡ 2 → b ≡ hashFrom rule h key
+        tail-two n = both-told ∙ sym (hash-turn key 0 h (omega arith) ∙ hash-turn key 1 _ (omega arith) ∙ hash-end key 2 _ (omega arith))
+
+        pub tail-three : {c : ℕ} → c ≡ hashStep rule b (getD key 2 0) → length key ≡ 3 → c ≡ hashFrom rule h key
+        tail-three third n =
+            third ∙ ap (λ (v : ℕ). hashStep rule v (getD key 2 0)) both-told
+            ∙ sym (hash-turn key 0 h (omega arith) ∙ hash-turn key 1 _ (omega arith) ∙ hash-turn key 2 _ (omega arith) ∙ hash-end key 3 _ (omega arith))
+
   -- a stride is four steps: times 33^4, and what the four bytes count by their powers of 33
   pub four-steps : (h a b c d : ℕ)
       → hashFrom rule h (a ∷ b ∷ c ∷ d ∷ []) ≡ (h * 1185921 + (rule a * 35937 + rule b * 1089 + (rule c * 33 + rule d))) % 2 ^ 32

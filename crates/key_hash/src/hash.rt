@@ -3,7 +3,8 @@ use words::wide::byte_word;
 ghost use mathlib.Core.Path.{_≡_};
 ghost use mathlib.Core.List.{[], _∷_};
 ghost use Prim.Native.Nat.{_*_, _%_, _^_, _<_};
-ghost use Rattle.key_hash.specs.Hash.{hashFrom, hashBy, plain, ruleOf, hashOf};
+ghost use lib.ListN.{length};
+ghost use Rattle.key_hash.specs.Hash.{hashStep, hashFrom, hashBy, plain, ruleOf, hashOf};
 
 // What a byte counts in the hash: 0 to 255, as in the Rust, or -128 to 127, as in GLib.
 pub enum Form {
@@ -43,21 +44,34 @@ fn hash_four(value: u32, a: u32, b: u32, c: u32, d: u32) -> u32
     std::num::wrapping_add_u32(scaled, std::num::wrapping_add_u32(ab, cd))
 }
 
-// The hash of bytes under a form, going on from the hash of what stands before them, byte by byte.
-fn hash_each(start: u32, bytes: &[u8], form: Form) -> u32
-    ensures { λ r. ⌜ r ≡ hashFrom (ruleOf form) start (now (bytes .entry)) ⌝ }
+// The hash after one byte more, under a form.
+fn hash_byte(value: u32, b: u8, form: Form) -> u32
+    ensures { λ r. ⌜ r ≡ hashStep (ruleOf form) value b ⌝ }
 {
-    let mut value = start;
-    let mut i = 0;
-    while i < bytes.len() {
-        let scaled = wrapping_mul(value, 33);
-        value = std::num::wrapping_add_u32(scaled, byte_counts(bytes[i], form));
-        i += 1;
-    }
-    value
+    let scaled = wrapping_mul(value, 33);
+    std::num::wrapping_add_u32(scaled, byte_counts(b, form))
 }
 
-// The same, four bytes at a time and then what is left.
+// The hash after at most three bytes more, which is what strides of four leave.
+fn hash_tail(value: u32, bytes: &[u8], form: Form) -> u32
+    requires { ⌜ length (now bytes) < 4 ⌝ }
+    ensures { λ r. ⌜ r ≡ hashFrom (ruleOf form) value (now (bytes .entry)) ⌝ }
+{
+    if bytes.len() == 0 {
+        return value;
+    }
+    let one = hash_byte(value, bytes[0], form);
+    if bytes.len() == 1 {
+        return one;
+    }
+    let two = hash_byte(one, bytes[1], form);
+    if bytes.len() == 2 {
+        return two;
+    }
+    hash_byte(two, bytes[2], form)
+}
+
+// The hash of bytes under a form, going on from the hash of what stands before them: four bytes at a time and then what is left.
 pub fn hash_on(start: u32, bytes: &[u8], form: Form) -> u32
     ensures { λ r. ⌜ r ≡ hashFrom (ruleOf form) start (now (bytes .entry)) ⌝ }
 {
@@ -72,7 +86,7 @@ pub fn hash_on(start: u32, bytes: &[u8], form: Form) -> u32
         value = hash_four(value, a, b, c, d);
         i += 4;
     }
-    hash_each(value, &bytes[i..], form)
+    hash_tail(value, &bytes[i..], form)
 }
 
 // The hash of a key under a form.

@@ -85,24 +85,24 @@ loop-again c =
           (c .hash-four .ensures),
     )
 
-sub-hash-each : tie.Need-sub-hash-each Inv-loop μ-loop
-sub-hash-each c = search needs
+sub-hash-tail : tie.Need-sub-hash-tail Inv-loop μ-loop
+sub-hash-tail c = search needs
 
-part-hash-each-start : tie.Need-part-hash-each-start Inv-loop μ-loop
-part-hash-each-start c = search needs
+part-hash-tail-start : tie.Need-part-hash-tail-start Inv-loop μ-loop
+part-hash-tail-start c = search needs
 
-part-hash-each-end : tie.Need-part-hash-each-end Inv-loop μ-loop
-part-hash-each-end c = search needs
+part-hash-tail-end : tie.Need-part-hash-tail-end Inv-loop μ-loop
+part-hash-tail-end c = search needs
 
-hash-each-requires : tie.Need-hash-each-requires Inv-loop μ-loop
-hash-each-requires c κs = search needs
+hash-tail-requires : tie.Need-hash-tail-requires Inv-loop μ-loop
+hash-tail-requires c κs = search needs
 
 returns : tie.Need-returns Inv-loop μ-loop
 returns c =
     let at = c .before .before .before in
     let bytes = at .before .before .args .bytes .now in
     let i = at .loop .i in
-    c .hash-each .ensures ∙ ap (hashFrom _ (at .loop .value)) (take-all (length bytes - i) (drop i bytes) (omega (arith, length-drop i bytes))) ∙ sym (at .loop .inv .3)
+    c .hash-tail .ensures ∙ ap (hashFrom _ (at .loop .value)) (take-all (length bytes - i) (drop i bytes) (omega (arith, length-drop i bytes))) ∙ sym (at .loop .inv .3)
 
 pub hash-on-spec : {M : Type 1} → statement M
 hash-on-spec =
@@ -127,8 +127,8 @@ hash-on-spec =
     add-i
     loop-less
     loop-again
-    sub-hash-each
-    part-hash-each-start
-    part-hash-each-end
-    hash-each-requires
+    sub-hash-tail
+    part-hash-tail-start
+    part-hash-tail-end
+    hash-tail-requires
     returns)
