@@ -1,6 +1,6 @@
 //! GLib's reader, compiled by bench/run to a library of its own and opened here, so that it is measured in the same process and turns.
 
-use crate::{timed, turn, Ground, Turn};
+use crate::{timed, turn, Asked, Ground, Turn};
 use std::ffi::{c_char, c_int, c_void, CString};
 use std::hint::black_box;
 
@@ -62,8 +62,8 @@ pub struct Table {
 
 impl Table {
     pub fn lookups<'a>(self, keys: &[String], there: bool) -> Turn<'a> {
-        let keys: Vec<CString> = keys.iter().map(|key| text(key)).collect();
-        turn(keys.len(), move || timed(|| keys.iter().for_each(|key| assert_eq!((self.reader.has)(self.table, black_box(key.as_ptr())) != 0, there))).0)
+        let mut asked = Asked::new(keys.iter().map(|key| text(key)).collect::<Vec<CString>>());
+        turn(keys.len(), move || asked.timed(|key| assert_eq!((self.reader.has)(self.table, key.as_ptr()) != 0, there)))
     }
 
     /// All keys in one call, as GLib lists them.

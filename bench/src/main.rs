@@ -24,14 +24,42 @@ fn keys(count: usize, leaf: &str) -> Vec<String> {
     (0..count).map(|i| format!("/parcel/12/stand/3/plot/{}/{leaf}-{:03}", i % 16, i / 16)).collect()
 }
 
-/// The same keys in an order that repeats from run to run and is not that of the table.
-fn shuffled(mut keys: Vec<String>) -> Vec<String> {
-    let mut dice = 0x9E37_79B9_7F4A_7C15u64;
-    for i in (1..keys.len()).rev() {
-        dice = dice.wrapping_mul(6_364_136_223_846_793_005).wrapping_add(1_442_695_040_888_963_407);
-        keys.swap(i, (dice >> 33) as usize % (i + 1));
+/// Puts things into another order, the same from run to run.
+fn shuffle<T>(things: &mut [T], dice: &mut u64) {
+    for i in (1..things.len()).rev() {
+        *dice = dice.wrapping_mul(6_364_136_223_846_793_005).wrapping_add(1_442_695_040_888_963_407);
+        things.swap(i, (*dice >> 33) as usize % (i + 1));
     }
+}
+
+const DICE: u64 = 0x9E37_79B9_7F4A_7C15;
+
+/// The same keys in an order that is not that of the table.
+fn shuffled(mut keys: Vec<String>) -> Vec<String> {
+    shuffle(&mut keys, &mut DICE.clone());
     keys
+}
+
+/// Keys to be looked up, in another order at each pass: one that repeats is learned by the processor, which then foresees what each key decides.
+struct Asked<T> {
+    keys: Vec<T>,
+    dice: u64,
+}
+
+impl<T> Asked<T> {
+    fn new(keys: Vec<T>) -> Asked<T> {
+        Asked { keys, dice: DICE }
+    }
+
+    /// The time that a pass over all of them takes.
+    fn timed(&mut self, look: impl FnMut(&T)) -> Duration {
+        shuffle(&mut self.keys, &mut self.dice);
+        timed(|| self.keys.iter().for_each(look)).0
+    }
+}
+
+fn asked(keys: &[String]) -> Asked<&str> {
+    Asked::new(keys.iter().map(String::as_str).collect())
 }
 
 #[repr(C)]
@@ -137,23 +165,11 @@ fn turn<'a>(operations: usize, mut pass: impl FnMut() -> Duration + 'a) -> Turn<
 }
 
 fn lookups<'a>(ground: &'a Ground, table: &'a HashTable<'a, 'a>, keys: &'a [String], there: bool) -> (Turn<'a>, Turn<'a>) {
-    let ours = move || {
-        timed(|| {
-            for key in keys {
-                assert_eq!(ffi::get(black_box(&ground.image), 24, ground.end, black_box(key.as_bytes()), 0).number == 0, there);
-            }
-        })
-        .0
-    };
-    let theirs = move || {
-        timed(|| {
-            for key in keys {
-                assert_eq!(raw::raw_value(black_box(table), black_box(key)).is_ok(), there);
-            }
-        })
-        .0
-    };
-    (turn(keys.len(), ours), turn(keys.len(), theirs))
+    let (mut ours, mut theirs) = (asked(keys), asked(keys));
+    (
+        turn(keys.len(), move || ours.timed(|key| assert_eq!(ffi::get(&ground.image, 24, ground.end, key.as_bytes(), 0).number == 0, there))),
+        turn(keys.len(), move || theirs.timed(|key| assert_eq!(raw::raw_value(black_box(table), black_box(key)).is_ok(), there))),
+    )
 }
 
 fn list_ours(ground: &Ground, items: usize) -> Duration {
@@ -294,14 +310,8 @@ fn print_children(rounds: usize) {
 /// Lookups of keys that are not there in a table with a filter, in a manner, and without.
 fn absent<'a>(ground: &'a Ground, filtered: &'a (Vec<u8>, u32), manner: u32) -> (Turn<'a>, Turn<'a>) {
     let pass = move |image: &'a [u8], end: u32, manner: u32| {
-        move || {
-            timed(|| {
-                for key in &ground.absent {
-                    assert_eq!(ffi::get(black_box(image), 24, end, black_box(key.as_bytes()), manner).number, 12);
-                }
-            })
-            .0
-        }
+        let mut keys = asked(&ground.absent);
+        move || keys.timed(|key| assert_eq!(ffi::get(image, 24, end, key.as_bytes(), manner).number, 12))
     };
     (turn(ground.absent.len(), pass(&filtered.0, filtered.1, manner)), turn(ground.absent.len(), pass(&ground.image, ground.end, 0)))
 }
@@ -354,25 +364,21 @@ fn print_filters(rounds: usize) {
 
 /// A lookup in a table over another, and the plain lookups that it stands for: one where the first table has the key, both where only the other has.
 fn layered<'a>(own: &'a Ground, under: &'a Ground, keys: &'a [String], from: u32) -> (Turn<'a>, Turn<'a>) {
+    let (own, under) = (own.lent(), under.lent());
+    let (mut layered, mut plainly) = (asked(keys), asked(keys));
     let over = move || {
-        timed(|| {
-            for key in keys {
-                let found = ffi::get_layered(own.lent(), under.lent(), black_box(key.as_bytes()));
-                // apart: both numbers read as one would wait until the two stores of the answer are done
-                assert_eq!(black_box(found.number), 0);
-                assert_eq!(black_box(found.from), from);
-            }
+        layered.timed(|key| {
+            let found = ffi::get_layered(own.lent(), under.lent(), key.as_bytes());
+            // apart: both numbers read as one would wait until the two stores of the answer are done
+            assert_eq!(black_box(found.number), 0);
+            assert_eq!(black_box(found.from), from);
         })
-        .0
     };
     let plain = move || {
-        timed(|| {
-            for key in keys {
-                let get = |ground: &Ground| ffi::get(&ground.image, 24, ground.end, black_box(key.as_bytes()), 0).number;
-                assert!(get(own) == 0 || get(under) == 0);
-            }
+        plainly.timed(|key| {
+            let get = |table: Lent| ffi::get(table.file, table.start, table.end, key.as_bytes(), table.manner).number;
+            assert!(get(own) == 0 || get(under) == 0);
         })
-        .0
     };
     (turn(keys.len(), over), turn(keys.len(), plain))
 }
