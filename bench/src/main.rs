@@ -365,15 +365,10 @@ fn print_filters(rounds: usize) {
 /// A lookup in a table over another, and the plain lookups that it stands for: one where the first table has the key, both where only the other has.
 fn layered<'a>(own: &'a Ground, under: &'a Ground, keys: &'a [String], from: u32) -> (Turn<'a>, Turn<'a>) {
     let (own, under) = (own.lent(), under.lent());
+    assert!(keys.iter().all(|key| ffi::get_layered(own, under, key.as_bytes()).from == from));
     let (mut layered, mut plainly) = (asked(keys), asked(keys));
-    let over = move || {
-        layered.timed(|key| {
-            let found = ffi::get_layered(own.lent(), under.lent(), key.as_bytes());
-            // apart: both numbers read as one would wait until the two stores of the answer are done
-            assert_eq!(black_box(found.number), 0);
-            assert_eq!(black_box(found.from), from);
-        })
-    };
+    // which table answered was asked before: both numbers of the answer, read as one, would wait until their two stores are done
+    let over = move || layered.timed(|key| assert_eq!(ffi::get_layered(own, under, key.as_bytes()).number, 0));
     let plain = move || {
         plainly.timed(|key| {
             let get = |table: Lent| ffi::get(table.file, table.start, table.end, key.as_bytes(), table.manner).number;
