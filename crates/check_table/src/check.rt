@@ -8,7 +8,6 @@ use check_rules::survey::survey_all;
 use layout::item::Item;
 use layout::item::item_at;
 use layout::kind::kind_known;
-use layout::refusal::Refusal;
 use layout::table::Opened;
 use layout::table::Table;
 use layout::table::open_table;
