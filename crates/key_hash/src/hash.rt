@@ -89,17 +89,21 @@ pub fn hash_on(start: u32, bytes: &[u8], form: Form) -> u32
     hash_tail(value, &bytes[i..], form)
 }
 
-// The hash of a key under a form.
-pub fn hash_key(key: &[u8], form: Form) -> u32
-    ensures { λ r. ⌜ r ≡ hashBy (ruleOf form) (now (key .entry)) ⌝ }
-{
-    hash_on(HASH_START, key, form)
-}
-
 // gvdb-rs: djb_hash.
 // The hash of a key.
 pub fn djb_hash(key: &[u8]) -> u32
     ensures { λ r. ⌜ r ≡ hashOf (now (key .entry)) ⌝ }
 {
     hash_on(HASH_START, key, Form::Plain)
+}
+
+// The hash of a key under a form, which is asked for once: handed on to `hash_on`, it would be tested again for each of the last bytes. It has one caller, so the
+// compiler takes it into a lookup.
+pub fn hash_key(key: &[u8], form: Form) -> u32
+    ensures { λ r. ⌜ r ≡ hashBy (ruleOf form) (now (key .entry)) ⌝ }
+{
+    match form {
+        Form::Plain => djb_hash(key),
+        Form::Signed => hash_on(HASH_START, key, Form::Signed),
+    }
 }

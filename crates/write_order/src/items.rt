@@ -3,7 +3,8 @@ use build_memory::fields::HASH;
 use build_memory::fields::item_word;
 use build_memory::fields::key_of;
 use key_hash::hash::Form;
-use key_hash::hash::hash_key;
+use key_hash::hash::HASH_START;
+use key_hash::hash::hash_on;
 use words::wide::word_size;
 ghost use mathlib.Core.Path.{_≡_};
 ghost use Prim.Native.Nat.{_≤_, _<_};
@@ -21,7 +22,7 @@ pub fn hash_of(words: &[usize], arena: &[u8], i: usize, form: Form) -> usize
 {
     match form {
         Form::Plain => item_word(words, i, HASH),
-        Form::Signed => word_size(hash_key(key_of(words, arena, i), Form::Signed)),
+        Form::Signed => word_size(hash_on(HASH_START, key_of(words, arena, i), Form::Signed)),
     }
 }
 
