@@ -1,15 +1,21 @@
 -- A lookup over two tables, case by case, and in the request's words.
-use Prim.Native.Nat.{ℕ}
+use Prim.Native.Nat.{ℕ, _<_}
 use mathlib.Core.Path.{_≡_, refl, sym, ap, _∙_}
-use mathlib.Core.Bool.{Bool, true, false}
-use lib.Dec.{eqb}
+use mathlib.Core.List.{List}
 use native.Mathlib.Omega.{arith}
 use borrow.Author.Tests.{eqb-true, eq-eqb, ne-eqb}
 use Rattle.words.specs.Choice.{pick}
 use Rattle.words.proofs.ChoiceLaws.{pick-with}
+use Rattle.layout.specs.declared.refusal.Refusal.{Refusal}
+use Rattle.layout.specs.Refusal.{number}
+use Rattle.layout.specs.declared.table.Opened.{Opened}
+use Rattle.layout.specs.Table.{openTable}
+use Rattle.layout.proofs.AnswerLaws.{opened-low}
+use Rattle.read_find.specs.Find.{Manner}
 use Rattle.read.specs.declared.lookup.Looked.{Looked}
 use Rattle.read.specs.declared.layered.Source.{Source}
 use Rattle.read.specs.declared.layered.Layered.{Layered}
+use Rattle.read.specs.Lookup.{atOpened, atItem, lookupItem, lookupValue}
 use Rattle.read.specs.Answer.{lookedNumber}
 use Rattle.read.specs.Layered.{marked, layeredOf, layeredValue, LayeredAlone, LayeredUnder, LayeredMark}
 
@@ -21,25 +27,29 @@ pub own-misses : (own under : Looked) → lookedNumber own ≡ 12 → layeredOf 
 unfolding layeredOf pick
 own-misses own under e = rw (eq-eqb (lookedNumber own) 12 e) refl
 
--- ---- the turns of the loop: the owner's, and the district's
+-- ---- what the code answers, once it knows the owner's answer
 
--- what it comes to from a turn on: in the district's turn its answer, in the owner's what both answers come to
-unfoldable pub fromTurn : Bool → Looked → Looked → Layered
-fromTurn under here below = pick under (marked here Source.District) (layeredOf here below)
+module _ (under : Looked) {own here : Looked} (same : own ≡ here) where
+  pub points : {start end : ℕ} → own ≡ Looked.Pointer start end → marked (Looked.Pointer start end) Source.Owner ≡ layeredOf here under
+  unfolding layeredOf lookedNumber pick
+  points is = rw (← same, is)
 
-module _ (below : Looked) {under : Bool} {here looked : Looked} (same : looked ≡ here) where
-  pub turn-district : under ≡ true → marked looked Source.District ≡ fromTurn under here below
-  unfolding fromTurn pick
-  turn-district is = rw (is, same)
+  module _ {why : Refusal} (is : own ≡ Looked.Refused why) {n : ℕ} (told : n ≡ number why) where
+    pub refuses : (n ≡ 12 → ⊥) → marked (Looked.Refused why) Source.Owner ≡ layeredOf here under
+    unfolding lookedNumber
+    refuses other = ap (λ (l : Looked). marked l Source.Owner) (sym is ∙ same) ∙ sym (own-answers here under (rw (← same, is, ← told) other))
 
-  module _ (is : under ≡ false) {missing : Bool} (told : missing ≡ eqb (lookedNumber looked) 12) where
-    pub turn-owner : missing ≡ false → marked looked Source.Owner ≡ fromTurn under here below
-    unfolding fromTurn layeredOf pick
-    turn-owner n = rw (is, ← same, ← told, n)
+    pub misses : {below : Looked} → n ≡ 12 → below ≡ under → marked below Source.District ≡ layeredOf here under
+    unfolding lookedNumber
+    misses twelve is-under = rw is-under (sym (own-misses here under (rw (← same, is, ← told) twelve)))
 
-    pub turn-next : missing ≡ true → fromTurn under here below ≡ fromTurn true below below
-    unfolding fromTurn layeredOf pick
-    turn-next e = rw (is, ← same, ← told, e)
+-- what opening the owner's table refuses is below 8, so it is no 12
+pub own-shut : (manner : Manner) (file : List ℕ) (start end : ℕ) (key : List ℕ) (under : Looked) {why : Refusal} → openTable file start end ≡ Opened.Refused why
+    → marked (Looked.Refused why) Source.Owner ≡ layeredOf (lookupValue manner file start end key) under
+unfolding lookupValue lookupItem atOpened atItem
+own-shut manner file start end key under {why} shut =
+    let low : number why < 8 = opened-low file start end shut in
+    refuses under {own = Looked.Refused why} (rw shut) refl refl (λ e. omega (arith, e))
 
 pub layered-alone : LayeredAlone
 unfolding layeredValue

@@ -1,12 +1,8 @@
 -- `read::lookup::value_in` meets its contract: what is found is an item of the table, of which the value is asked.
-use mathlib.Core.Path.{sym, ap, _∙_, subst}
-use Prim.Native.Nat.{ℕ}
+use mathlib.Core.Path.{refl, sym, _∙_, subst}
 use borrow.Author.Needs.{needs}
-use Rattle.words.specs.Choice.{pick}
-use Rattle.layout.specs.declared.refusal.Refusal.the-variants.{KeyNotUtf8}
-use Rattle.read.specs.declared.lookup.Looked.{Looked}
-use Rattle.read.specs.Lookup.{lookupIn, atFound, atItem, valueOf}
 use Rattle.read_find.proofs.FindLaws.{FoundBelow, found-below}
+use Rattle.read.proofs.LookupLaws.{looked-bad, looked-none, looked-some}
 use Rattle.read.proofs.lookup.value_in.Statement.{statement}
 use Rattle.read.proofs.lookup.value_in.Tie as tie
 
@@ -33,18 +29,13 @@ first-bad-requires : tie.Need-first-bad-requires
 first-bad-requires c κs = search needs
 
 returns : tie.Need-returns
-unfolding lookupIn atFound atItem pick
-returns c = simp (sym (c .before .before .before .before .is-utf8 .ensures) ∙ c .before .before .before .if1 .taken, sym (c .before .before .find-item .ensures) ∙ c .enum-told .given .1)
+returns c = looked-none _ _ _ _ _ (sym (c .before .before .before .before .is-utf8 .ensures) ∙ c .before .before .before .if1 .taken) (c .before .before .find-item .ensures) (c .enum-told .given .1) refl
 
 returns-2 : tie.Need-returns-2
-unfolding lookupIn atFound atItem pick
-returns-2 c =
-    simp (sym (c .before .before .before .before .before .before .before .is-utf8 .ensures) ∙ c .before .before .before .before .before .before .if1 .taken, sym (c .before .before .before .before .before .find-item .ensures) ∙ c .before .before .before .index .given .1)
-    (c .value-of .ensures ∙ ap (valueOf _) (c .before .item-at .ensures))
+returns-2 c = looked-some _ _ _ _ _ (sym (c .before .before .before .before .before .before .before .is-utf8 .ensures) ∙ c .before .before .before .before .before .before .if1 .taken) (c .before .before .before .before .before .find-item .ensures) (c .before .before .before .index .given .1) (c .before .item-at .ensures) (c .value-of .ensures)
 
 returns-3 : tie.Need-returns-3
-unfolding lookupIn atItem pick
-returns-3 c = simp (sym (c .before .before .is-utf8 .ensures) ∙ c .before .if1 .left) (ap (λ (at : ℕ). Looked.Refused (KeyNotUtf8 at)) (c .first-bad .ensures))
+returns-3 c = looked-bad _ _ _ _ _ (sym (c .before .before .is-utf8 .ensures) ∙ c .before .if1 .left) (c .first-bad .ensures)
 
 pub value-in-spec : {M : Type 1} → statement M
 value-in-spec =
