@@ -378,18 +378,13 @@ fn layered<'a>(own: &'a Ground, under: &'a Ground, keys: &'a [String], from: u32
     (turn(keys.len(), over), turn(keys.len(), plain))
 }
 
-/// How much longer than its plain lookups a lookup over another table may take.
-const LAYERED_GOAL: f64 = 1.05;
-
 fn print_layered(rounds: usize) {
     let (own, under) = (Ground::new(1000), Ground::with(1000, "none", "year"));
-    for (what, keys, from) in [("the first table's", &own.keys, 0), ("the other's", &own.absent, 1)] {
+    // a key of the first table's may take 1.05 of a plain lookup, one of the other's as long as both
+    for (what, keys, from, goal) in [("the first table's", &own.keys, 0, 1.05), ("the other's", &own.absent, 1, 1.0)] {
         let (over, plain) = measure(rounds, layered(&own, &under, keys, from));
-        let verdict = if over <= LAYERED_GOAL * plain { "met" } else { "missed" };
-        println!(
-            "nanoseconds over another table, a key of {what}: {over:.1}, by plain lookups {plain:.1}: {:.2}, at most {LAYERED_GOAL}: {verdict}",
-            over / plain
-        );
+        let verdict = if over <= goal * plain { "met" } else { "missed" };
+        println!("nanoseconds over another table, a key of {what}: {over:.1}, by plain lookups {plain:.1}: {:.2}, at most {goal}: {verdict}", over / plain);
     }
 }
 
