@@ -1,7 +1,7 @@
 -- Laws about finding an item, for every manner of reading: the cases of the definition, one turn of the search and its end, and what the
 -- search says of every position of the run.
 use Prim.Native.Nat.{ℕ, zero, suc, _+_, _*_, _-_, _/_, _%_, _^_, _≤_, _<_}
-use mathlib.Core.Path.{_≡_, refl, sym, ap, _∙_}
+use mathlib.Core.Path.{_≡_, refl, sym, ap, subst, _∙_}
 use mathlib.Core.List.{List}
 use mathlib.Core.Bool.{Bool, true, false, _&&_}
 use native.Mathlib.Omega.{arith}
@@ -152,17 +152,9 @@ find-says manner file t key =
     (λ shut some passes. let z : _≡_ {A = ℕ} 0 1 = cc in absurd (omega arith))))
 
 -- an item that is found is an item of the table
-unfoldable pub FoundBelow : ℕ → Found → Type 0
-FoundBelow count (Found.At index) = index < count
-FoundBelow count Found.Nothing = Unit
-
-says-below : (manner : Manner) (file : List ℕ) (t : Table) (key : List ℕ) (run : Run) (f : Found) → FindSays manner file t key run f → FoundBelow (t .count) f
-unfolding FindSays FoundBelow
-says-below manner file t key run (Found.At i) says = says .0
-says-below manner file t key run Found.Nothing says = tt
-
-pub found-below : (manner : Manner) (file : List ℕ) (t : Table) (key : List ℕ) → FoundBelow (t .count) (findItem manner file t key)
-found-below manner file t key = says-below manner file t key _ _ (find-says manner file t key)
+pub found-below : (manner : Manner) (file : List ℕ) (t : Table) (key : List ℕ) {found : Found} {index : ℕ} → found ≡ findItem manner file t key → found ≡ Found.At index → index < t .count
+unfolding FindSays
+found-below manner file t key finds at = subst (FindSays manner file t key _) (sym finds ∙ at) (find-says manner file t key) .0
 
 -- ---- an item matches just where its hash is the key's and its chain joins the key
 

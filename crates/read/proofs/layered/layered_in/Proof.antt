@@ -1,6 +1,6 @@
 -- `read::layered::layered_in` meets its contract: 8 is the owner's; then what the owner's table answers is told, but for 12.
 use native.Mathlib.Omega.{arith}
-use mathlib.Core.Path.{_≡_, refl, sym, _∙_, subst}
+use mathlib.Core.Path.{_≡_, refl, sym, _∙_}
 use mathlib.Core.Logic.{⊎-elim}
 use borrow.Author.Needs.{needs}
 use borrow.Author.Tests.{not-true, not-false}
@@ -10,7 +10,7 @@ use Rattle.layout.proofs.refusal.number_of.Reads as number-of-reads
 use Rattle.text.proofs.utf8.first_bad.Reads as first-bad-reads
 use Rattle.text.proofs.utf8.is_utf8.Reads as is-utf8-reads
 use Rattle.read_find.specs.Find.{mannerOf}
-use Rattle.read_find.proofs.FindLaws.{FoundBelow, found-below}
+use Rattle.read_find.proofs.FindLaws.{found-below}
 use Rattle.read_find.proofs.find.find_item.Reads as find-item-reads
 use Rattle.read.proofs.LookupLaws.{valueIn, looked-bad, looked-none, looked-some}
 use Rattle.read.proofs.LayeredLaws.{points, refuses, misses}
@@ -41,8 +41,7 @@ enum-known-index : tie.Need-enum-known-index
 enum-known-index c = search needs
 
 item-at-requires : tie.Need-item-at-requires
-unfolding FoundBelow
-item-at-requires c κs = (c .before .before .before .before .before .before .before .before .before .pre, subst (FoundBelow _) (sym (c .before .before .before .find-item .ensures) ∙ c .before .index .given .1) (found-below _ _ _ _))
+item-at-requires c κs = (c .before .before .before .before .before .before .before .before .before .pre, found-below _ _ _ _ (c .before .before .before .find-item .ensures) (c .before .index .given .1))
 
 value-of-requires : tie.Need-value-of-requires
 value-of-requires c κs = search needs

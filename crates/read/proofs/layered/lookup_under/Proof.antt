@@ -1,9 +1,9 @@
 -- `read::layered::lookup_under` meets its contract: what opening answers, 12, or the value of the item that is found.
-use mathlib.Core.Path.{refl, sym, _∙_, subst}
+use mathlib.Core.Path.{refl, sym, _∙_}
 use borrow.Author.Needs.{needs}
 use Rattle.layout.proofs.OpenLaws.{opened-in-file}
 use Rattle.read.specs.Lookup.{lookupValue, lookupItem, atOpened, atItem}
-use Rattle.read_find.proofs.FindLaws.{FoundBelow, found-below}
+use Rattle.read_find.proofs.FindLaws.{found-below}
 use Rattle.read.proofs.LookupLaws.{looked-none, looked-some}
 use Rattle.read.proofs.layered.lookup_under.Statement.{statement}
 use Rattle.read.proofs.layered.lookup_under.Tie as tie
@@ -27,10 +27,9 @@ enum-known-index : tie.Need-enum-known-index
 enum-known-index c = search needs
 
 item-at-requires : tie.Need-item-at-requires
-unfolding FoundBelow
 item-at-requires c κs =
     let opens = c .before .before .before .before .before in
-    (opened-in-file _ _ _ (sym (opens .before .before .open-table .ensures) ∙ opens .table .given .1), subst (FoundBelow _) (sym (c .before .before .before .find-item .ensures) ∙ c .before .index .given .1) (found-below _ _ _ _))
+    (opened-in-file _ _ _ (sym (opens .before .before .open-table .ensures) ∙ opens .table .given .1), found-below _ _ _ _ (c .before .before .before .find-item .ensures) (c .before .index .given .1))
 
 value-of-requires : tie.Need-value-of-requires
 value-of-requires c κs = search needs

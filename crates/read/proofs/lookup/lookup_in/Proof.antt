@@ -1,12 +1,12 @@
 -- `read::lookup::lookup_in` meets its contract: what is found is an item of the table.
-use mathlib.Core.Path.{sym, ap, _∙_, subst}
+use mathlib.Core.Path.{sym, ap, _∙_}
 use Prim.Native.Nat.{ℕ}
 use borrow.Author.Needs.{needs}
 use Rattle.words.specs.Choice.{pick}
 use Rattle.layout.specs.declared.refusal.Refusal.the-variants.{KeyNotUtf8}
 use Rattle.read.specs.declared.lookup.Sought.{Sought}
 use Rattle.read.specs.Lookup.{lookupIn, atFound}
-use Rattle.read_find.proofs.FindLaws.{FoundBelow, found-below}
+use Rattle.read_find.proofs.FindLaws.{found-below}
 use Rattle.read.proofs.lookup.lookup_in.Statement.{statement}
 use Rattle.read.proofs.lookup.lookup_in.Tie as tie
 
@@ -23,8 +23,7 @@ enum-known-index : tie.Need-enum-known-index
 enum-known-index c = search needs
 
 item-at-requires : tie.Need-item-at-requires
-unfolding FoundBelow
-item-at-requires c κs = (c .before .before .before .before .before .before .before .before .pre, subst (FoundBelow _) (sym (c .before .before .before .find-item .ensures) ∙ c .before .index .given .1) (found-below _ _ _ _))
+item-at-requires c κs = (c .before .before .before .before .before .before .before .before .pre, found-below _ _ _ _ (c .before .before .before .find-item .ensures) (c .before .index .given .1))
 
 first-bad-requires : tie.Need-first-bad-requires
 first-bad-requires c κs = search needs

@@ -1,7 +1,7 @@
 -- `read::lookup::value_in` meets its contract: what is found is an item of the table, of which the value is asked.
-use mathlib.Core.Path.{refl, sym, _∙_, subst}
+use mathlib.Core.Path.{refl, sym, _∙_}
 use borrow.Author.Needs.{needs}
-use Rattle.read_find.proofs.FindLaws.{FoundBelow, found-below}
+use Rattle.read_find.proofs.FindLaws.{found-below}
 use Rattle.read.proofs.LookupLaws.{looked-bad, looked-none, looked-some}
 use Rattle.read.proofs.lookup.value_in.Statement.{statement}
 use Rattle.read.proofs.lookup.value_in.Tie as tie
@@ -19,8 +19,7 @@ enum-known-index : tie.Need-enum-known-index
 enum-known-index c = search needs
 
 item-at-requires : tie.Need-item-at-requires
-unfolding FoundBelow
-item-at-requires c κs = (c .before .before .before .before .before .before .before .before .pre, subst (FoundBelow _) (sym (c .before .before .before .find-item .ensures) ∙ c .before .index .given .1) (found-below _ _ _ _))
+item-at-requires c κs = (c .before .before .before .before .before .before .before .before .pre, found-below _ _ _ _ (c .before .before .before .find-item .ensures) (c .before .index .given .1))
 
 value-of-requires : tie.Need-value-of-requires
 value-of-requires c κs = search needs
