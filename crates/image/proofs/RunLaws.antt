@@ -6,7 +6,6 @@ use mathlib.Core.Bool.{Bool, true, false}
 use mathlib.Core.List.{List, [], _∷_, _++_, append-assoc, append-nil}
 use Prim.Native.Nat.{ℕ, zero, suc, _+_, _-_, _≤_, _<_}
 use native.Mathlib.Nat.{mod-lt, eq-or-lt-of-le, le-of-suc-le-suc}
-use native.Mathlib.Numerals.{add-one}
 use native.Mathlib.Omega.{arith}
 use lib.Dec.{eqb}
 use borrow.Author.Tests.{eq-eqb, ne-eqb, eqb-true, eqb-false, lt-ltb, le-ltb}
@@ -26,7 +25,7 @@ module _ (hashes : List ℕ) where
   unfolding run
   run-none b = refl
 
-  pub run-hit : (b k : ℕ) → bucketOf hashes k ≡ b → run hashes b (suc k) ≡ k ∷ run hashes b k
+  run-hit : (b k : ℕ) → bucketOf hashes k ≡ b → run hashes b (suc k) ≡ k ∷ run hashes b k
   unfolding run pick
   run-hit b k e = rw (eq-eqb (bucketOf hashes k) b e)
 
@@ -117,10 +116,6 @@ module _ (hashes : List ℕ) where
   unfolding bucketOf
   bucket-within p h = mod-lt _ (omega arith)
 
-  pub runs-more : (b : ℕ) → runsBelow hashes (b + 1) ≡ runsBelow hashes b ++ run hashes b (length hashes)
-  unfolding runsBelow
-  runs-more b = rw add-one
-
   times-before : (x b : ℕ) → b ≤ bucketOf hashes x → times x (runsBelow hashes b) ≡ 0
   unfolding runsBelow times
   times-before x zero h = refl
@@ -210,10 +205,6 @@ module _ (hashes : List ℕ) where
 
   pub start-all : bucketStart hashes (length hashes) ≡ length hashes
   start-all = start-tally (length hashes) ∙ tally-all (length hashes) (length hashes) bucket-within
-
-  -- a run fits behind those before it
-  pub start-fits : (b : ℕ) → bucketStart hashes b + length (run hashes b (length hashes)) ≤ length hashes
-  start-fits b = omega (arith, start-suc b, start-most (suc b))
 
   -- as many indices as items
   pub length-indexed : length (byBucket hashes) ≡ length hashes

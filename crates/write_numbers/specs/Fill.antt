@@ -12,7 +12,7 @@ use Rattle.words.specs.Store.{putAt}
 use Rattle.layout.specs.Limits.{mostItems}
 use Rattle.layout.specs.Item.{noItem}
 use Rattle.build_memory.specs.Memory.{word, leastWords, links, linkAt, tableTotal, itemTotal, itemTable, itemHash, keyOf}
-use Rattle.image.specs.Index.{keyOrder, hashesOf, bucketStart, byIndex, itemOf, laidIndex}
+use Rattle.image.specs.Index.{hashesOf, bucketStart, byIndex, itemOf, laidIndex}
 use Rattle.write_parts.specs.Numbered.{headWords}
 use Rattle.write_order.specs.Chain.{starts}
 use Rattle.write_order.specs.Items.{indicesPut}
@@ -59,11 +59,6 @@ pub record Judged (ws ar : List ℕ) : Type 0 where
 pub record Collected (ws : List ℕ) (t n : ℕ) (out out′ : List ℕ) : Type 0 where
   pub count : n ≡ length (allOfTable ws t)
   pub put : out′ ≡ putAt out 0 (allOfTable ws t)
-
--- they are in the order of their keys
-pub record Ordered (ws ar : List ℕ) (t n : ℕ) (run : List ℕ) : Type 0 where
-  pub count : n ≡ length (stateOf ws ar t .members)
-  pub order : take n run ≡ keyOrder (stateOf ws ar t)
 
 -- they have their indices: the item at each index, the word of each bucket
 pub record IndexedAs (rule : ℕ → ℕ) (ws ar : List ℕ) (t n : ℕ) (items firsts : List ℕ) : Type 0 where

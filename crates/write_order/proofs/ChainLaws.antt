@@ -2,19 +2,22 @@
 use mathlib.Core.Path.{_≡_, refl, sym, ap, _∙_}
 use mathlib.Core.Logic.{⊎-elim}
 use mathlib.Core.List.{List, [], _∷_, _++_}
-use Prim.Native.Nat.{ℕ, zero, suc, _+_, _-_, _≤_, _<_}
+use Prim.Native.Nat.{ℕ, zero, suc, _+_, _≤_, _<_}
 use native.Mathlib.Nat.{eq-or-lt-of-le, le-of-suc-le-suc}
 use native.Mathlib.Numerals.{add-one}
 use native.Mathlib.Omega.{arith}
-use lib.ListN.{length, getD, set, length-set, length-append, replicate, getD-replicate, length-replicate, List·getD-append}
-use lib.Seq.{ext-getD, getD-set-same, getD-set-other, getD-at}
-use Rattle.model.specs.Table.{times}
-use Rattle.image.specs.Index.{bucketOf, run, bucketStart}
-use Rattle.words.proofs.ChoiceLaws.{eq-or-ne}
-use Rattle.image.proofs.TimesLaws.{times-here, times-cons}
-use Rattle.image.proofs.RunLaws.{run-hit, run-cases, run-above, run-other}
+use lib.ListN.{length, getD, set, length-set, length-append, replicate, getD-replicate, length-replicate}
+use lib.Seq.{ext-getD, getD-set-same, getD-set-other}
+use Rattle.model.specs.Table.{times, Has}
+use Rattle.image.specs.Index.{bucketOf, run, runsBelow, bucketStart}
+use Rattle.words.proofs.ChoiceLaws.{eq-or-ne, lt-or-ge}
+use Rattle.image.proofs.TimesLaws.{times-none, times-here, times-cons, has-cases}
+use Rattle.image.proofs.RunLaws.{run-cases, run-above, run-other, run-once, times-run, bucket-within, start-most}
+use Rattle.build_memory.specs.Meaning.{listed}
+use Rattle.build_memory.proofs.MeaningLaws.{length-listed, listed-at}
 use Rattle.layout.specs.Item.{noItem}
-use Rattle.write_order.specs.Chain.{startsBelow, starts, Empty, EmptyFrom, Chain, Chained, cleared}
+use Rattle.write_order.specs.Fall.{joined}
+use Rattle.write_order.specs.Chain.{starts, Empty, EmptyFrom, Chain, Chained, Chains, cleared}
 
 -- ---- chains
 
@@ -97,11 +100,6 @@ empty-fresh n i l = getD-replicate n i noItem 0 (rw (length-replicate n noItem) 
 
 -- ---- cleared links
 
-pub length-cleared : (links l : List ℕ) → length (cleared links l) ≡ length links
-unfolding cleared
-length-cleared links [] = refl
-length-cleared links (x ∷ l) = length-cleared (set links x noItem) l ∙ length-set links x noItem
-
 pub cleared-nil : (links : List ℕ) → cleared links [] ≡ links
 unfolding cleared
 cleared-nil links = refl
@@ -118,65 +116,78 @@ cleared-other links [] y none = refl
 cleared-other links (x ∷ l) y none =
     cleared-other (set links x noItem) l y (not-rest y x l none) ∙ getD-set-other links x y noItem 0 (λ e. not-first y x l none (sym e))
 
--- a chain none of whose ranks is cleared stands
-chain-cleared : (links : List ℕ) (h : ℕ) (l m : List ℕ) → ((x : ℕ) → 0 < times x l → times x m ≡ 0) → Chain links h m → Chain (cleared links l) h m
+-- what is cleared holds the empty mark
+pub cleared-here : (links l : List ℕ) (x : ℕ) → Has l x → x < length links → getD (cleared links l) x 0 ≡ noItem
+unfolding cleared
+cleared-here links [] x some h = absurd (omega (arith, times-none x))
+cleared-here links (y ∷ l) x some h =
+    ⊎-elim
+    (λ again. cleared-here (set links y noItem) l x again (rw length-set h))
+    (λ none. ⊎-elim
+    (λ e. cleared-other (set links y noItem) l x (omega arith) ∙ rw e (getD-set-same links x noItem 0 h))
+    (λ again. absurd (omega arith))
+    (has-cases y x l some))
+    (lt-or-ge 0 (times x l))
+
+-- a chain none of whose items is cleared stands
+pub chain-cleared : (links : List ℕ) (h : ℕ) (l m : List ℕ) → ((x : ℕ) → Has l x → times x m ≡ 0) → Chain links h m → Chain (cleared links l) h m
 unfolding cleared
 chain-cleared links h [] m apart c = c
 chain-cleared links h (x ∷ l) m apart c =
     chain-cleared (set links x noItem) h l m (λ y s. apart y (omega (arith, times-cons y x l))) (chain-set links x noItem h m (apart x (omega (arith, times-here x x l refl))) c)
 
-module _ (hashes : List ℕ) where
-  -- the other buckets' chains stand
-  pub chain-other : (links : List ℕ) (h b d k : ℕ) → (b ≡ d → ⊥) → Chain links h (run hashes d k) → Chain (cleared links (run hashes b k)) h (run hashes d k)
-  chain-other links h b d k n c = chain-cleared links h (run hashes b k) (run hashes d k) apart c
-    where
-      apart : (x : ℕ) → 0 < times x (run hashes b k) → times x (run hashes d k) ≡ 0
-      apart x some =
-          ⊎-elim
-          (λ e. run-other hashes d k x (λ q. n (sym e ∙ q)))
-          (λ m. absurd (omega (arith, run-other hashes b k x m)))
-          (eq-or-ne (bucketOf hashes x) b)
+-- ---- lists one behind the other
 
-  -- every rank of the run is cleared
-  pub run-cleared : (links : List ℕ) (b k x : ℕ) → x < k → k ≤ length links → bucketOf hashes x ≡ b → getD (cleared links (run hashes b k)) x 0 ≡ noItem
-  unfolding cleared
-  run-cleared links b zero x h l e = absurd (omega arith)
-  run-cleared links b (suc k) x h l e =
-      ⊎-elim
-      (λ q. rw (run-hit hashes b k (ap (bucketOf hashes) (sym q) ∙ e)) (last q))
-      (λ less. run-cases hashes (λ r. getD (cleared links r) x 0 ≡ noItem) b k
-      (λ _. run-cleared (set links k noItem) b k x less (rw length-set (omega arith)) e)
-      (λ _. run-cleared links b k x less (omega arith) e))
-      (eq-or-lt-of-le (le-of-suc-le-suc h))
-    where
-      last : x ≡ k → getD (cleared links (k ∷ run hashes b k)) x 0 ≡ noItem
-      last q = rw q (cleared-other (set links k noItem) (run hashes b k) k (run-above hashes b k k (omega arith)) ∙ getD-set-same links k noItem 0 (omega arith))
+-- a list fits behind those before it
+pub joined-fits : (lists : ℕ → List ℕ) (b n : ℕ) → b < n → length (joined lists b) + length (lists b) ≤ length (joined lists n)
+unfolding joined
+joined-fits lists b zero h = absurd (omega arith)
+joined-fits lists b (suc n) h =
+    ⊎-elim
+    (λ e. rw e (omega (arith, length-append (joined lists n) (lists n))))
+    (λ l. omega (arith, length-append (joined lists n) (lists n), joined-fits lists b n l))
+    (eq-or-lt-of-le (le-of-suc-le-suc h))
+
+module _ (hashes : List ℕ) where
+  pub joined-runs-below : (b : ℕ) → joined (λ (d : ℕ). run hashes d (length hashes)) b ≡ runsBelow hashes b
+  unfolding joined runsBelow
+  joined-runs-below zero = refl
+  joined-runs-below (suc b) = ap (λ (l : List ℕ). l ++ run hashes b (length hashes)) (joined-runs-below b)
+
+  -- the chains of the runs
+  pub run-chains : (heads links : List ℕ) → Chained hashes (length hashes) heads links → EmptyFrom (length hashes) links
+      → Chains (λ (b : ℕ). run hashes b (length hashes)) (length hashes) heads links
+  unfolding Chained EmptyFrom bucketStart
+  run-chains heads links c e = record {
+    chain = c;
+    once = λ b x. run-once hashes b (length hashes) x;
+    apart = λ b d x n some. ⊎-elim
+        (λ q. run-other hashes d (length hashes) x (λ r. n (sym q ∙ r)))
+        (λ m. absurd (omega (arith, run-other hashes b (length hashes) x m)))
+        (eq-or-ne (bucketOf hashes x) b);
+    clear = λ x l none. ⊎-elim
+        (λ less. absurd (omega (arith, none (bucketOf hashes x) (bucket-within hashes x less), times-run hashes x (length hashes) less)))
+        (λ ge. e x ge l)
+        (lt-or-ge x (length hashes));
+    few = rw (joined-runs-below (length hashes)) (start-most hashes (length hashes));
+  }
 
   -- ---- the bucket words
 
-  pub starts-more : (b : ℕ) → startsBelow hashes (b + 1) ≡ startsBelow hashes b ++ (bucketStart hashes b ∷ [])
-  unfolding startsBelow
-  starts-more b = rw add-one
-
-  pub length-starts-below : (b : ℕ) → length (startsBelow hashes b) ≡ b
-  unfolding startsBelow
-  length-starts-below zero = refl
-  length-starts-below (suc b) = rw length-append (omega (arith, length-starts-below b))
-
   pub length-starts : length (starts hashes) ≡ length hashes
   unfolding starts
-  length-starts = length-starts-below (length hashes)
-
-  starts-below : (b d : ℕ) → b < d → getD (startsBelow hashes d) b 0 ≡ bucketStart hashes b
-  unfolding startsBelow
-  starts-below b zero h = absurd (omega arith)
-  starts-below b (suc d) h =
-      ⊎-elim
-      (λ e. rw e (getD-at (startsBelow hashes d) (bucketStart hashes d) [] 0 d (length-starts-below d)))
-      (λ l. List·getD-append (startsBelow hashes d) (bucketStart hashes d ∷ []) 0 b (omega (arith, length-starts-below d)) ∙ starts-below b d l)
-      (eq-or-lt-of-le (le-of-suc-le-suc h))
+  length-starts = length-listed (bucketStart hashes) (length hashes)
 
   -- each bucket's word is the definition's
   pub starts-at : (b : ℕ) → b < length hashes → getD (starts hashes) b 0 ≡ bucketStart hashes b
   unfolding starts
-  starts-at b h = starts-below b (length hashes) h
+  starts-at b h = listed-at (bucketStart hashes) 0 (length hashes) b h
+
+  -- numbers that are the bucket words, in a list
+  pub starts-of : (f : ℕ → ℕ) → ((b : ℕ) → f b ≡ bucketStart hashes b) → listed f (length hashes) ≡ starts hashes
+  unfolding starts listed
+  starts-of f same = listed-same (length hashes)
+    where
+      listed-same : (n : ℕ) → listed f n ≡ listed (bucketStart hashes) n
+      listed-same zero = refl
+      listed-same (suc n) = rw (listed-same n, same n)

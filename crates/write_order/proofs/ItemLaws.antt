@@ -1,27 +1,22 @@
--- Laws of the lists that the writer works with: they are the hashes, the items by index and the indices of the table's definition, and
--- the turns of the loops that make them.
+-- Laws of the lists that the writer works with: they are the hashes, the items by index and the indices of the table's definition.
 use mathlib.Core.Path.{_≡_, refl, sym, ap, _∙_}
 use mathlib.Core.Logic.{⊎-elim}
-use mathlib.Core.List.{List, [], _∷_, _++_, map}
+use mathlib.Core.List.{List, [], _∷_, map}
 use Prim.Native.Nat.{ℕ, zero, suc, _+_, _≤_, _<_}
 use native.Mathlib.Nat.{eq-or-lt-of-le, le-of-suc-le-suc}
 use native.Mathlib.Numerals.{add-one}
 use native.Mathlib.Omega.{arith}
-use lib.ListN.{length, take, getD, set, length-set, length-map}
-use lib.Seq.{length-take-le, take-all, getD-set-same, getD-set-other}
-use Rattle.words.specs.Store.{putAt}
+use lib.ListN.{length, getD, set, length-set}
+use lib.Seq.{getD-set-same, getD-set-other}
 use Rattle.key_hash.specs.declared.hash.Form.{Form}
-use Rattle.key_hash.specs.Hash.{hashOf, hashBy, plain, signed, ruleOf}
-use Rattle.words.proofs.StoreLaws.{put-none, put-snoc}
+use Rattle.key_hash.specs.Hash.{hashOf, hashBy, signed, ruleOf}
 use Rattle.model.specs.Table.{Rows, times, Has}
 use Rattle.image.specs.Index.{keyOrder, hashesOf, byBucket, byIndex, indexIn, laidIndex}
 use Rattle.image.proofs.TimesLaws.{times-here, times-cons, index-stands}
-use Rattle.image.proofs.OrderLaws.{length-order, times-order}
-use Rattle.image.proofs.IndexLaws.{ranks-each, numbering}
+use Rattle.image.proofs.OrderLaws.{times-order}
+use Rattle.image.proofs.IndexLaws.{numbering}
 use Rattle.build_memory.specs.Memory.{itemHash, keyOf}
 use Rattle.write_order.specs.Items.{AllBelow, hashFor, hashesIn, itemsAt, indicesPut}
-
--- ---- lists made one by one
 
 map-same : (f g : ℕ → ℕ) (l : List ℕ) → ((x : ℕ) → Has l x → f x ≡ g x) → map f l ≡ map g l
 map-same f g [] same = refl
@@ -29,25 +24,6 @@ map-same f g (x ∷ l) same =
     let head : f x ≡ g x = same x (omega (arith, times-here x x l refl)) in
     let rest : map f l ≡ map g l = map-same f g l (λ y h. same y (omega (arith, times-cons y x l))) in
     cc
-
--- one turn of a loop that stores f of each element of l from the front on
-map-take : (f : ℕ → ℕ) (l : List ℕ) (k : ℕ) → k < length l → map f (take (suc k) l) ≡ map f (take k l) ++ (f (getD l k 0) ∷ [])
-map-take f [] k h = absurd (omega arith)
-map-take f (x ∷ l) zero h = refl
-map-take f (x ∷ l) (suc k) h = ap (λ (m : List ℕ). f x ∷ m) (map-take f l k (omega arith))
-
-module _ (f : ℕ → ℕ) (l out : List ℕ) where
-  pub made-start : out ≡ putAt out 0 (map f (take 0 l))
-  made-start = sym (put-none out 0)
-
-  pub made-turn : (k : ℕ) → k < length l → {v : ℕ} → v ≡ f (getD l k 0) → set (putAt out 0 (map f (take k l))) k v ≡ putAt out 0 (map f (take (k + 1) l))
-  made-turn k h {v} e =
-      let size : length (map f (take k l)) ≡ k = length-map (take k l) f ∙ length-take-le k l (omega arith) in
-      let at : 0 + length (map f (take k l)) ≡ k = omega arith in
-      rw (e, add-one, map-take f l k h, put-snoc, at)
-
-  pub made-end : (k : ℕ) → length l ≤ k → putAt out 0 (map f (take k l)) ≡ putAt out 0 (map f l)
-  made-end k h = rw (take-all k l h)
 
 -- ---- hashes and items of the table's definition
 
@@ -78,17 +54,10 @@ pub items-index : (rule : ℕ → ℕ) (table : Rows) → itemsAt (keyOrder tabl
 unfolding itemsAt byIndex
 items-index rule table = refl
 
--- the ranks at the indices are ranks of the key order
-pub indexed-below : (rule : ℕ → ℕ) (table : Rows) → AllBelow (length (keyOrder table)) (byBucket (hashesOf rule table))
-unfolding AllBelow
-indexed-below rule table k h =
-    let each = ranks-each rule table in
-    omega (arith, each .within k (omega (arith, each .size)), length-order table)
-
 -- ---- indices of items
 
 module _ (indices items : List ℕ) where
-  pub length-indices : (k : ℕ) → length (indicesPut indices items k) ≡ length indices
+  length-indices : (k : ℕ) → length (indicesPut indices items k) ≡ length indices
   unfolding indicesPut
   length-indices zero = refl
   length-indices (suc k) = length-set (indicesPut indices items k) (getD items k 0) k ∙ length-indices k

@@ -1,4 +1,7 @@
 pub mod KeyLaws
-pub mod MergeLaws
+pub mod FallLaws
 pub mod ChainLaws
+pub mod LinkLaws
+pub mod PlaceLaws
+pub mod BucketLaws
 pub mod ItemLaws

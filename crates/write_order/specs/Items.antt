@@ -5,6 +5,8 @@ use lib.ListN.{length, getD, set}
 use Rattle.key_hash.specs.declared.hash.Form.{Form}
 use Rattle.key_hash.specs.Hash.{hashBy, signed}
 use Rattle.build_memory.specs.Memory.{itemHash, keyOf}
+use Rattle.image.specs.Index.{keyOrder}
+use Rattle.write_order.specs.Key.{keyed}
 
 -- every element is below n
 unfoldable pub AllBelow : ℕ → List ℕ → Type 0
@@ -18,6 +20,13 @@ hashFor Form.Signed words arena i = hashBy signed (keyOf words arena i)
 -- the hashes of some items
 unfoldable pub hashesIn : Form → List ℕ → List ℕ → List ℕ → List ℕ
 hashesIn form words arena run = map (hashFor form words arena) run
+
+-- some items by rank, and the hash of each rank
+abbrev pub byRank : List ℕ → List ℕ → List ℕ → List ℕ
+byRank words arena members = keyOrder (keyed words arena members)
+
+abbrev pub rankHashes : Form → List ℕ → List ℕ → List ℕ → List ℕ
+rankHashes form words arena members = hashesIn form words arena (byRank words arena members)
 
 -- the items of some ranks
 unfoldable pub itemsAt : List ℕ → List ℕ → List ℕ

@@ -1,4 +1,4 @@
 pub mod Key
-pub mod Merge
-pub mod Chain
+pub mod Fall
 pub mod Items
+pub mod Chain

@@ -1,16 +1,16 @@
-// Indices for the items of one table, bucket by bucket. An item goes by its rank, which counts in ascending key order; `hashes` has the hash of each rank.
-// A chain runs from the head of its bucket through `links`, and ends with the empty mark.
+// Indices bucket by bucket. A chain runs from the head of its bucket through `links`, and ends with the empty mark. `index_all` takes chains apart, whatever stands
+// in them; `index_by_bucket` chains ranks, each at the front of its bucket: `hashes` has the hash of each rank.
 use build_memory::fields::EMPTY;
 use layout::limits::MOST_ITEMS;
 ghost use mathlib.Core.Path.{_≡_};
-ghost use Prim.Native.Nat.{_≤_, _<_};
+ghost use Prim.Native.Nat.{ℕ, _≤_, _<_};
+ghost use mathlib.Core.List.{List};
 ghost use lib.ListN.{length};
 ghost use Rattle.words.specs.Store.{putAt};
 ghost use Rattle.layout.specs.Limits.{mostItems};
 ghost use Rattle.image.specs.Index.{bucketOf, byBucket};
-ghost use Rattle.write_order.specs.Chain.{Chained, Ended, Drained, Empty, EmptyFrom, Rooms, starts};
+ghost use Rattle.write_order.specs.Chain.{Chained, Chains, HasChains, Indexed, Ended, Drained, Empty, EmptyFrom, Rooms, starts};
 
-// gvdb-rs: SimpleHashTable::hash_bucket.
 // The bucket of a rank.
 fn bucket_of(hashes: &[usize], place: usize) -> usize
     requires { ⌜ place < length (now hashes) ⌝ }
@@ -19,7 +19,6 @@ fn bucket_of(hashes: &[usize], place: usize) -> usize
     hashes[place] % hashes.len()
 }
 
-// gvdb-rs: SimpleHashTable::insert.
 // Puts each rank, in ascending order, at the front of its bucket's chain.
 fn chain_all(hashes: &[usize], heads: &mut [usize], links: &mut [usize])
     requires { ⌜ (length (now hashes) ≤ mostItems) × (length (now hashes) ≤ length (now heads)) × (length (now hashes) ≤ length (now links)) ⌝ }
@@ -37,7 +36,7 @@ fn chain_all(hashes: &[usize], heads: &mut [usize], links: &mut [usize])
 }
 
 // gvdb-rs: SimpleHashTable::iter_bucket.
-// Writes a chain's ranks to `order` from `at` on and takes the chain apart. Answers the end.
+// Writes what stands in a chain to `order` from `at` on and takes the chain apart. Answers the end.
 fn drain_chain(head: usize, links: &mut [usize], order: &mut [usize], at: usize) -> usize
     requires { ⌜ Ended (now links) head (length (now order)) at ⌝ }
     ensures { λ r. ⌜ Drained (now (links .entry)) (now (links .exit)) (now (order .entry)) (now (order .exit)) head at r ⌝ }
@@ -55,23 +54,22 @@ fn drain_chain(head: usize, links: &mut [usize], order: &mut [usize], at: usize)
 }
 
 // gvdb-rs: SimpleHashTable::iter.
-// Gives the chained ranks their indices, bucket by bucket: `order` gets the rank at each index, `firsts` the first index of each bucket.
-fn index_all(
-    hashes: &[usize],
+// Takes n chains apart, one after the other: `order` gets what stood in them, `firsts` where each starts.
+pub fn index_all(
+    n: usize,
     heads: &[usize],
     links: &mut [usize],
     order: &mut [usize],
     firsts: &mut [usize],
 )
-    requires { ⌜ (length (now hashes) ≤ length (now heads)) × Rooms (length (now hashes)) (now links) (now order) (now firsts) ⌝ }
-    requires { ⌜ Chained (now hashes) (length (now hashes)) (now heads) (now links) × EmptyFrom (length (now hashes)) (now links) ⌝ }
-    ensures { λ _. ⌜ now (order .exit) ≡ putAt (now (order .entry)) 0 (byBucket (now (hashes .entry))) ⌝ }
-    ensures { λ _. ⌜ now (firsts .exit) ≡ putAt (now (firsts .entry)) 0 (starts (now (hashes .entry))) ⌝ }
+    requires { ⌜ (n ≤ length (now heads)) × Rooms n (now order) (now firsts) ⌝ }
+    requires { ⌜ HasChains n (now heads) (now links) ⌝ }
+    ensures { λ _. ⌜ ((lists : ℕ → List ℕ) → Chains lists n (now (heads .entry)) (now (links .entry)) → Indexed lists n (now (order .entry)) (now (order .exit)) (now (firsts .entry)) (now (firsts .exit))) ⌝ }
     ensures { λ _. ⌜ Empty (now (links .exit)) ⌝ }
 {
     let mut b = 0;
     let mut end = 0;
-    while b < hashes.len() {
+    while b < n {
         let next = drain_chain(heads[b], links, order, end);
         firsts[b] = end;
         end = next;
@@ -79,20 +77,19 @@ fn index_all(
     }
 }
 
-// gvdb-rs: SimpleHashTable::with_n_buckets.
-// Gives the items of one table their indices. The links hold the empty mark before and after.
+// Gives ranks their indices, bucket by bucket. The links hold the empty mark before and after.
 pub fn index_by_bucket(
     hashes: &[usize],
     links: &mut [usize],
     order: &mut [usize],
     firsts: &mut [usize],
 )
-    requires { ⌜ Rooms (length (now hashes)) (now links) (now order) (now firsts) × Empty (now links) ⌝ }
+    requires { ⌜ Rooms (length (now hashes)) (now order) (now firsts) × (length (now hashes) ≤ length (now links)) × Empty (now links) ⌝ }
     ensures { λ _. ⌜ now (order .exit) ≡ putAt (now (order .entry)) 0 (byBucket (now (hashes .entry))) ⌝ }
     ensures { λ _. ⌜ now (firsts .exit) ≡ putAt (now (firsts .entry)) 0 (starts (now (hashes .entry))) ⌝ }
     ensures { λ _. ⌜ now (links .exit) ≡ now (links .entry) ⌝ }
 {
     let mut heads = [EMPTY; MOST_ITEMS];
     chain_all(hashes, &mut heads, links);
-    index_all(hashes, &heads, links, order, firsts);
+    index_all(hashes.len(), &heads, links, order, firsts);
 }

@@ -1,4 +1,4 @@
-// From ranks to items and indices: the hash of each rank, the item at each index, the index of each item.
+// Of items: the hash of one under a form, and the index of each.
 use build_memory::fields::HASH;
 use build_memory::fields::item_word;
 use build_memory::fields::key_of;
@@ -9,11 +9,9 @@ use words::wide::word_size;
 ghost use mathlib.Core.Path.{_≡_};
 ghost use Prim.Native.Nat.{_≤_, _<_};
 ghost use lib.ListN.{length};
-ghost use Rattle.words.specs.Store.{putAt};
 ghost use Rattle.layout.specs.Limits.{mostItems};
 ghost use Rattle.build_memory.specs.Memory.{leastWords};
-ghost use Rattle.write_order.specs.Key.{Known};
-ghost use Rattle.write_order.specs.Items.{AllBelow, hashFor, hashesIn, itemsAt, indicesPut};
+ghost use Rattle.write_order.specs.Items.{AllBelow, hashFor, indicesPut};
 
 // The hash of item i under a form: the base form's is in its record, the other is made from its key.
 pub fn hash_of(words: &[usize], arena: &[u8], i: usize, form: Form) -> usize
@@ -23,31 +21,6 @@ pub fn hash_of(words: &[usize], arena: &[u8], i: usize, form: Form) -> usize
     match form {
         Form::Plain => item_word(words, i, HASH),
         Form::Signed => word_size(hash_on(HASH_START, key_of(words, arena, i), Form::Signed)),
-    }
-}
-
-// The hashes of the items of `run` under a form, in its order.
-pub fn hash_all(words: &[usize], run: &[usize], hashes: &mut [usize], arena: &[u8], form: Form)
-    requires { ⌜ Known (now words) (now run) × (length (now run) ≤ length (now hashes)) ⌝ }
-    ensures { λ _. ⌜ now (hashes .exit) ≡ putAt (now (hashes .entry)) 0 (hashesIn form (now (words .entry)) (now (arena .entry)) (now (run .entry))) ⌝ }
-{
-    let mut k = 0;
-    while k < run.len() {
-        hashes[k] = hash_of(words, arena, run[k], form);
-        k += 1;
-    }
-}
-
-// The items of the ranks in `order`; `run` has the item of each rank.
-pub fn items_at(run: &[usize], order: &[usize], items: &mut [usize])
-    requires { ⌜ AllBelow (length (now run)) (now order) × (length (now order) ≤ length (now items)) ⌝ }
-    ensures { λ _. ⌜ now (items .exit) ≡ putAt (now (items .entry)) 0 (itemsAt (now (run .entry)) (now (order .entry))) ⌝ }
-{
-    let mut k = 0;
-    while k < order.len() {
-        let place = order[k];
-        items[k] = run[place];
-        k += 1;
     }
 }
 

@@ -1,4 +1,4 @@
-// The items of one table in ascending key order, and their indices bucket by bucket.
+// The indices of the items of one table, bucket by bucket.
 pub mod buckets;
+pub mod falling;
 pub mod items;
-pub mod sort;

@@ -41,7 +41,7 @@ index-by-bucket-requires c κs =
     let l = c .before .before .before .before .before .list-parents in
     let few = fully-valid _ _ (p .0) .valid .items in
     let h = length-take-le (itemTotal (s .args .words .now)) (l .last .1 .0) (omega (arith, few, l .kept .1 .0)) in
-    (record { few = omega (arith, h, few); in-links = omega (arith, h, few, length-replicate {A = ℕ} mostItems 4294967295); in-order = omega (arith, h, few, p .1 .0 .0); in-firsts = omega (arith, h, few, p .1 .0 .1) }, empty-fresh mostItems)
+    (record { few = omega (arith, h, few); in-order = omega (arith, h, few, p .1 .0 .0); in-firsts = omega (arith, h, few, p .1 .0 .1) }, omega (arith, h, few, length-replicate {A = ℕ} mostItems 4294967295), empty-fresh mostItems)
 
 same-length : tie.Need-same-length
 same-length c = search needs

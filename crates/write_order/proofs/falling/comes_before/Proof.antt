@@ -1,8 +1,8 @@
--- `write_order::sort::comes_before` meets its contract.
+-- `write_order::falling::comes_before` meets its contract.
 use mathlib.Core.Path.{_∙_}
 use borrow.Author.Needs.{needs}
-use Rattle.write_order.proofs.sort.comes_before.Statement.{statement}
-use Rattle.write_order.proofs.sort.comes_before.Tie as tie
+use Rattle.write_order.proofs.falling.comes_before.Statement.{statement}
+use Rattle.write_order.proofs.falling.comes_before.Tie as tie
 
 key-of-requires : tie.Need-key-of-requires
 key-of-requires c κs = search needs
