@@ -18,7 +18,7 @@
  *   - a buffer that changes during a call, as a mapped file does that another program writes to or cuts short;
  *   - time: a hostile file of 16 MiB can make one lookup take 40 minutes, and the check months (docs/BENCH.md);
  *   - stack. Measured by tests/outside/stack.rs, a call needs no more than this:
- *       gvdb_write: 164 KiB
+ *       gvdb_write: 156 KiB
  *       gvdb_check: 96 KiB
  *       every other call: 16 KiB
  */

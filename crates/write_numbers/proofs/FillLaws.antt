@@ -1,15 +1,16 @@
 -- Laws of the tables one behind the other: what is put for one table keeps what was put for those before it.
-use Prim.Native.Nat.{ℕ, zero, suc, _+_, _*_, _≤_, _<_}
+use Prim.Native.Nat.{ℕ, zero, suc, _+_, _-_, _*_, _≤_, _<_}
 use native.Mathlib.Nat.{eq-or-lt-of-le, le-of-suc-le-suc}
 use native.Mathlib.Numerals.{add-one}
 use native.Mathlib.Omega.{arith}
 use mathlib.Core.Path.{_≡_, refl, sym, ap, _∙_}
 use mathlib.Core.Logic.{⊎-elim}
-use mathlib.Core.List.{List}
-use lib.ListN.{length, getD, take, set, length-set}
-use lib.Seq.{getD-set-same, getD-set-other}
-use Rattle.words.specs.Store.{putAt}
-use Rattle.words.proofs.StoreLaws.{get-put, get-before}
+use mathlib.Core.List.{List, [], append-assoc, append-nil}
+use lib.ListN.{length, getD, drop, set, length-set, length-drop}
+use borrow.Rule.Slice.PartMut.{putMid, postOf, post-is}
+use lib.Seq.{getD-set-same, getD-set-other, drop-drop, drop-length, take-all}
+use Rattle.words.specs.Store.{part, putAt}
+use Rattle.words.proofs.StoreLaws.{put-parts, part-put, get-put, get-before}
 use Rattle.model.specs.Table.{Has}
 use Rattle.layout.specs.Limits.{mostItems, mostTables}
 use Rattle.build_memory.specs.Memory.{itemTotal, itemTable}
@@ -20,9 +21,9 @@ use Rattle.write_order.specs.Items.{AllBelow, indicesPut}
 use Rattle.write_order.proofs.ChainLaws.{length-starts, starts-at}
 use Rattle.write_order.proofs.ItemLaws.{indices-of}
 use Rattle.write_numbers.specs.Roster.{stateOf}
-use Rattle.write_numbers.specs.Fill.{allOfTable, firstSlotOf, Fit, IndexedAs, Put, Sized, Filled}
+use Rattle.write_numbers.specs.Fill.{allOfTable, firstSlotOf, Fit, Fits, IndexedAs, Put, Sized, Filled}
 use Rattle.write_numbers.proofs.OfTableLaws.{slot-next, slot-apart, slot-few}
-use Rattle.write_numbers.proofs.StateLaws.{state-members, state-below, state-once, state-table, state-has, all-of-table-few}
+use Rattle.write_numbers.proofs.StateLaws.{state-members, state-below, state-once, state-table, state-has}
 
 -- ---- one table
 
@@ -37,27 +38,48 @@ module _ (ws ar : List ℕ) (t : ℕ) where
   members-long : length (stateOf ws ar t .members) ≡ length (allOfTable ws t)
   members-long = ap length (state-members ws ar t)
 
-module _ {rule : ℕ → ℕ} (ws ar : List ℕ) (t n : ℕ) (items firsts : List ℕ) (fit : Fit ws) (l : IndexedAs rule ws ar t n items firsts) where
-  pub indexed-as-count : n ≡ length (allOfTable ws t)
-  indexed-as-count = l .count ∙ members-long ws ar t
+-- words lent from `first` on, with vs stored at their front, and put back
+put-tail : (l vs : List ℕ) (first : ℕ) {tail : List ℕ} → first + length vs ≤ length l → tail ≡ putAt (part l first (length l - first)) 0 vs → putMid first (length l - first) l tail ≡ putAt l first vs
+put-tail l vs first fits e =
+    let none : postOf first (length l - first) l ≡ [] = post-is first (length l) l (omega arith) ∙ drop-length l in
+    let behind : drop (0 + length vs) (drop first l) ≡ drop (first + length vs) l = drop-drop (0 + length vs) first l ∙ ap (λ (n : ℕ). drop n l) (plus-zero (length vs)) in
+    let whole : part l first (length l - first) ≡ drop first l = take-all (length l - first) (drop first l) (omega (arith, length-drop first l)) in
+    rw (none, append-nil, e, whole, put-parts (drop first l) 0 vs (omega (arith, length-drop first l)), behind, put-parts l first vs fits, append-assoc)
+  where
+    plus-zero : (n : ℕ) → first + (0 + n) ≡ first + n
+    plus-zero n = omega arith
 
-  pub indexed-as-few : n ≤ mostItems
-  indexed-as-few = omega (arith, indexed-as-count, all-of-table-few ws t fit)
+module _ {rule : ℕ → ℕ} (ws ar : List ℕ) (t first n : ℕ) (slots slots′ buckets buckets′ : List ℕ) (fit : Fit ws) (fits : Fits ws t first)
+    (in-slots : length slots ≡ mostItems) (in-buckets : length buckets ≡ mostItems)
+    (l : IndexedAs rule ws ar t n (part slots first (length slots - first)) slots′ (part buckets first (length buckets - first)) buckets′) where
+  pub indexed-count : n ≡ length (allOfTable ws t)
+  indexed-count = l .count ∙ members-long ws ar t
 
-  pub indexed-as-long : length (take n items) ≡ n
-  indexed-as-long = ap length (l .items-are) ∙ length-by-index rule (stateOf ws ar t) ∙ sym (l .count)
+  long : length (byIndex rule (stateOf ws ar t)) ≡ n
+  long = length-by-index rule (stateOf ws ar t) ∙ sym (l .count)
 
-  pub indexed-as-below : (most : ℕ) → mostItems ≤ most → AllBelow most (take n items)
-  indexed-as-below most h = rw (l .items-are) (by-index-below ws ar t rule most (omega (arith, fit .few)))
+  slots-put : putMid first (length slots - first) slots slots′ ≡ putAt slots first (byIndex rule (stateOf ws ar t))
+  slots-put = put-tail slots (byIndex rule (stateOf ws ar t)) first (omega (arith, long, indexed-count, fits)) (l .items-are)
 
-  pub put-all : (first : ℕ) (slots slots′ indices indices′ buckets buckets′ : List ℕ) → slots′ ≡ putAt slots first (take n items)
-      → buckets′ ≡ putAt buckets first (take n firsts) → indices′ ≡ indicesPut indices (take n items) (length (take n items))
-      → Put rule ws ar t first n slots slots′ indices indices′ buckets buckets′
-  put-all first slots slots′ indices indices′ buckets buckets′ es eb en = record {
+  buckets-put : putMid first (length buckets - first) buckets buckets′ ≡ putAt buckets first (starts (hashesOf rule (stateOf ws ar t)))
+  buckets-put = put-tail buckets (starts (hashesOf rule (stateOf ws ar t))) first
+      (omega (arith, length-starts (hashesOf rule (stateOf ws ar t)), length-hashes rule (stateOf ws ar t), l .count, indexed-count, fits)) (l .firsts-are)
+
+  -- the items in the slots of the table
+  pub slots-part : part (putMid first (length slots - first) slots slots′) first (first + n - first) ≡ byIndex rule (stateOf ws ar t)
+  slots-part = let size : first + n - first ≡ length (byIndex rule (stateOf ws ar t)) = omega (arith, long) in
+      rw (slots-put, size) (part-put slots first (byIndex rule (stateOf ws ar t)) (omega (arith, long, indexed-count, fits)))
+
+  pub slots-below : (most : ℕ) → mostItems ≤ most → AllBelow most (byIndex rule (stateOf ws ar t))
+  slots-below most h = by-index-below ws ar t rule most (omega (arith, fit .few))
+
+  pub put-all : (indices indices′ items : List ℕ) → items ≡ byIndex rule (stateOf ws ar t) → indices′ ≡ indicesPut indices items (length items)
+      → Put rule ws ar t first n slots (putMid first (length slots - first) slots slots′) indices indices′ buckets (putMid first (length buckets - first) buckets buckets′)
+  put-all indices indices′ items is en = record {
     count = l .count;
-    slots-are = es ∙ ap (putAt slots first) (l .items-are);
-    buckets-are = eb ∙ ap (putAt buckets first) (l .firsts-are);
-    indices-are = en ∙ ap (λ (m : List ℕ). indicesPut indices m (length m)) (l .items-are);
+    slots-are = slots-put;
+    buckets-are = buckets-put;
+    indices-are = en ∙ ap (λ (m : List ℕ). indicesPut indices m (length m)) is;
   }
 
 -- ---- one table more

@@ -11,23 +11,17 @@ use Rattle.words.proofs.StoreLaws.{part-put}
 use Rattle.layout.specs.Limits.{mostItems}
 use Rattle.model.specs.Table.{times}
 use Rattle.build_memory.specs.Memory.{itemTotal}
-use Rattle.image.specs.Index.{keyOrder, hashesOf, byBucket, byIndex}
-use Rattle.image.proofs.IndexLaws.{length-hashes, length-by-index}
+use Rattle.image.specs.Index.{keyOrder, hashesOf, byBucket}
 use Rattle.write_order.specs.Key.{Known}
 use Rattle.write_order.specs.Chain.{Empty, linksOf, starts}
 use Rattle.write_order.specs.Items.{hashesIn, byRank, rankHashes, itemsAt}
 use Rattle.write_order.proofs.KeyLaws.{order-keyed}
-use Rattle.write_order.proofs.ChainLaws.{length-starts}
 use Rattle.write_order.proofs.LinkLaws.{links-long, link-at}
 use Rattle.write_order.proofs.ItemLaws.{hashes-order, items-index}
 use Rattle.write_numbers.specs.Roster.{stateOf}
 use Rattle.write_numbers.specs.Fill.{allOfTable, Fit, Judged, Collected, IndexedAs}
 use Rattle.write_numbers.proofs.OfTableLaws.{of-table-once}
 use Rattle.write_numbers.proofs.StateLaws.{state-members, state-same, state-hash, all-of-table-known, all-of-table-few}
-
--- what was stored at the front is there
-take-front : (l xs : List ℕ) (n : ℕ) → length xs ≡ n → n ≤ length l → take n (putAt l 0 xs) ≡ xs
-take-front l xs n e h = ap (λ (k : ℕ). take k (putAt l 0 xs)) (sym e) ∙ part-put l 0 xs (omega arith)
 
 -- the links hold the empty mark
 pub links-empty : (ws : List ℕ) → Fit ws → Empty (linksOf ws)
@@ -43,7 +37,7 @@ module _ (ws ar : List ℕ) (t n : ℕ) (out members : List ℕ) (judged : Judge
   collected-few = omega (arith, all-of-table-few ws t (judged .fit), k .count)
 
   collected-is : take n members ≡ allOfTable ws t
-  collected-is = ap (take n) (k .put) ∙ take-front out (allOfTable ws t) n (sym (k .count)) (omega (arith, collected-few))
+  collected-is = rw (k .put, k .count) (part-put out 0 (allOfTable ws t) (omega (arith, collected-few, k .count)))
 
   pub collected-long : length (take n members) ≡ n
   collected-long = ap length collected-is ∙ sym (k .count)
@@ -55,9 +49,6 @@ module _ (ws ar : List ℕ) (t n : ℕ) (out members : List ℕ) (judged : Judge
   unfolding allOfTable
   collected-once x = rw collected-is (of-table-once ws x t (itemTotal ws))
 
-  count-is : n ≡ length (stateOf ws ar t .members)
-  count-is = k .count ∙ ap length (sym (state-members ws ar t))
-
   -- in the order of their keys they are the table's
   collected-order : byRank ws ar (take n members) ≡ keyOrder (stateOf ws ar t)
   collected-order =
@@ -68,14 +59,10 @@ module _ (ws ar : List ℕ) (t n : ℕ) (out members : List ℕ) (judged : Judge
     collected-hashes =
         ap (hashesIn form ws ar) collected-order ∙ hashes-order form ws ar (stateOf ws ar t) (λ i h. state-hash ws ar t i judged h) (λ i h. state-same ws ar t i h)
 
-    pub laid : (items items′ firsts firsts′ : List ℕ) → mostItems ≤ length items → mostItems ≤ length firsts
-        → items′ ≡ putAt items 0 (itemsAt (byRank ws ar (take n members)) (byBucket (rankHashes form ws ar (take n members))))
-        → firsts′ ≡ putAt firsts 0 (starts (rankHashes form ws ar (take n members))) → IndexedAs (ruleOf form) ws ar t n items′ firsts′
-    laid items items′ firsts firsts′ in-items in-firsts ei ef = record {
-      count = count-is;
-      items-are = ap (take n) (ei ∙ ap (putAt items 0) (rw (collected-hashes, collected-order) (items-index (ruleOf form) (stateOf ws ar t))))
-          ∙ take-front items (byIndex (ruleOf form) (stateOf ws ar t)) n (length-by-index (ruleOf form) (stateOf ws ar t) ∙ sym count-is) (omega (arith, collected-few));
-      firsts-are = ap (take n) (ef ∙ ap (λ (l : List ℕ). putAt firsts 0 (starts l)) collected-hashes)
-          ∙ take-front firsts (starts (hashesOf (ruleOf form) (stateOf ws ar t))) n
-          (length-starts (hashesOf (ruleOf form) (stateOf ws ar t)) ∙ length-hashes (ruleOf form) (stateOf ws ar t) ∙ sym count-is) (omega (arith, collected-few));
+    pub laid : (items items′ firsts firsts′ : List ℕ) → items′ ≡ putAt items 0 (itemsAt (byRank ws ar (take n members)) (byBucket (rankHashes form ws ar (take n members))))
+        → firsts′ ≡ putAt firsts 0 (starts (rankHashes form ws ar (take n members))) → IndexedAs (ruleOf form) ws ar t n items items′ firsts firsts′
+    laid items items′ firsts firsts′ ei ef = record {
+      count = k .count ∙ ap length (sym (state-members ws ar t));
+      items-are = ei ∙ ap (putAt items 0) (rw (collected-hashes, collected-order) (items-index (ruleOf form) (stateOf ws ar t)));
+      firsts-are = ef ∙ ap (λ (l : List ℕ). putAt firsts 0 (starts l)) collected-hashes;
     }

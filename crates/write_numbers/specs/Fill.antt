@@ -4,7 +4,7 @@ use mathlib.Core.Path.{_≡_}
 use mathlib.Core.Bool.{Bool}
 use mathlib.Core.List.{List, [], _∷_, _++_}
 use lib.Dec.{eqb}
-use lib.ListN.{length, getD, take}
+use lib.ListN.{length, getD}
 use Rattle.words.specs.Choice.{pick}
 use Rattle.words.specs.Below.{someBelow}
 use Rattle.key_hash.specs.Hash.{hashOf}
@@ -61,10 +61,10 @@ pub record Collected (ws : List ℕ) (t n : ℕ) (out out′ : List ℕ) : Type 
   pub put : out′ ≡ putAt out 0 (allOfTable ws t)
 
 -- they have their indices: the item at each index, the word of each bucket
-pub record IndexedAs (rule : ℕ → ℕ) (ws ar : List ℕ) (t n : ℕ) (items firsts : List ℕ) : Type 0 where
+pub record IndexedAs (rule : ℕ → ℕ) (ws ar : List ℕ) (t n : ℕ) (items items′ firsts firsts′ : List ℕ) : Type 0 where
   pub count : n ≡ length (stateOf ws ar t .members)
-  pub items-are : take n items ≡ byIndex rule (stateOf ws ar t)
-  pub firsts-are : take n firsts ≡ starts (hashesOf rule (stateOf ws ar t))
+  pub items-are : items′ ≡ putAt items 0 (byIndex rule (stateOf ws ar t))
+  pub firsts-are : firsts′ ≡ putAt firsts 0 (starts (hashesOf rule (stateOf ws ar t)))
 
 -- they are put into the slots from `first` on, their indices and the words of their buckets too
 pub record Put (rule : ℕ → ℕ) (ws ar : List ℕ) (t first n : ℕ) (slots slots′ indices indices′ buckets buckets′ : List ℕ) : Type 0 where

@@ -11,51 +11,16 @@ use write_order::items::index_items;
 use write_parts::numbered::HEAD_WORDS;
 use write_parts::numbered::SLOTS_FROM;
 ghost use mathlib.Core.Path.{_≡_};
-ghost use Prim.Native.Nat.{_+_, _≤_};
 ghost use mathlib.Core.Bool.{true};
-ghost use lib.ListN.{length, take};
+ghost use lib.ListN.{length};
 ghost use Rattle.key_hash.specs.Hash.{ruleOf};
-ghost use Rattle.words.specs.Store.{putAt};
 ghost use Rattle.layout.specs.Limits.{mostTables};
 ghost use Rattle.build_rules.specs.Valid.{fullyValid};
 ghost use Rattle.write_parts.specs.Numbered.{slotsFrom};
 ghost use Rattle.write_numbers.specs.Roster.{rosterSize, Rostered};
 ghost use Rattle.write_numbers.specs.Fill.{Judged, Fits, Sized, Put, Filled};
 
-// Copies the first n words of `src` to `out` from `at` on.
-fn copy_first(src: &[usize], n: usize, out: &mut [usize], at: usize)
-    requires { ⌜ (n ≤ length (now src)) × (at + n ≤ length (now out)) ⌝ }
-    ensures { λ _. ⌜ now (out .exit) ≡ putAt (now (out .entry)) at (take n (now (src .entry))) ⌝ }
-{
-    put_words(out, at, &src[..n]);
-}
-
-// Puts the items of a table t that has some into its slots, which start at `first`, with their indices and bucket words. Answers how many there are.
-fn put_items(
-    words: &mut [usize],
-    arena: &[u8],
-    t: usize,
-    first: usize,
-    slots: &mut [usize],
-    indices: &mut [usize],
-    buckets: &mut [usize],
-    form: Form,
-) -> usize
-    requires { ⌜ Judged (now words) (now arena) × Fits (now words) t first ⌝ }
-    requires { ⌜ Sized (now slots) (now indices) (now buckets) ⌝ }
-    ensures { λ _. ⌜ now (words .exit) ≡ now (words .entry) ⌝ }
-    ensures { λ r. ⌜ Put (ruleOf form) (now (words .entry)) (now (arena .entry)) t first r (now (slots .entry)) (now (slots .exit)) (now (indices .entry)) (now (indices .exit)) (now (buckets .entry)) (now (buckets .exit)) ⌝ }
-{
-    let mut items = [0usize; MOST_ITEMS];
-    let mut firsts = [0usize; MOST_ITEMS];
-    let n = index_table(words, arena, t, &mut items, &mut firsts, form);
-    copy_first(&items, n, slots, first);
-    copy_first(&firsts, n, buckets, first);
-    index_items(&items[..n], indices);
-    n
-}
-
-// The same of any table t.
+// Puts the items of table t into its slots, which start at `first`, with their indices and bucket words. Answers how many there are.
 fn put_table(
     words: &mut [usize],
     arena: &[u8],
@@ -74,7 +39,16 @@ fn put_table(
     if !has_items(words, t) {
         return 0;
     }
-    put_items(words, arena, t, first, slots, indices, buckets, form)
+    let n = index_table(
+        words,
+        arena,
+        t,
+        &mut slots[first..],
+        &mut buckets[first..],
+        form,
+    );
+    index_items(&slots[first..first + n], indices);
+    n
 }
 
 // Fills the slots of all tables, one behind the other; `heads` gets the first slot and the count of each.

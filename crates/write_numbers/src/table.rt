@@ -7,8 +7,7 @@ ghost use mathlib.Core.Path.{_≡_};
 ghost use Prim.Native.Nat.{_≤_};
 ghost use lib.ListN.{length};
 ghost use Rattle.key_hash.specs.Hash.{ruleOf};
-ghost use Rattle.layout.specs.Limits.{mostItems};
-ghost use Rattle.write_numbers.specs.Fill.{Judged, IndexedAs};
+ghost use Rattle.write_numbers.specs.Fill.{allOfTable, Judged, IndexedAs};
 
 // gvdb-rs: HashTableBuilder::build.
 // Puts the item at each index of table t to the front of `items`, and the word of each bucket to that of `firsts`. Answers how many.
@@ -20,9 +19,9 @@ pub fn index_table(
     firsts: &mut [usize],
     form: Form,
 ) -> usize
-    requires { ⌜ Judged (now words) (now arena) × (mostItems ≤ length (now items)) × (mostItems ≤ length (now firsts)) ⌝ }
+    requires { ⌜ Judged (now words) (now arena) × (length (allOfTable (now words) t) ≤ length (now items)) × (length (allOfTable (now words) t) ≤ length (now firsts)) ⌝ }
     ensures { λ _. ⌜ now (words .exit) ≡ now (words .entry) ⌝ }
-    ensures { λ r. ⌜ IndexedAs (ruleOf form) (now (words .entry)) (now (arena .entry)) t r (now (items .exit)) (now (firsts .exit)) ⌝ }
+    ensures { λ r. ⌜ IndexedAs (ruleOf form) (now (words .entry)) (now (arena .entry)) t r (now (items .entry)) (now (items .exit)) (now (firsts .entry)) (now (firsts .exit)) ⌝ }
 {
     let mut members = [0usize; MOST_ITEMS];
     let n = collect(words, t, &mut members);

@@ -36,7 +36,7 @@ index-by-key-requires c κs =
     let few = collected-few (a .words .now) (a .arena .now) (a .t) (o .result) (replicate mostItems 0) (o .last .1 .1 .0) (s .pre .0) (omega arith) (o .ensures) in
     let long = collected-long (a .words .now) (a .arena .now) (a .t) (o .result) (replicate mostItems 0) (o .last .1 .1 .0) (s .pre .0) (omega arith) (o .ensures) in (
       (collected-known (a .words .now) (a .arena .now) (a .t) (o .result) (replicate mostItems 0) (o .last .1 .1 .0) (s .pre .0) (omega arith) (o .ensures), collected-once (a .words .now) (a .arena .now) (a .t) (o .result) (replicate mostItems 0) (o .last .1 .1 .0) (s .pre .0) (omega arith) (o .ensures)),
-      (record { few = omega (arith, few, long); in-order = omega (arith, few, long, s .pre .1); in-firsts = omega (arith, few, long, s .pre .2) }, links-empty (a .words .now) (s .pre .0 .fit)),
+      (record { few = omega (arith, few, long); in-order = omega (arith, o .ensures .count, long, s .pre .1); in-firsts = omega (arith, o .ensures .count, long, s .pre .2) }, links-empty (a .words .now) (s .pre .0 .fit)),
     )
 
 same-length : tie.Need-same-length
@@ -54,7 +54,7 @@ returns c =
     let a = s .args in
     let o = c .before .before .before .before .before .before .before .before .before .before .before .before .collect in
     let i = c .before .before .before .before .before .before .index-by-key in
-    (i .ensures .0, laid (a .words .now) (a .arena .now) (a .t) (o .result) (replicate mostItems 0) (o .last .1 .1 .0) (s .pre .0) (omega arith) (o .ensures) (a .form) (a .items .now) (i .last .1 .1 .1 .0) (a .firsts .now) (i .last .1 .1 .1 .1 .0) (s .pre .1) (s .pre .2) (i .ensures .1 .0) (i .ensures .1 .1))
+    (i .ensures .0, laid (a .words .now) (a .arena .now) (a .t) (o .result) (replicate mostItems 0) (o .last .1 .1 .0) (s .pre .0) (omega arith) (o .ensures) (a .form) (a .items .now) (i .last .1 .1 .1 .0) (a .firsts .now) (i .last .1 .1 .1 .1 .0) (i .ensures .1 .0) (i .ensures .1 .1))
 
 pub index-table-spec : {M : Type 1} → statement M
 index-table-spec =
