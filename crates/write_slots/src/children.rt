@@ -1,5 +1,5 @@
-// The children of every container, in order of creation, by the code that puts items into buckets by their hashes. Parent words stand for the hashes,
-// and rank p for item n - 1 - p, since each goes to the front of its bucket.
+// The children of every container, in order of creation: bucket by bucket, where parent words stand for the hashes, and rank p for item n - 1 - p, since each
+// goes to the front of its bucket.
 use build_memory::fields::EMPTY;
 use build_memory::fields::ITEMS;
 use build_memory::fields::PARENT;
