@@ -4,14 +4,14 @@ use mathlib.Core.List.{List}
 use Prim.Native.Nat.{ℕ, ◌<◌, ◌^◌}
 use native.Mathlib.Omega.{arith}
 use Rattle.layout.specs.declared.table.Opened.{Opened}
-use Rattle.layout.specs.Table.{openTable}
-use Rattle.layout.proofs.OpenLaws.{opened-in-file}
-use Rattle.answers.specs.Reading.{openedCount}
+use Rattle.layout.specs.Table.{open_table}
+use Rattle.layout.proofs.OpenLaws.{opened_in_file}
+use Rattle.answers.specs.Reading.{opened_count}
 
-pub opened-small : (file : List ℕ) (start end : ℕ) (opened : Opened) → opened ≡ openTable file start end
-    → (openedCount (λ t. t.count) opened < 2 ^ 32) × (openedCount (λ t. t.buckets) opened < 2 ^ 32) × (openedCount (λ t. t.blooms) opened < 2 ^ 32)
-unfolding openedCount
-opened-small file start end (Opened.Table t) e =
-    let lies = opened-in-file _ _ _ (sym e) in
+pub opened_small : (file : List ℕ) (start end : ℕ) (opened : Opened) → opened ≡ open_table file start end
+    → (opened_count (λ t. t.count) opened < 2 ^ 32) × (opened_count (λ t. t.buckets) opened < 2 ^ 32) × (opened_count (λ t. t.blooms) opened < 2 ^ 32)
+unfolding opened_count
+opened_small file start end (Opened.Table t) e =
+    let lies = opened_in_file _ _ _ (sym e) in
     (omega (arith, lies.short, lies.head, lies.items), omega (arith, lies.short, lies.head, lies.items), omega (arith, lies.short, lies.head, lies.items))
-opened-small file start end (Opened.Refused why) e = (omega arith, omega arith, omega arith)
+opened_small file start end (Opened.Refused why) e = (omega arith, omega arith, omega arith)

@@ -3,7 +3,7 @@ use Rattle.std.specs.Prelude.{ℕ, eqb}
 use Rattle.words.specs.Choice.{pick}
 use Rattle.file_header.specs.declared.header.ByteOrder.{ByteOrder}
 use Rattle.file_header.specs.declared.header.Headed.{Headed}
-use Rattle.file_header.specs.Answer.{headedNumber, headedOrder, headedPointer}
+use Rattle.file_header.specs.Answer.{headed_number, headed_order, headed_pointer}
 use Rattle.answers.specs.declared.header.GvdbHeader.{GvdbHeader}
 
 abbrev pub abi : ℕ
@@ -13,10 +13,10 @@ abi = 7
 unfoldable pub order_of : ℕ → ByteOrder
 order_of big = pick (eqb big 0) ByteOrder.Little ByteOrder.Big
 
-unfoldable pub headedAnswer : Headed → GvdbHeader
-headedAnswer headed = record {
-  number = headedNumber headed;
-  big = headedOrder headed;
-  start = (headedPointer headed).0;
-  end = (headedPointer headed).1;
+unfoldable pub headed_answer : Headed → GvdbHeader
+headed_answer headed = record {
+  number = headed_number headed;
+  big = headed_order headed;
+  start = (headed_pointer headed).0;
+  end = (headed_pointer headed).1;
 }

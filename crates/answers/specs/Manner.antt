@@ -5,7 +5,7 @@ use Rattle.key_hash.specs.declared.hash.Form.{Form}
 use Rattle.key_hash.specs.Hash.{plain, signed}
 use Rattle.read_find.specs.declared.manner.Lookup.{Lookup}
 use Rattle.read_find.specs.declared.manner.Manner.{Manner}
-use Rattle.read_find.specs.Find.{rust, shift_of, mannerOf}
+use Rattle.read_find.specs.Find.{rust, shift_of, manner_of}
 use Rattle.read_listing.specs.Forms.{glib}
 
 -- an even number names the base form, an odd one the signed form
@@ -13,19 +13,19 @@ unfoldable pub form_of : ℕ → Form
 form_of number = pick (eqb (number % 2) 0) Form.Plain Form.Signed
 
 -- the Rust's lookup where bit 1 is clear, the strict one where it is set
-unfoldable pub lookupOf : ℕ → Lookup
-lookupOf number = pick (eqb (number / 2 % 2) 0) Lookup.Rust Lookup.Strict
+unfoldable pub lookup_of : ℕ → Lookup
+lookup_of number = pick (eqb (number / 2 % 2) 0) Lookup.Rust Lookup.Strict
 
-unfoldable pub mannerNamed : ℕ → Manner
-mannerNamed number = record { form = form_of number; lookup = lookupOf number }
+unfoldable pub manner_named : ℕ → Manner
+manner_named number = record { form = form_of number; lookup = lookup_of number }
 
 -- 0 is the Rust's, 1 GLib's; 2 is the Rust's with the strict lookup; 5 has bit 0 set and bit 1 clear
-pub named : (mannerOf (mannerNamed 0) ≡ rust) × (mannerOf (mannerNamed 1) ≡ glib)
-    × (mannerOf (mannerNamed 2) ≡ record { byte = plain; shift = shift_of Lookup.Strict }) × (mannerOf (mannerNamed 5) ≡ glib)
-unfolding mannerNamed form_of lookupOf pick
+pub named : (manner_of (manner_named 0) ≡ rust) × (manner_of (manner_named 1) ≡ glib)
+    × (manner_of (manner_named 2) ≡ record { byte = plain; shift = shift_of Lookup.Strict }) × (manner_of (manner_named 5) ≡ glib)
+unfolding manner_named form_of lookup_of pick
 named = (refl, refl, refl, refl)
 
 -- 3 is GLib's form with the strict lookup
-pub named-3 : mannerOf (mannerNamed 3) ≡ record { byte = signed; shift = shift_of Lookup.Strict }
-unfolding mannerNamed form_of lookupOf pick
-named-3 = refl
+pub named_3 : manner_of (manner_named 3) ≡ record { byte = signed; shift = shift_of Lookup.Strict }
+unfolding manner_named form_of lookup_of pick
+named_3 = refl

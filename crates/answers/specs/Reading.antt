@@ -2,14 +2,14 @@
 use Rattle.std.specs.Prelude.{ℕ}
 use Rattle.layout.specs.declared.table.Table.{Table}
 use Rattle.layout.specs.declared.table.Opened.{Opened}
-use Rattle.layout.specs.Answer.{openedNumber}
+use Rattle.layout.specs.Answer.{opened_number}
 use Rattle.read.specs.declared.lookup.Looked.{Looked}
 use Rattle.read.specs.declared.layered.Layered.{Layered}
 use Rattle.read_listing.specs.declared.listing.Listed.{Listed}
 use Rattle.read_listing.specs.declared.listing.Valued.{Valued}
 use Rattle.read_listing.specs.declared.children.Childed.{Childed}
-use Rattle.read.specs.Answer.{lookedNumber, lookedPointer, lookedAt, sourceNumber}
-use Rattle.read_listing.specs.Answer.{listedNumber, listedKey, listed_at, valuedNumber, valuedPointer, valuedItem, childedNumber, childedKind, childedPointer, childedChild, childedAt}
+use Rattle.read.specs.Answer.{looked_number, looked_pointer, looked_at, source_number}
+use Rattle.read_listing.specs.Answer.{listed_number, listed_key, listed_at, valued_number, valued_pointer, valued_item, childed_number, childed_kind, childed_pointer, childed_child, childed_at}
 use Rattle.answers.specs.declared.reading.GvdbOpened.{GvdbOpened}
 use Rattle.answers.specs.declared.reading.GvdbPlace.{GvdbPlace}
 use Rattle.answers.specs.declared.reading.GvdbLayered.{GvdbLayered}
@@ -18,51 +18,51 @@ use Rattle.answers.specs.declared.reading.GvdbValue.{GvdbValue}
 use Rattle.answers.specs.declared.reading.GvdbChild.{GvdbChild}
 
 -- one count of a table that opened; 0 on a refusal
-unfoldable pub openedCount : (Table → ℕ) → Opened → ℕ
-openedCount count (Opened.Table t) = count t
-openedCount count (Opened.Refused why) = 0
+unfoldable pub opened_count : (Table → ℕ) → Opened → ℕ
+opened_count count (Opened.Table t) = count t
+opened_count count (Opened.Refused why) = 0
 
-unfoldable pub openedAnswer : Opened → GvdbOpened
-openedAnswer opened = record {
-  number = openedNumber opened;
-  items = openedCount (λ t. t.count) opened;
-  buckets = openedCount (λ t. t.buckets) opened;
-  blooms = openedCount (λ t. t.blooms) opened;
+unfoldable pub opened_answer : Opened → GvdbOpened
+opened_answer opened = record {
+  number = opened_number opened;
+  items = opened_count (λ t. t.count) opened;
+  buckets = opened_count (λ t. t.buckets) opened;
+  blooms = opened_count (λ t. t.blooms) opened;
 }
 
-unfoldable pub lookedAnswer : Looked → GvdbPlace
-lookedAnswer looked = record { number = lookedNumber looked; start = (lookedPointer looked).0; end = (lookedPointer looked).1; at = lookedAt looked }
+unfoldable pub looked_answer : Looked → GvdbPlace
+looked_answer looked = record { number = looked_number looked; start = (looked_pointer looked).0; end = (looked_pointer looked).1; at = looked_at looked }
 
 -- the table that answered is told on a refusal too
-unfoldable pub layeredAnswer : Layered → GvdbLayered
-layeredAnswer layered = record {
-  number = lookedNumber layered.looked;
-  from = sourceNumber layered.from;
-  start = (lookedPointer layered.looked).0;
-  end = (lookedPointer layered.looked).1;
-  at = lookedAt layered.looked;
+unfoldable pub layered_answer : Layered → GvdbLayered
+layered_answer layered = record {
+  number = looked_number layered.looked;
+  from = source_number layered.from;
+  start = (looked_pointer layered.looked).0;
+  end = (looked_pointer layered.looked).1;
+  at = looked_at layered.looked;
 }
 
-unfoldable pub listedAnswer : Listed → GvdbKey
-listedAnswer listed = record { number = listedNumber listed; length = (listedKey listed).0; next = (listedKey listed).1; at = listed_at listed }
+unfoldable pub listed_answer : Listed → GvdbKey
+listed_answer listed = record { number = listed_number listed; length = (listed_key listed).0; next = (listed_key listed).1; at = listed_at listed }
 
 -- item and next position are told with 2 and 3 of the value's pointer too
-unfoldable pub valuedAnswer : Valued → GvdbValue
-valuedAnswer valued = record {
-  number = valuedNumber valued;
-  start = (valuedPointer valued).0;
-  end = (valuedPointer valued).1;
-  index = (valuedItem valued).0;
-  next = (valuedItem valued).1;
+unfoldable pub valued_answer : Valued → GvdbValue
+valued_answer valued = record {
+  number = valued_number valued;
+  start = (valued_pointer valued).0;
+  end = (valued_pointer valued).1;
+  index = (valued_item valued).0;
+  next = (valued_item valued).1;
 }
 
-unfoldable pub childedAnswer : Childed → GvdbChild
-childedAnswer childed = record {
-  number = childedNumber childed;
-  kind = childedKind childed;
-  start = (childedPointer childed).0;
-  end = (childedPointer childed).1;
-  index = (childedChild childed).0;
-  next = (childedChild childed).1;
-  at = childedAt childed;
+unfoldable pub childed_answer : Childed → GvdbChild
+childed_answer childed = record {
+  number = childed_number childed;
+  kind = childed_kind childed;
+  start = (childed_pointer childed).0;
+  end = (childed_pointer childed).1;
+  index = (childed_child childed).0;
+  next = (childed_child childed).1;
+  at = childed_at childed;
 }

@@ -1,6 +1,6 @@
 // What the check answers, as numbers.
 ghost use Rattle.std.specs.Prelude.{◌≡◌};
-ghost use Rattle.answers.specs.Checking.{checkedAnswer};
+ghost use Rattle.answers.specs.Checking.{checked_answer};
 
 use check_rules::checked::Checked;
 use layout::refusal::{Refusal, bad_at, number_of};
@@ -18,7 +18,7 @@ pub struct GvdbCheck {
 }
 
 pub fn checked_of(checked: Checked) -> GvdbCheck
-    ensures { result ≡ checkedAnswer checked }
+    ensures { result ≡ checked_answer checked }
 {
     let broken = number_of(Refusal::CheckBroken);
     match checked {

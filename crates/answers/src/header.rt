@@ -1,7 +1,7 @@
 // What the two calls on a header answer, as numbers, and the byte order that a number names.
 ghost use Rattle.std.specs.Prelude.{◌≡◌};
-ghost use Rattle.file_header.specs.Answer.{orderNumber, headerLaidNumber};
-ghost use Rattle.answers.specs.Header.{order_of, headedAnswer};
+ghost use Rattle.file_header.specs.Answer.{order_number, header_laid_number};
+ghost use Rattle.answers.specs.Header.{order_of, headed_answer};
 
 use file_header::header::{ByteOrder, Headed, HeaderLaid};
 use layout::refusal::number_of;
@@ -17,7 +17,7 @@ pub struct GvdbHeader {
 }
 
 fn big_of(order: ByteOrder) -> u32
-    ensures { result ≡ orderNumber order }
+    ensures { result ≡ order_number order }
 {
     match order {
         ByteOrder::Little => 0,
@@ -36,7 +36,7 @@ pub fn order_of(big: u32) -> ByteOrder
 }
 
 pub fn headed_of(headed: Headed) -> GvdbHeader
-    ensures { result ≡ headedAnswer headed }
+    ensures { result ≡ headed_answer headed }
 {
     match headed {
         Headed::Root { order, start, end } => GvdbHeader {
@@ -55,7 +55,7 @@ pub fn headed_of(headed: Headed) -> GvdbHeader
 }
 
 pub fn header_laid_of(laid: HeaderLaid) -> u32
-    ensures { result ≡ headerLaidNumber laid }
+    ensures { result ≡ header_laid_number laid }
 {
     match laid {
         HeaderLaid::Laid => 0,

@@ -1,6 +1,6 @@
 // The number that names how a table is read, checked and laid. Bit 0 is the form of the hash, bit 1 the lookup; the other bits are not read.
 ghost use Rattle.std.specs.Prelude.{◌≡◌};
-ghost use Rattle.answers.specs.Manner.{form_of, lookupOf, mannerNamed};
+ghost use Rattle.answers.specs.Manner.{form_of, lookup_of, manner_named};
 
 use key_hash::hash::Form;
 use read_find::manner::{Lookup, Manner};
@@ -17,7 +17,7 @@ pub fn form_of(number: u32) -> Form
 
 // The lookup that a number names.
 fn lookup_of(number: u32) -> Lookup
-    ensures { result ≡ lookupOf number }
+    ensures { result ≡ lookup_of number }
 {
     if number / 2 % 2 == 0 {
         return Lookup::Rust;
@@ -27,7 +27,7 @@ fn lookup_of(number: u32) -> Lookup
 
 // The manner that a number names.
 pub fn manner_of(number: u32) -> Manner
-    ensures { result ≡ mannerNamed number }
+    ensures { result ≡ manner_named number }
 {
     let form = form_of(number);
     let lookup = lookup_of(number);

@@ -1,7 +1,7 @@
 // What a reader answers, as numbers: opening, lookups, listings.
 ghost use Rattle.std.specs.Prelude.{◌≡◌, ◌<◌, ◌^◌};
-ghost use Rattle.read.specs.Answer.{sourceNumber};
-ghost use Rattle.answers.specs.Reading.{openedCount, openedAnswer, lookedAnswer, layeredAnswer, listedAnswer, valuedAnswer, childedAnswer};
+ghost use Rattle.read.specs.Answer.{source_number};
+ghost use Rattle.answers.specs.Reading.{opened_count, opened_answer, looked_answer, layered_answer, listed_answer, valued_answer, childed_answer};
 
 use layout::refusal::{bad_at, number_of};
 use layout::table::Opened;
@@ -79,8 +79,8 @@ pub struct GvdbChild {
 }
 
 pub fn opened_of(opened: Opened) -> GvdbOpened
-    requires { (openedCount (λ t. t.count) opened < 2 ^ 32) × (openedCount (λ t. t.buckets) opened < 2 ^ 32) × (openedCount (λ t. t.blooms) opened < 2 ^ 32) }
-    ensures { result ≡ openedAnswer opened }
+    requires { (opened_count (λ t. t.count) opened < 2 ^ 32) × (opened_count (λ t. t.buckets) opened < 2 ^ 32) × (opened_count (λ t. t.blooms) opened < 2 ^ 32) }
+    ensures { result ≡ opened_answer opened }
 {
     match opened {
         Opened::Table(table) => GvdbOpened {
@@ -99,7 +99,7 @@ pub fn opened_of(opened: Opened) -> GvdbOpened
 }
 
 pub fn looked_of(looked: Looked) -> GvdbPlace
-    ensures { result ≡ lookedAnswer looked }
+    ensures { result ≡ looked_answer looked }
 {
     match looked {
         Looked::Pointer { start, end } => GvdbPlace {
@@ -118,7 +118,7 @@ pub fn looked_of(looked: Looked) -> GvdbPlace
 }
 
 fn source_of(from: Source) -> u32
-    ensures { result ≡ sourceNumber from }
+    ensures { result ≡ source_number from }
 {
     match from {
         Source::Owner => 0,
@@ -127,7 +127,7 @@ fn source_of(from: Source) -> u32
 }
 
 pub fn layered_of(layered: Layered) -> GvdbLayered
-    ensures { result ≡ layeredAnswer layered }
+    ensures { result ≡ layered_answer layered }
 {
     let looked = layered.looked;
     let from = layered.from;
@@ -142,7 +142,7 @@ pub fn layered_of(layered: Layered) -> GvdbLayered
 }
 
 pub fn listed_of(listed: Listed) -> GvdbKey
-    ensures { result ≡ listedAnswer listed }
+    ensures { result ≡ listed_answer listed }
 {
     match listed {
         Listed::Key { size, next } => GvdbKey {
@@ -161,7 +161,7 @@ pub fn listed_of(listed: Listed) -> GvdbKey
 }
 
 pub fn valued_of(valued: Valued) -> GvdbValue
-    ensures { result ≡ valuedAnswer valued }
+    ensures { result ≡ valued_answer valued }
 {
     match valued {
         Valued::Value {
@@ -194,7 +194,7 @@ pub fn valued_of(valued: Valued) -> GvdbValue
 }
 
 pub fn childed_of(childed: Childed) -> GvdbChild
-    ensures { result ≡ childedAnswer childed }
+    ensures { result ≡ childed_answer childed }
 {
     match childed {
         Childed::Child {

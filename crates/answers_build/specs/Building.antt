@@ -3,8 +3,8 @@ use Rattle.model.specs.declared.Inserted.{Inserted}
 use Rattle.model.specs.declared.Added.{Added}
 use Rattle.model.specs.declared.Counted.{Counted}
 use Rattle.build_memory.specs.Memory.{Outcome, outcome}
-use Rattle.build_tables.specs.Answer.{addedNumber, addedTable, countedNumber, countedItems}
-use Rattle.build_values.specs.Answer.{insertedNumber, insertedKind, insertedAt}
+use Rattle.build_tables.specs.Answer.{added_number, added_table, counted_number, counted_items}
+use Rattle.build_values.specs.Answer.{inserted_number, inserted_kind, inserted_at}
 use Rattle.answers_build.specs.declared.building.GvdbTable.{GvdbTable}
 use Rattle.answers_build.specs.declared.building.GvdbInserted.{GvdbInserted}
 use Rattle.answers_build.specs.declared.building.GvdbCount.{GvdbCount}
@@ -13,11 +13,11 @@ use Rattle.answers_build.specs.declared.building.GvdbCount.{GvdbCount}
 unfoldable pub told : {A B : Type 0} → (A → B) → Outcome A → Outcome B
 told answer o = outcome (answer o.answer) o.after
 
-unfoldable pub addedAnswer : Added → GvdbTable
-addedAnswer numbered = record { number = addedNumber numbered; table = addedTable numbered }
+unfoldable pub added_answer : Added → GvdbTable
+added_answer numbered = record { number = added_number numbered; table = added_table numbered }
 
-unfoldable pub insertedAnswer : Inserted → GvdbInserted
-insertedAnswer inserted = record { number = insertedNumber inserted; replaced = insertedKind inserted; at = insertedAt inserted }
+unfoldable pub inserted_answer : Inserted → GvdbInserted
+inserted_answer inserted = record { number = inserted_number inserted; replaced = inserted_kind inserted; at = inserted_at inserted }
 
-unfoldable pub countedAnswer : Counted → GvdbCount
-countedAnswer counted = record { number = countedNumber counted; count = countedItems counted }
+unfoldable pub counted_answer : Counted → GvdbCount
+counted_answer counted = record { number = counted_number counted; count = counted_items counted }

@@ -1,7 +1,7 @@
 // What the calls on a builder answer, as numbers.
 ghost use Rattle.std.specs.Prelude.{◌≡◌};
-ghost use Rattle.build_memory.specs.Answer.{startedNumber};
-ghost use Rattle.answers_build.specs.Building.{addedAnswer, countedAnswer, insertedAnswer};
+ghost use Rattle.build_memory.specs.Answer.{started_number};
+ghost use Rattle.answers_build.specs.Building.{added_answer, counted_answer, inserted_answer};
 
 use build_memory::fresh::Started;
 use layout::kind::byte_of;
@@ -35,7 +35,7 @@ pub struct GvdbCount {
 }
 
 pub fn started_of(started: Started) -> u32
-    ensures { result ≡ startedNumber started }
+    ensures { result ≡ started_number started }
 {
     match started {
         Started::Ready => 0,
@@ -44,7 +44,7 @@ pub fn started_of(started: Started) -> u32
 }
 
 pub fn added_of(added: Added) -> GvdbTable
-    ensures { result ≡ addedAnswer added }
+    ensures { result ≡ added_answer added }
 {
     match added {
         Added::Table(table) => GvdbTable { number: 0, table },
@@ -56,7 +56,7 @@ pub fn added_of(added: Added) -> GvdbTable
 }
 
 pub fn inserted_of(inserted: Inserted) -> GvdbInserted
-    ensures { result ≡ insertedAnswer inserted }
+    ensures { result ≡ inserted_answer inserted }
 {
     match inserted {
         Inserted::New => GvdbInserted {
@@ -78,7 +78,7 @@ pub fn inserted_of(inserted: Inserted) -> GvdbInserted
 }
 
 pub fn counted_of(counted: Counted) -> GvdbCount
-    ensures { result ≡ countedAnswer counted }
+    ensures { result ≡ counted_answer counted }
 {
     match counted {
         Counted::Items(count) => GvdbCount { number: 0, count },

@@ -1,6 +1,6 @@
 // What a write answers, as numbers.
 ghost use Rattle.std.specs.Prelude.{◌≡◌};
-ghost use Rattle.answers_build.specs.Writing.{writtenAnswer};
+ghost use Rattle.answers_build.specs.Writing.{written_answer};
 
 use layout::refusal::number_of;
 use write::Written;
@@ -16,7 +16,7 @@ pub struct GvdbImage {
 }
 
 pub fn written_of(written: Written) -> GvdbImage
-    ensures { result ≡ writtenAnswer written }
+    ensures { result ≡ written_answer written }
 {
     match written {
         Written::Image { start, end, length } => GvdbImage {

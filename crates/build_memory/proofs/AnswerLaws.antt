@@ -5,14 +5,14 @@ use mathlib.Core.List.{List}
 use borrow.Author.Tests.{lt-leb, le-leb}
 use lib.ListN.{length}
 use Rattle.words.specs.Choice.{pick}
-use Rattle.build_memory.specs.Memory.{leastWords, freshStart}
-use Rattle.build_memory.specs.Answer.{startedNumber}
+use Rattle.build_memory.specs.Memory.{least_words, fresh_start}
+use Rattle.build_memory.specs.Answer.{started_number}
 
 module _ (ws ar : List ℕ) where
-  pub fresh-29 : length ws < leastWords → startedNumber (freshStart ws ar).answer ≡ 29
-  unfolding freshStart startedNumber pick
-  fresh-29 h = simp (lt-leb _ _ h)
+  pub fresh_29 : length ws < least_words → started_number (fresh_start ws ar).answer ≡ 29
+  unfolding fresh_start started_number pick
+  fresh_29 h = simp (lt-leb _ _ h)
 
-  pub fresh-0 : leastWords ≤ length ws → startedNumber (freshStart ws ar).answer ≡ 0
-  unfolding freshStart startedNumber pick
-  fresh-0 h = simp (le-leb _ _ h)
+  pub fresh_0 : least_words ≤ length ws → started_number (fresh_start ws ar).answer ≡ 0
+  unfolding fresh_start started_number pick
+  fresh_0 h = simp (le-leb _ _ h)

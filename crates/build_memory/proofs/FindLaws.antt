@@ -9,25 +9,25 @@ use borrow.Author.Tests.{eqb-true, eqb-false, eq-eqb, ne_eqb}
 use lib.Dec.{eqb}
 use lib.ListN.{length}
 use Rattle.words.specs.Choice.{pick}
-use Rattle.key_hash.specs.Hash.{hashOf}
-use Rattle.key_order.specs.Compare.{sameBytes}
-use Rattle.build_memory.specs.Memory.{word, buckets, headAt, itemTotal, itemTable, itemHash, itemOlder, keySize, key_of}
-use Rattle.build_memory.specs.Find.{isItem, seek, findKey}
+use Rattle.key_hash.specs.Hash.{hash_of}
+use Rattle.key_order.specs.Compare.{same_bytes}
+use Rattle.build_memory.specs.Memory.{word, buckets, head_at, item_total, item_table, item_hash, item_older, key_size, key_of}
+use Rattle.build_memory.specs.Find.{is_item, seek, find_key}
 
 -- ---- a chain
 
 module _ (test : ℕ → Bool) (older : ℕ → ℕ) (none : ℕ) where
-  pub seek-end : (n i : ℕ) → n ≤ i → seek test older none n i ≡ none
+  pub seek_end : (n i : ℕ) → n ≤ i → seek test older none n i ≡ none
   unfolding seek pick
-  seek-end zero i h = refl
-  seek-end (suc m) i h =
+  seek_end zero i h = refl
+  seek_end (suc m) i h =
       ap (λ (q : Bool). pick q (pick (test m) m (seek test older none m (older m))) (seek test older none m i)) (ne_eqb i m (λ (e : i ≡ m). omega arith))
-      ∙ seek-end m i (omega arith)
+      ∙ seek_end m i (omega arith)
 
-  pub seek-at : (n i : ℕ) → i < n → seek test older none n i ≡ pick (test i) i (seek test older none i (older i))
+  pub seek_at : (n i : ℕ) → i < n → seek test older none n i ≡ pick (test i) i (seek test older none i (older i))
   unfolding seek pick
-  seek-at zero i h = absurd (not-suc-le-zero h)
-  seek-at (suc m) i h = by_field (eqb i m) refl (seek-at m i)
+  seek_at zero i h = absurd (not-suc-le-zero h)
+  seek_at (suc m) i h = by_field (eqb i m) refl (seek_at m i)
     where
       by_field : (q : Bool) → eqb i m ≡ q → (i < m → seek test older none m i ≡ pick (test i) i (seek test older none i (older i)))
           → pick q (pick (test m) m (seek test older none m (older m))) (seek test older none m i) ≡ pick (test i) i (seek test older none i (older i))
@@ -36,54 +36,54 @@ module _ (test : ℕ → Bool) (older : ℕ → ℕ) (none : ℕ) where
 
   pub seek_hit : (n i : ℕ) → i < n → test i ≡ true → seek test older none n i ≡ i
   unfolding pick
-  seek_hit n i h e = seek-at n i h ∙ simp e
+  seek_hit n i h e = seek_at n i h ∙ simp e
 
-  pub seek-step : (n i : ℕ) → i < n → test i ≡ false → seek test older none n i ≡ seek test older none i (older i)
+  pub seek_step : (n i : ℕ) → i < n → test i ≡ false → seek test older none n i ≡ seek test older none i (older i)
   unfolding pick
-  seek-step n i h e = seek-at n i h ∙ simp e
+  seek_step n i h e = seek_at n i h ∙ simp e
 
 -- ---- the test of an item, field by field
 
 module _ (ws ar : List ℕ) (t h : ℕ) (key : List ℕ) (i : ℕ) where
-  pub item-table : (itemTable ws i ≡ t → ⊥) → false ≡ isItem ws ar t h key i
-  unfolding isItem
-  item-table e = simp (ne_eqb _ _ e)
+  pub item_table_lem : (item_table ws i ≡ t → ⊥) → false ≡ is_item ws ar t h key i
+  unfolding is_item
+  item_table_lem e = simp (ne_eqb _ _ e)
 
-  module _ (e0 : itemTable ws i ≡ t) where
-    pub item-hash : (itemHash ws i ≡ h → ⊥) → false ≡ isItem ws ar t h key i
-    unfolding isItem
-    item-hash e = simp (eq-eqb _ _ e0, ne_eqb _ _ e)
+  module _ (e0 : item_table ws i ≡ t) where
+    pub item_hash_lem : (item_hash ws i ≡ h → ⊥) → false ≡ is_item ws ar t h key i
+    unfolding is_item
+    item_hash_lem e = simp (eq-eqb _ _ e0, ne_eqb _ _ e)
 
-    module _ (e1 : itemHash ws i ≡ h) where
-      pub item-size : (keySize ws i ≡ length key → ⊥) → false ≡ isItem ws ar t h key i
-      unfolding isItem
-      item-size e = simp (eq-eqb _ _ e0, eq-eqb _ _ e1, ne_eqb _ _ e)
+    module _ (e1 : item_hash ws i ≡ h) where
+      pub item_size_lem : (key_size ws i ≡ length key → ⊥) → false ≡ is_item ws ar t h key i
+      unfolding is_item
+      item_size_lem e = simp (eq-eqb _ _ e0, eq-eqb _ _ e1, ne_eqb _ _ e)
 
-      pub item-bytes : keySize ws i ≡ length key → sameBytes (key_of ws ar i) key ≡ isItem ws ar t h key i
-      unfolding isItem
-      item-bytes e = simp (eq-eqb _ _ e0, eq-eqb _ _ e1, eq-eqb _ _ e)
+      pub item_bytes_lem : key_size ws i ≡ length key → same_bytes (key_of ws ar i) key ≡ is_item ws ar t h key i
+      unfolding is_item
+      item_bytes_lem e = simp (eq-eqb _ _ e0, eq-eqb _ _ e1, eq-eqb _ _ e)
 
 -- ---- the search, from its start to its ends
 
 module _ (ws ar : List ℕ) (t : ℕ) (key : List ℕ) where
-  abbrev pub chainFrom : ℕ → ℕ → ℕ
-  chainFrom limit i = seek (isItem ws ar t (hashOf key) key) (itemOlder ws) (itemTotal ws) limit i
+  abbrev pub chain_from : ℕ → ℕ → ℕ
+  chain_from limit i = seek (is_item ws ar t (hash_of key) key) (item_older ws) (item_total ws) limit i
 
-  module _ (h : ℕ) (is : h ≡ hashOf key) where
-    pub find-start : findKey ws ar t key ≡ chainFrom (itemTotal ws) (word ws (headAt (h % buckets)))
-    unfolding findKey
-    find-start = ap (λ (n : ℕ). chainFrom (itemTotal ws) (word ws (headAt (n % buckets)))) (sym is)
+  module _ (h : ℕ) (is : h ≡ hash_of key) where
+    pub find_start : find_key ws ar t key ≡ chain_from (item_total ws) (word ws (head_at (h % buckets)))
+    unfolding find_key
+    find_start = ap (λ (n : ℕ). chain_from (item_total ws) (word ws (head_at (n % buckets)))) (sym is)
 
-    module _ (limit i : ℕ) (l : i < limit) (r : Bool) (e : r ≡ isItem ws ar t h key i) where
-      at-hash : isItem ws ar t (hashOf key) key i ≡ r
-      at-hash = sym (e ∙ ap (λ (n : ℕ). isItem ws ar t n key i) is)
+    module _ (limit i : ℕ) (l : i < limit) (r : Bool) (e : r ≡ is_item ws ar t h key i) where
+      at_hash : is_item ws ar t (hash_of key) key i ≡ r
+      at_hash = sym (e ∙ ap (λ (n : ℕ). is_item ws ar t n key i) is)
 
-      pub find-hit : r ≡ true → findKey ws ar t key ≡ chainFrom limit i → i ≡ findKey ws ar t key
-      find-hit q f = sym (f ∙ seek_hit (isItem ws ar t (hashOf key) key) (itemOlder ws) (itemTotal ws) limit i l (at-hash ∙ q))
+      pub find_hit : r ≡ true → find_key ws ar t key ≡ chain_from limit i → i ≡ find_key ws ar t key
+      find_hit q f = sym (f ∙ seek_hit (is_item ws ar t (hash_of key) key) (item_older ws) (item_total ws) limit i l (at_hash ∙ q))
 
-      pub find-next : r ≡ false → findKey ws ar t key ≡ chainFrom limit i → (next : ℕ) → next ≡ itemOlder ws i → findKey ws ar t key ≡ chainFrom i next
-      find-next q f next g =
-          f ∙ seek-step (isItem ws ar t (hashOf key) key) (itemOlder ws) (itemTotal ws) limit i l (at-hash ∙ q) ∙ ap (chainFrom i) (sym g)
+      pub find_next : r ≡ false → find_key ws ar t key ≡ chain_from limit i → (next : ℕ) → next ≡ item_older ws i → find_key ws ar t key ≡ chain_from i next
+      find_next q f next g =
+          f ∙ seek_step (is_item ws ar t (hash_of key) key) (item_older ws) (item_total ws) limit i l (at_hash ∙ q) ∙ ap (chain_from i) (sym g)
 
-  pub find_none : (limit i : ℕ) → limit ≤ i → findKey ws ar t key ≡ chainFrom limit i → itemTotal ws ≡ findKey ws ar t key
-  find_none limit i l f = sym (f ∙ seek-end (isItem ws ar t (hashOf key) key) (itemOlder ws) (itemTotal ws) limit i l)
+  pub find_none : (limit i : ℕ) → limit ≤ i → find_key ws ar t key ≡ chain_from limit i → item_total ws ≡ find_key ws ar t key
+  find_none limit i l f = sym (f ∙ seek_end (is_item ws ar t (hash_of key) key) (item_older ws) (item_total ws) limit i l)

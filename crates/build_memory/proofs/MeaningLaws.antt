@@ -8,7 +8,7 @@ use mathlib.Core.List.{List, [], ◌∷◌}
 use lib.ListN.{length, get_or, length-append, get_or-append, get_or-eq_default}
 use lib.Seq.{get_or_at}
 use Rattle.words.proofs.StoreLaws.{length_part}
-use Rattle.build_memory.specs.Memory.{keyStart, keySize, key_of}
+use Rattle.build_memory.specs.Memory.{key_start, key_size, key_of}
 use Rattle.build_memory.specs.Meaning.{listed}
 
 module _ {A : Type 0} where
@@ -26,9 +26,9 @@ module _ {A : Type 0} where
       (λ l. get_or-append (listed f n) (f n ∷ []) d i (omega (arith, length-listed f n)) ∙ listed_at f d n i l)
       (eq-or-lt_of_le (le_of_suc-le-suc h))
 
-  pub listed-past : (f : ℕ → A) (d : A) (n i : ℕ) → n ≤ i → get_or (listed f n) i d ≡ d
-  listed-past f d n i h = get_or-eq_default (listed f n) d (omega (arith, length-listed f n))
+  pub listed_past : (f : ℕ → A) (d : A) (n i : ℕ) → n ≤ i → get_or (listed f n) i d ≡ d
+  listed_past f d n i h = get_or-eq_default (listed f n) d (omega (arith, length-listed f n))
 
-pub key-length : (ws ar : List ℕ) (i : ℕ) → keyStart ws i + keySize ws i ≤ length ar → length (key_of ws ar i) ≡ keySize ws i
+pub key_length : (ws ar : List ℕ) (i : ℕ) → key_start ws i + key_size ws i ≤ length ar → length (key_of ws ar i) ≡ key_size ws i
 unfolding key_of
-key-length ws ar i h = length_part ar (keyStart ws i) (keySize ws i) h
+key_length ws ar i h = length_part ar (key_start ws i) (key_size ws i) h

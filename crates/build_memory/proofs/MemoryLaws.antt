@@ -13,23 +13,23 @@ use Rattle.words.specs.Choice.{pick}
 use Rattle.words.specs.Store.{part, put_at, copies}
 use Rattle.words.proofs.ChoiceLaws.{both}
 use Rattle.layout.specs.declared.refusal.Refusal.TheVariants.{MemoryBroken}
-use Rattle.layout.specs.Limits.{mostItems, mostTables}
+use Rattle.layout.specs.Limits.{most_items, most_tables}
 use Rattle.build_memory.specs.declared.fresh.Started.{Started}
 use Rattle.layout.specs.Item.{no_item}
-use Rattle.build_memory.specs.Memory.{headsFrom, buckets, linksFrom, links, leastWords, word, tableTotal, itemTotal, roomUsed, all, rules, valid, Valid, memory, outcome, freshWords, freshStart}
+use Rattle.build_memory.specs.Memory.{heads_from, buckets, links_from, links, least_words, word, table_total, item_total, room_used, all, rules, valid, Valid, memory, outcome, fresh_words, fresh_start}
 
 -- ---- a total read
 
 pub part_none : (l : List ℕ) (at size : ℕ) → length l ≤ at → [] ≡ part l at size
 part_none l at size h = sym (ap (take size) (drop_of_length-le l h) ∙ take-nil size)
 
-pub part-rest : (l : List ℕ) (at size : ℕ) → length l - at ≤ size → take (length l - at) (drop at l) ≡ part l at size
-part-rest l at size h =
+pub part_rest : (l : List ℕ) (at size : ℕ) → length l - at ≤ size → take (length l - at) (drop at l) ≡ part l at size
+part_rest l at size h =
     let n : length (drop at l) ≡ length l - at = length-drop at l in
     take_all (length l - at) (drop at l) (omega arith) ∙ sym (take_all size (drop at l) (omega arith))
 
-pub part-mid : (l : List ℕ) (at size : ℕ) → take (at + size - at) (drop at l) ≡ part l at size
-part-mid l at size = ap (λ (n : ℕ). take n (drop at l)) (add-sub_cancel_left at size)
+pub part_mid : (l : List ℕ) (at size : ℕ) → take (at + size - at) (drop at l) ≡ part l at size
+part_mid l at size = ap (λ (n : ℕ). take n (drop at l)) (add-sub_cancel_left at size)
 
 -- ---- the rules, as facts
 
@@ -37,15 +37,15 @@ abbrev Each : List Bool → Type 0
 Each [] = Unit {0}
 Each (test ∷ tests) = (test ≡ true) × Each tests
 
-all-each : (tests : List Bool) → all tests ≡ true → Each tests
+all_each : (tests : List Bool) → all tests ≡ true → Each tests
 unfolding all
-all-each [] e = tt
-all-each (test ∷ tests) e = let h = both test (all tests) e in (h.0, all-each tests h.1)
+all_each [] e = tt
+all_each (test ∷ tests) e = let h = both test (all tests) e in (h.0, all_each tests h.1)
 
-pub valid-facts : (ws : List ℕ) (arena : ℕ) → valid ws arena ≡ true → Valid ws arena
+pub valid_facts : (ws : List ℕ) (arena : ℕ) → valid ws arena ≡ true → Valid ws arena
 unfolding valid
-valid-facts ws arena e =
-    let h = all-each (rules ws arena) e in
+valid_facts ws arena e =
+    let h = all_each (rules ws arena) e in
     record {
       long = leb-true _ _ h.0;
       words = eqb-true _ _ h.1.0;
@@ -62,24 +62,24 @@ valid-holds ws arena s =
 
 -- the judgement, test by test
 module _ (ws : List ℕ) (arena : ℕ) where
-  pub judge-short : length ws < leastWords → false ≡ valid ws arena
+  pub judge_short : length ws < least_words → false ≡ valid ws arena
   unfolding valid all
-  judge-short h = simp (lt-leb _ _ h)
+  judge_short h = simp (lt-leb _ _ h)
 
-  module _ (long : leastWords ≤ length ws) where
-    pub judge-words : (word ws 0 ≡ length ws → ⊥) → false ≡ valid ws arena
+  module _ (long : least_words ≤ length ws) where
+    pub judge_words : (word ws 0 ≡ length ws → ⊥) → false ≡ valid ws arena
     unfolding valid all
-    judge-words h = simp (le-leb _ _ long, ne_eqb _ _ h)
+    judge_words h = simp (le-leb _ _ long, ne_eqb _ _ h)
 
     module _ (same : word ws 0 ≡ length ws) where
-      pub judge-room : (word ws 1 ≡ arena → ⊥) → false ≡ valid ws arena
+      pub judge_room : (word ws 1 ≡ arena → ⊥) → false ≡ valid ws arena
       unfolding valid all
-      judge-room h = simp (le-leb _ _ long, eq-eqb _ _ same, ne_eqb _ _ h)
+      judge_room h = simp (le-leb _ _ long, eq-eqb _ _ same, ne_eqb _ _ h)
 
-      pub judge-counts : word ws 1 ≡ arena
-          → (leb (tableTotal ws) mostTables && leb (itemTotal ws) mostItems) && leb (roomUsed ws) arena ≡ valid ws arena
+      pub judge_counts : word ws 1 ≡ arena
+          → (leb (table_total ws) most_tables && leb (item_total ws) most_items) && leb (room_used ws) arena ≡ valid ws arena
       unfolding valid all
-      judge-counts h = simp (le-leb _ _ long, eq-eqb _ _ same, eq-eqb _ _ h) (regroup (leb (tableTotal ws) mostTables) (leb (itemTotal ws) mostItems) (leb (roomUsed ws) arena))
+      judge_counts h = simp (le-leb _ _ long, eq-eqb _ _ same, eq-eqb _ _ h) (regroup (leb (table_total ws) most_tables) (leb (item_total ws) most_items) (leb (room_used ws) arena))
         where
           regroup : (p q r : Bool) → (p && q) && r ≡ p && (q && (r && true))
           regroup true true true = refl
@@ -90,12 +90,12 @@ module _ (ws : List ℕ) (arena : ℕ) where
 -- ---- the fresh start
 
 module _ (ws ar : List ℕ) where
-  pub fresh-refused : length ws < leastWords → outcome (Started.Refused MemoryBroken) (memory ws ar) ≡ freshStart ws ar
-  unfolding freshStart pick
+  pub fresh-refused : length ws < least_words → outcome (Started.Refused MemoryBroken) (memory ws ar) ≡ fresh_start ws ar
+  unfolding fresh_start pick
   fresh-refused h = simp (lt-leb _ _ h)
 
-  pub fresh-ready : leastWords ≤ length ws → (w1 w2 w3 : List ℕ) → w1 ≡ put_at ws 0 (length ws ∷ length ar ∷ 0 ∷ 0 ∷ 0 ∷ [])
-      → w2 ≡ put_at w1 headsFrom (copies buckets no_item) → w3 ≡ put_at w2 linksFrom (copies links no_item)
-      → outcome Started.Ready (memory w3 ar) ≡ freshStart ws ar
-  unfolding freshStart freshWords pick
-  fresh-ready h w1 w2 w3 e1 e2 e3 = simp (le-leb _ _ h) (cc)
+  pub fresh_ready : least_words ≤ length ws → (w1 w2 w3 : List ℕ) → w1 ≡ put_at ws 0 (length ws ∷ length ar ∷ 0 ∷ 0 ∷ 0 ∷ [])
+      → w2 ≡ put_at w1 heads_from (copies buckets no_item) → w3 ≡ put_at w2 links_from (copies links no_item)
+      → outcome Started.Ready (memory w3 ar) ≡ fresh_start ws ar
+  unfolding fresh_start fresh_words pick
+  fresh_ready h w1 w2 w3 e1 e2 e3 = simp (le-leb _ _ h) (cc)

@@ -3,6 +3,6 @@ use Rattle.std.specs.Prelude.{ℕ}
 use Rattle.layout.specs.Refusal.{number}
 use Rattle.build_memory.specs.declared.fresh.Started.{Started}
 
-unfoldable pub startedNumber : Started → ℕ
-startedNumber Started.Ready = 0
-startedNumber (Started.Refused why) = number why
+unfoldable pub started_number : Started → ℕ
+started_number Started.Ready = 0
+started_number (Started.Refused why) = number why

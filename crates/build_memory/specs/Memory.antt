@@ -27,108 +27,108 @@ use Rattle.words.specs.Choice.{pick}
 use Rattle.words.specs.Store.{part, put_at, copies}
 use Rattle.layout.specs.Item.{no_item}
 use Rattle.layout.specs.declared.refusal.Refusal.TheVariants.{MemoryBroken}
-use Rattle.layout.specs.Limits.{mostItems, mostTables}
+use Rattle.layout.specs.Limits.{most_items, most_tables}
 use Rattle.build_memory.specs.declared.fresh.Started.{Started}
 
 -- ---- where each word stands
 
-abbrev pub tablesFrom : ℕ
-tablesFrom = 8
+abbrev pub tables_from : ℕ
+tables_from = 8
 
-abbrev pub tableSize : ℕ
-tableSize = 4
+abbrev pub table_size : ℕ
+table_size = 4
 
-abbrev pub headsFrom : ℕ
-headsFrom = tablesFrom + tableSize * mostTables
+abbrev pub heads_from : ℕ
+heads_from = tables_from + table_size * most_tables
 
 -- the buckets of the index, each with its head
 abbrev pub buckets : ℕ
 buckets = 1024
 
-abbrev pub itemsFrom : ℕ
-itemsFrom = headsFrom + buckets
+abbrev pub items_from : ℕ
+items_from = heads_from + buckets
 
-abbrev pub itemSize : ℕ
-itemSize = 12
+abbrev pub item_size : ℕ
+item_size = 12
 
-abbrev pub linksFrom : ℕ
-linksFrom = itemsFrom + itemSize * mostItems
+abbrev pub links_from : ℕ
+links_from = items_from + item_size * most_items
 
 abbrev pub links : ℕ
-links = mostItems
+links = most_items
 
 -- the least length of the words
-abbrev pub leastWords : ℕ
-leastWords = linksFrom + links
+abbrev pub least_words : ℕ
+least_words = links_from + links
 
 abbrev pub word : List ℕ → ℕ → ℕ
 word ws i = get_or ws i 0
 
-abbrev pub tableTotal : List ℕ → ℕ
-tableTotal ws = word ws 2
+abbrev pub table_total : List ℕ → ℕ
+table_total ws = word ws 2
 
-abbrev pub itemTotal : List ℕ → ℕ
-itemTotal ws = word ws 3
+abbrev pub item_total : List ℕ → ℕ
+item_total ws = word ws 3
 
-abbrev pub roomUsed : List ℕ → ℕ
-roomUsed ws = word ws 4
+abbrev pub room_used : List ℕ → ℕ
+room_used ws = word ws 4
 
 abbrev pub table_at : ℕ → ℕ
-table_at t = tablesFrom + tableSize * t
+table_at t = tables_from + table_size * t
 
-abbrev pub headAt : ℕ → ℕ
-headAt b = headsFrom + b
+abbrev pub head_at : ℕ → ℕ
+head_at b = heads_from + b
 
 abbrev pub item_at : ℕ → ℕ
-item_at i = itemsFrom + itemSize * i
+item_at i = items_from + item_size * i
 
 abbrev pub link_at : ℕ → ℕ
-link_at j = linksFrom + j
+link_at j = links_from + j
 
 -- ---- the words of a table and of an item
 
-abbrev pub tableSeparator : List ℕ → ℕ → ℕ
-tableSeparator ws t = word ws (table_at t + 0)
+abbrev pub table_separator : List ℕ → ℕ → ℕ
+table_separator ws t = word ws (table_at t + 0)
 
-abbrev pub tablePlaced : List ℕ → ℕ → ℕ
-tablePlaced ws t = word ws (table_at t + 1)
+abbrev pub table_placed : List ℕ → ℕ → ℕ
+table_placed ws t = word ws (table_at t + 1)
 
-abbrev pub tableHeight : List ℕ → ℕ → ℕ
-tableHeight ws t = word ws (table_at t + 2)
+abbrev pub table_height : List ℕ → ℕ → ℕ
+table_height ws t = word ws (table_at t + 2)
 
-abbrev pub itemTable : List ℕ → ℕ → ℕ
-itemTable ws i = word ws (item_at i + 0)
+abbrev pub item_table : List ℕ → ℕ → ℕ
+item_table ws i = word ws (item_at i + 0)
 
-abbrev pub itemHash : List ℕ → ℕ → ℕ
-itemHash ws i = word ws (item_at i + 1)
+abbrev pub item_hash : List ℕ → ℕ → ℕ
+item_hash ws i = word ws (item_at i + 1)
 
-abbrev pub itemOlder : List ℕ → ℕ → ℕ
-itemOlder ws i = word ws (item_at i + 2)
+abbrev pub item_older : List ℕ → ℕ → ℕ
+item_older ws i = word ws (item_at i + 2)
 
-abbrev pub keyStart : List ℕ → ℕ → ℕ
-keyStart ws i = word ws (item_at i + 3)
+abbrev pub key_start : List ℕ → ℕ → ℕ
+key_start ws i = word ws (item_at i + 3)
 
-abbrev pub keySize : List ℕ → ℕ → ℕ
-keySize ws i = word ws (item_at i + 4)
+abbrev pub key_size : List ℕ → ℕ → ℕ
+key_size ws i = word ws (item_at i + 4)
 
-abbrev pub itemParent : List ℕ → ℕ → ℕ
-itemParent ws i = word ws (item_at i + 5)
+abbrev pub item_parent : List ℕ → ℕ → ℕ
+item_parent ws i = word ws (item_at i + 5)
 
-abbrev pub itemKind : List ℕ → ℕ → ℕ
-itemKind ws i = word ws (item_at i + 6)
+abbrev pub item_kind : List ℕ → ℕ → ℕ
+item_kind ws i = word ws (item_at i + 6)
 
-abbrev pub valueStart : List ℕ → ℕ → ℕ
-valueStart ws i = word ws (item_at i + 7)
+abbrev pub value_start : List ℕ → ℕ → ℕ
+value_start ws i = word ws (item_at i + 7)
 
-abbrev pub valueSize : List ℕ → ℕ → ℕ
-valueSize ws i = word ws (item_at i + 8)
+abbrev pub value_size : List ℕ → ℕ → ℕ
+value_size ws i = word ws (item_at i + 8)
 
-abbrev pub itemGuest : List ℕ → ℕ → ℕ
-itemGuest ws i = word ws (item_at i + 9)
+abbrev pub item_guest : List ℕ → ℕ → ℕ
+item_guest ws i = word ws (item_at i + 9)
 
 -- the key of an item, as many of its bytes as the arena has
 unfoldable pub key_of : List ℕ → List ℕ → ℕ → List ℕ
-key_of ws ar i = part ar (keyStart ws i) (keySize ws i)
+key_of ws ar i = part ar (key_start ws i) (key_size ws i)
 
 -- ---- the rules that every call judges
 
@@ -140,12 +140,12 @@ all (test ∷ tests) = test && all tests
 -- the words are not too short; both lengths are those of the fresh start; tables and items are not too many; the room used is in the arena
 abbrev pub rules : List ℕ → ℕ → List Bool
 rules ws room =
-    leb leastWords (length ws)
+    leb least_words (length ws)
     ∷ eqb (word ws 0) (length ws)
     ∷ eqb (word ws 1) room
-    ∷ leb (tableTotal ws) mostTables
-    ∷ leb (itemTotal ws) mostItems
-    ∷ leb (roomUsed ws) room
+    ∷ leb (table_total ws) most_tables
+    ∷ leb (item_total ws) most_items
+    ∷ leb (room_used ws) room
     ∷ []
 
 unfoldable pub valid : List ℕ → ℕ → Bool
@@ -153,12 +153,12 @@ valid ws room = all (rules ws room)
 
 -- the same rules as facts, for what comes after the judgement
 pub record Valid (ws : List ℕ) (arena : ℕ) : Type 0 where
-  pub long : leastWords ≤ length ws
+  pub long : least_words ≤ length ws
   pub words : word ws 0 ≡ length ws
   pub room : word ws 1 ≡ arena
-  pub tables : tableTotal ws ≤ mostTables
-  pub items : itemTotal ws ≤ mostItems
-  pub used : roomUsed ws ≤ arena
+  pub tables : table_total ws ≤ most_tables
+  pub items : item_total ws ≤ most_items
+  pub used : room_used ws ≤ arena
 
 -- ---- what a call leaves: its answer, and the content of both buffers
 
@@ -179,12 +179,12 @@ outcome answer after = record { answer = answer; after = after }
 -- ---- the fresh start
 
 -- both lengths, no table, no item, no room used; every head and every link holds `no_item`
-unfoldable pub freshWords : List ℕ → ℕ → List ℕ
-freshWords ws room =
-    put_at (put_at (put_at ws 0 (length ws ∷ room ∷ 0 ∷ 0 ∷ 0 ∷ [])) headsFrom (copies buckets no_item)) linksFrom (copies links no_item)
+unfoldable pub fresh_words : List ℕ → ℕ → List ℕ
+fresh_words ws room =
+    put_at (put_at (put_at ws 0 (length ws ∷ room ∷ 0 ∷ 0 ∷ 0 ∷ [])) heads_from (copies buckets no_item)) links_from (copies links no_item)
 
 -- 29 where the words are too short, else an empty builder, whatever the memory held
-unfoldable pub freshStart : List ℕ → List ℕ → Outcome Started
-freshStart ws ar =
-    pick (leb leastWords (length ws)) (outcome Started.Ready (memory (freshWords ws (length ar)) ar))
+unfoldable pub fresh_start : List ℕ → List ℕ → Outcome Started
+fresh_start ws ar =
+    pick (leb least_words (length ws)) (outcome Started.Ready (memory (fresh_words ws (length ar)) ar))
     (outcome (Started.Refused MemoryBroken) (memory ws ar))

@@ -1,8 +1,8 @@
 // Where the words of a builder's memory stand (specs/Memory.antt says what each holds), and how they and the arena are read.
 ghost use Rattle.std.specs.Prelude.{◌≡◌, ◌+◌, ◌<◌, ◌≤◌, length};
 ghost use Rattle.words.specs.Store.{part};
-ghost use Rattle.layout.specs.Limits.{mostItems, mostTables};
-ghost use Rattle.build_memory.specs.Memory.{leastWords, tableSize, itemSize, word, table_at, item_at, key_of};
+ghost use Rattle.layout.specs.Limits.{most_items, most_tables};
+ghost use Rattle.build_memory.specs.Memory.{least_words, table_size, item_size, word, table_at, item_at, key_of};
 
 use layout::item::NO_ITEM;
 use layout::limits::{MOST_ITEMS, MOST_TABLES};
@@ -75,7 +75,7 @@ pub const LEAST_WORDS: usize = LINKS_FROM + LINKS;
 
 // A word of table t.
 pub fn table_word(words: &[usize], t: usize, field: usize) -> usize
-    requires { (leastWords ≤ length words.now) × (t < mostTables) × (field < tableSize) }
+    requires { (least_words ≤ length words.now) × (t < most_tables) × (field < table_size) }
     ensures { result ≡ word words.now (table_at t + field) }
 {
     words[TABLES_FROM + TABLE_SIZE * t + field]
@@ -83,7 +83,7 @@ pub fn table_word(words: &[usize], t: usize, field: usize) -> usize
 
 // A word of item i.
 pub fn item_word(words: &[usize], i: usize, field: usize) -> usize
-    requires { (leastWords ≤ length words.now) × (i < mostItems) × (field < itemSize) }
+    requires { (least_words ≤ length words.now) × (i < most_items) × (field < item_size) }
     ensures { result ≡ word words.now (item_at i + field) }
 {
     words[ITEMS_FROM + ITEM_SIZE * i + field]
@@ -104,7 +104,7 @@ pub fn part_of(arena: &[u8], at: usize, size: usize) -> &[u8]
 
 // The key of item i, as a part of the arena.
 pub fn key_of<'a>(words: &[usize], arena: &'a [u8], i: usize) -> &'a [u8]
-    requires { (leastWords ≤ length words.now) × (i < mostItems) }
+    requires { (least_words ≤ length words.now) × (i < most_items) }
     ensures { result.now ≡ key_of words.now arena.now i }
 {
     let start = item_word(words, i, KEY);

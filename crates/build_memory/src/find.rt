@@ -1,9 +1,9 @@
 // The search for a key, along the chain of its bucket.
 ghost use Rattle.std.specs.Prelude.{◌≡◌, ◌<◌, ◌≤◌, length};
-ghost use Rattle.key_hash.specs.Hash.{hashOf};
-ghost use Rattle.layout.specs.Limits.{mostItems};
-ghost use Rattle.build_memory.specs.Memory.{leastWords, itemTotal};
-ghost use Rattle.build_memory.specs.Find.{isItem, findKey};
+ghost use Rattle.key_hash.specs.Hash.{hash_of};
+ghost use Rattle.layout.specs.Limits.{most_items};
+ghost use Rattle.build_memory.specs.Memory.{least_words, item_total};
+ghost use Rattle.build_memory.specs.Find.{is_item, find_key};
 
 use crate::fields::{BUCKETS, HASH, HEADS_FROM, ITEMS, KEY_SIZE, OLDER, TABLE, item_word, key_of};
 use key_hash::hash::djb_hash;
@@ -12,15 +12,15 @@ use words::wide::word_size;
 
 // The hash of a key, as a word.
 pub fn hash_word(key: &[u8]) -> usize
-    ensures { result ≡ hashOf key.now }
+    ensures { result ≡ hash_of key.now }
 {
     word_size(djb_hash(key))
 }
 
 // Whether item i is of the table and has the key, whose hash is given.
 fn is_item(words: &[usize], arena: &[u8], table: usize, hash: usize, key: &[u8], i: usize) -> bool
-    requires { (leastWords ≤ length words.now) × (i < mostItems) }
-    ensures { result ≡ isItem words.now arena.now table hash key.now i }
+    requires { (least_words ≤ length words.now) × (i < most_items) }
+    ensures { result ≡ is_item words.now arena.now table hash key.now i }
 {
     if item_word(words, i, TABLE) != table {
         return false;
@@ -37,10 +37,10 @@ fn is_item(words: &[usize], arena: &[u8], table: usize, hash: usize, key: &[u8],
 // gvdb-rs: SimpleHashTable::get, get_from_bucket; HashTableBuilder has a map for it.
 // The index of the table's item with the key, whose hash is given, or the count of all items where there is none.
 pub fn find_hashed(words: &[usize], arena: &[u8], table: usize, key: &[u8], hash: usize) -> usize
-    requires least_words_in_bounds { (leastWords ≤ length words.now) × (itemTotal words.now ≤ mostItems) }
-    requires hash_value { hash ≡ hashOf key.now }
-    ensures value { result ≡ findKey words.now arena.now table key.now }
-    ensures within { result ≤ itemTotal words.now }
+    requires least_words_in_bounds { (least_words ≤ length words.now) × (item_total words.now ≤ most_items) }
+    requires hash_value { hash ≡ hash_of key.now }
+    ensures value { result ≡ find_key words.now arena.now table key.now }
+    ensures within { result ≤ item_total words.now }
 {
     let n = words[ITEMS];
     let bucket = hash % BUCKETS;

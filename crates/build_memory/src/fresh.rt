@@ -1,7 +1,7 @@
 // The fresh start.
 ghost use Rattle.std.specs.Prelude.{◌≡◌, [], ◌∷◌, ◌≤◌, length};
 ghost use Rattle.words.specs.Store.{put_at};
-ghost use Rattle.build_memory.specs.Memory.{leastWords, memory, outcome, freshStart};
+ghost use Rattle.build_memory.specs.Memory.{least_words, memory, outcome, fresh_start};
 
 use crate::fields::{BUCKETS, EMPTY, HEADS_FROM, LEAST_WORDS, LENGTH, LINKS, LINKS_FROM};
 use layout::refusal::Refusal;
@@ -15,14 +15,14 @@ pub enum Started {
 
 // The least length of the words.
 pub fn memory_words() -> usize
-    ensures { result ≡ leastWords }
+    ensures { result ≡ least_words }
 {
     LEAST_WORDS
 }
 
 // Writes the header of an empty builder.
 fn put_header(words: &mut [usize], room: usize)
-    requires { leastWords ≤ length words.old }
+    requires { least_words ≤ length words.old }
     ensures { words.new ≡ put_at words.old 0 (length words.old ∷ room ∷ 0 ∷ 0 ∷ 0 ∷ []) }
 {
     let row = [words.len(), room, 0, 0, 0];
@@ -31,7 +31,7 @@ fn put_header(words: &mut [usize], room: usize)
 
 // An empty builder, whatever the memory held: 29 where the words are too short.
 pub fn fresh(words: &mut [usize], arena: &[u8]) -> Started
-    ensures { outcome result (memory words.new arena.now) ≡ freshStart words.old arena.now }
+    ensures { outcome result (memory words.new arena.now) ≡ fresh_start words.old arena.now }
 {
     if words.len() < LEAST_WORDS {
         return Started::Refused(Refusal::MemoryBroken);

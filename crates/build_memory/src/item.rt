@@ -1,10 +1,10 @@
 // Items made and written again.
 ghost use Rattle.std.specs.Prelude.{◌≡◌, [], ◌∷◌, ◌+◌, ◌<◌, ◌≤◌, length};
-ghost use Rattle.key_hash.specs.Hash.{hashOf};
+ghost use Rattle.key_hash.specs.Hash.{hash_of};
 ghost use Rattle.words.specs.Store.{put_at};
-ghost use Rattle.layout.specs.Limits.{mostItems};
-ghost use Rattle.build_memory.specs.Memory.{leastWords, buckets, headAt, item_at, itemTotal, roomUsed, memory};
-ghost use Rattle.build_memory.specs.Item.{stored, kind_of, makeItem, replaceItem};
+ghost use Rattle.layout.specs.Limits.{most_items};
+ghost use Rattle.build_memory.specs.Memory.{least_words, buckets, head_at, item_at, item_total, room_used, memory};
+ghost use Rattle.build_memory.specs.Item.{stored, kind_of, make_item, replace_item};
 
 use crate::fields::{BUCKETS, HEADS_FROM, ITEM_SIZE, ITEMS, ITEMS_FROM, KIND, USED};
 use layout::kind::{Kind, TABLE_KIND, VALUE_KIND};
@@ -36,7 +36,7 @@ struct Spot {
 
 // Writes where item i stands.
 fn put_spot(words: &mut [usize], i: usize, spot: Spot)
-    requires { (leastWords ≤ length words.old) × (i < mostItems) }
+    requires { (least_words ≤ length words.old) × (i < most_items) }
     ensures { words.new ≡ put_at words.old (item_at i) (spot.table ∷ spot.hash ∷ spot.older ∷ spot.start ∷ spot.size ∷ spot.parent ∷ []) }
 {
     let at = ITEMS_FROM + ITEM_SIZE * i;
@@ -53,7 +53,7 @@ fn put_spot(words: &mut [usize], i: usize, spot: Spot)
 
 // Writes what item i holds: its kind, its value's start and length, the table it holds.
 fn put_held(words: &mut [usize], i: usize, kind: usize, start: usize, size: usize, guest: usize)
-    requires { (leastWords ≤ length words.old) × (i < mostItems) }
+    requires { (least_words ≤ length words.old) × (i < most_items) }
     ensures { words.new ≡ put_at words.old (item_at i + 6) (kind ∷ start ∷ size ∷ guest ∷ []) }
 {
     let at = ITEMS_FROM + ITEM_SIZE * i + KIND;
@@ -63,15 +63,15 @@ fn put_held(words: &mut [usize], i: usize, kind: usize, start: usize, size: usiz
 
 // Writes the head of a bucket.
 fn put_head(words: &mut [usize], bucket: usize, i: usize)
-    requires { (leastWords ≤ length words.old) × (bucket < buckets) }
-    ensures { words.new ≡ put_at words.old (headAt bucket) (i ∷ []) }
+    requires { (least_words ≤ length words.old) × (bucket < buckets) }
+    ensures { words.new ≡ put_at words.old (head_at bucket) (i ∷ []) }
 {
     words[HEADS_FROM + bucket] = i;
 }
 
 // Writes the counts: the items, and the room used.
 fn put_counts(words: &mut [usize], items: usize, used: usize)
-    requires { leastWords ≤ length words.old }
+    requires { least_words ≤ length words.old }
     ensures { words.new ≡ put_at words.old 3 (items ∷ used ∷ []) }
 {
     let row = [items, used];
@@ -97,10 +97,10 @@ pub fn make_item(
     hash: usize,
     value: &[u8],
 )
-    requires least_words_in_bounds { (leastWords ≤ length words.old) × (itemTotal words.old < mostItems) }
-    requires value_in_bounds { roomUsed words.old + length key.now + length value.now ≤ length arena.old }
-    requires hash_value { hash ≡ hashOf key.now }
-    ensures { memory words.new arena.new ≡ makeItem (memory words.old arena.old) new.table new.parent key.now (stored new.kind value.now new.guest) }
+    requires least_words_in_bounds { (least_words ≤ length words.old) × (item_total words.old < most_items) }
+    requires value_in_bounds { room_used words.old + length key.now + length value.now ≤ length arena.old }
+    requires hash_value { hash ≡ hash_of key.now }
+    ensures { memory words.new arena.new ≡ make_item (memory words.old arena.old) new.table new.parent key.now (stored new.kind value.now new.guest) }
 {
     let n = words[ITEMS];
     let room = words[USED];
@@ -135,9 +135,9 @@ pub fn replace_item(
     guest: usize,
     value: &[u8],
 )
-    requires least_words_in_bounds { (leastWords ≤ length words.old) × (i < mostItems) }
-    requires value_in_bounds { roomUsed words.old + length value.now ≤ length arena.old }
-    ensures { memory words.new arena.new ≡ replaceItem (memory words.old arena.old) i (stored kind value.now guest) }
+    requires least_words_in_bounds { (least_words ≤ length words.old) × (i < most_items) }
+    requires value_in_bounds { room_used words.old + length value.now ≤ length arena.old }
+    ensures { memory words.new arena.new ≡ replace_item (memory words.old arena.old) i (stored kind value.now guest) }
 {
     let n = words[ITEMS];
     let room = words[USED];

@@ -1,9 +1,9 @@
 // The height of a table: one more than the greatest height that it holds.
 ghost use Rattle.std.specs.Prelude.{◌≡◌, ◌≤◌, ◌<◌, length, ltb};
 ghost use Rattle.words.specs.Choice.{pick};
-ghost use Rattle.layout.specs.Limits.{mostItems};
-ghost use Rattle.build_memory.specs.Memory.{leastWords, itemTotal};
-ghost use Rattle.build_nested.specs.Nest.{heldAt, heldHeight};
+ghost use Rattle.layout.specs.Limits.{most_items};
+ghost use Rattle.build_memory.specs.Memory.{least_words, item_total};
+ghost use Rattle.build_nested.specs.Nest.{held_at, held_height};
 
 use build_memory::fields::{GUEST, HEIGHT, ITEMS, KIND, TABLE, item_word, table_word};
 use layout::kind::TABLE_KIND;
@@ -11,8 +11,8 @@ use layout::limits::MOST_TABLES;
 
 // The height of the table that item i holds, where it is an item of the table that holds one; else 0.
 fn held_at(words: &[usize], table: usize, i: usize) -> usize
-    requires { (leastWords ≤ length words.now) × (i < mostItems) }
-    ensures { result ≡ heldAt words.now table i }
+    requires { (least_words ≤ length words.now) × (i < most_items) }
+    ensures { result ≡ held_at words.now table i }
 {
     if item_word(words, i, TABLE) != table {
         return 0;
@@ -39,8 +39,8 @@ fn larger(a: usize, b: usize) -> usize
 
 // The greatest height of the tables that a table holds, or 0.
 pub fn held_height(words: &[usize], table: usize) -> usize
-    requires { (leastWords ≤ length words.now) × (itemTotal words.now ≤ mostItems) }
-    ensures { result ≡ heldHeight words.now table }
+    requires { (least_words ≤ length words.now) × (item_total words.now ≤ most_items) }
+    ensures { result ≡ held_height words.now table }
 {
     let n = words[ITEMS];
     let mut most = 0;

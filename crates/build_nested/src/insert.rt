@@ -1,9 +1,9 @@
 // The insert of a table into another.
 ghost use Rattle.std.specs.Prelude.{◌≡◌, ◌≤◌, ◌<◌, length};
-ghost use Rattle.layout.specs.Limits.{mostTables};
-ghost use Rattle.build_memory.specs.Memory.{leastWords, tableTotal, Valid, memory, outcome};
+ghost use Rattle.layout.specs.Limits.{most_tables};
+ghost use Rattle.build_memory.specs.Memory.{least_words, table_total, Valid, memory, outcome};
 ghost use Rattle.build_values.specs.Insert.{Ready};
-ghost use Rattle.build_nested.specs.Nest.{placeTable, nested, nestAtKey, insertTable};
+ghost use Rattle.build_nested.specs.Nest.{place_table, nested, nest_at_key, insert_table};
 
 use crate::height::held_height;
 use build_memory::fields::{PLACED, TABLE_SIZE, TABLES_FROM};
@@ -20,8 +20,8 @@ use words::wide::word_size;
 
 // Notes that a table is placed, and its height.
 fn place_table(words: &mut [usize], table: usize, height: usize)
-    requires { (leastWords ≤ length words.old) × (table < mostTables) }
-    ensures { words.new ≡ placeTable words.old table height }
+    requires { (least_words ≤ length words.old) × (table < most_tables) }
+    ensures { words.new ≡ place_table words.old table height }
 {
     let at = TABLES_FROM + TABLE_SIZE * table + PLACED;
     let row = [1, height];
@@ -37,7 +37,7 @@ fn insert_nested(
     guest: usize,
 ) -> Inserted
     requires ready { Ready words.old arena.old table key.now }
-    requires guest_bound { guest < tableTotal words.old }
+    requires guest_bound { guest < table_total words.old }
     ensures { outcome result (memory words.new arena.new) ≡ nested words.old arena.old table key.now guest }
 {
     let held = held_height(words, guest);
@@ -70,7 +70,7 @@ fn nest_at_key(
     guest: usize,
 ) -> Inserted
     requires { Valid words.old (length arena.old) }
-    ensures { outcome result (memory words.new arena.new) ≡ nestAtKey words.old arena.old table key.now guest }
+    ensures { outcome result (memory words.new arena.new) ≡ nest_at_key words.old arena.old table key.now guest }
 {
     if !is_free_standing(words, arena, table) {
         return Inserted::Refused(Refusal::TableUnknown);
@@ -99,7 +99,7 @@ pub fn insert_table(
     key: &[u8],
     guest: u32,
 ) -> Inserted
-    ensures { outcome result (memory words.new arena.new) ≡ insertTable words.old arena.old table key.now guest }
+    ensures { outcome result (memory words.new arena.new) ≡ insert_table words.old arena.old table key.now guest }
 {
     if !judge(words, arena) {
         return Inserted::Refused(Refusal::MemoryBroken);

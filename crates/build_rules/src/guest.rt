@@ -1,9 +1,9 @@
 // The tables that items hold: specs/Valid.antt names each rule.
 ghost use Rattle.std.specs.Prelude.{◌≡◌, ◌<◌, ◌≤◌, length};
 ghost use Rattle.words.specs.Below.{all_below};
-ghost use Rattle.layout.specs.Limits.{mostItems, mostTables};
-ghost use Rattle.build_memory.specs.Memory.{leastWords, itemTotal, tableTotal, itemTable};
-ghost use Rattle.build_rules.specs.Valid.{heightLimit, guestPlaced, guestValid, heldOnce, GuestsFew};
+ghost use Rattle.layout.specs.Limits.{most_items, most_tables};
+ghost use Rattle.build_memory.specs.Memory.{least_words, item_total, table_total, item_table};
+ghost use Rattle.build_rules.specs.Valid.{height_limit, guest_placed, guest_valid, held_once, GuestsFew};
 
 use build_memory::fields::{
     GUEST, HEIGHT, ITEMS, KIND, PLACED, TABLE, TABLES, item_word, table_word,
@@ -13,8 +13,8 @@ use layout::limits::{DEEPEST, MOST_TABLES};
 
 // The height that no table held by table t may reach.
 fn height_limit(words: &[usize], t: usize) -> usize
-    requires { (leastWords ≤ length words.now) × (t < mostTables) }
-    ensures { result ≡ heightLimit words.now t }
+    requires { (least_words ≤ length words.now) × (t < most_tables) }
+    ensures { result ≡ height_limit words.now t }
 {
     if table_word(words, t, PLACED) == 0 {
         return DEEPEST;
@@ -24,8 +24,8 @@ fn height_limit(words: &[usize], t: usize) -> usize
 
 // Whether the guest of table t is known, placed and lower than it.
 fn guest_placed(words: &[usize], t: usize, guest: usize) -> bool
-    requires { (leastWords ≤ length words.now) × (t < mostTables) × (tableTotal words.now ≤ mostTables) }
-    ensures { result ≡ guestPlaced words.now t guest }
+    requires { (least_words ≤ length words.now) × (t < most_tables) × (table_total words.now ≤ most_tables) }
+    ensures { result ≡ guest_placed words.now t guest }
 {
     if words[TABLES] <= guest {
         return false;
@@ -37,9 +37,9 @@ fn guest_placed(words: &[usize], t: usize, guest: usize) -> bool
 
 // Whether item i, of a table that is known, holds no table, or one as it should be.
 pub fn guest_valid(words: &[usize], i: usize) -> bool
-    requires least_words_in_bounds { (leastWords ≤ length words.now) × (i < mostItems) × (tableTotal words.now ≤ mostTables) }
-    requires i_bound { itemTable words.now i < tableTotal words.now }
-    ensures { result ≡ guestValid words.now i }
+    requires least_words_in_bounds { (least_words ≤ length words.now) × (i < most_items) × (table_total words.now ≤ most_tables) }
+    requires i_bound { item_table words.now i < table_total words.now }
+    ensures { result ≡ guest_valid words.now i }
 {
     if item_word(words, i, KIND) != TABLE_KIND {
         return true;
@@ -53,8 +53,8 @@ pub fn guest_valid(words: &[usize], i: usize) -> bool
 
 // Whether no table is held twice: a flag for each table that was met.
 pub fn held_once(words: &[usize]) -> bool
-    requires { (leastWords ≤ length words.now) × (itemTotal words.now ≤ mostItems) × GuestsFew words.now }
-    ensures { result ≡ all_below (heldOnce words.now) (itemTotal words.now) }
+    requires { (least_words ≤ length words.now) × (item_total words.now ≤ most_items) × GuestsFew words.now }
+    ensures { result ≡ all_below (held_once words.now) (item_total words.now) }
 {
     let n = words[ITEMS];
     let mut met = [false; MOST_TABLES];

@@ -1,8 +1,8 @@
 // The ranges, the key and the parent of an item: specs/Valid.antt names each rule.
 ghost use Rattle.std.specs.Prelude.{◌≡◌, ◌+◌, ◌<◌, ◌≤◌, length, leb};
-ghost use Rattle.layout.specs.Limits.{mostItems};
-ghost use Rattle.build_memory.specs.Memory.{leastWords, itemTotal, Valid};
-ghost use Rattle.build_rules.specs.Valid.{valueWithin, rangesValid, keyValid, begunBy, parentValid};
+ghost use Rattle.layout.specs.Limits.{most_items};
+ghost use Rattle.build_memory.specs.Memory.{least_words, item_total, Valid};
+ghost use Rattle.build_rules.specs.Valid.{value_within, ranges_valid, key_valid, begun_by, parent_valid};
 
 use build_memory::fields::{
     HASH, KEY, KEY_SIZE, KIND, PARENT, TABLE, TABLES, USED, VALUE, VALUE_SIZE, item_word, key_of,
@@ -25,8 +25,8 @@ fn ends_within(start: usize, size: usize, used: usize) -> bool
 
 // Whether item i's value, if it is one, lies within the room used.
 fn value_within(words: &[usize], i: usize) -> bool
-    requires { (leastWords ≤ length words.now) × (i < mostItems) }
-    ensures { result ≡ valueWithin words.now i }
+    requires { (least_words ≤ length words.now) × (i < most_items) }
+    ensures { result ≡ value_within words.now i }
 {
     if item_word(words, i, KIND) != VALUE_KIND {
         return true;
@@ -40,8 +40,8 @@ fn value_within(words: &[usize], i: usize) -> bool
 
 // Whether item i's table, key, kind and value are in their ranges.
 pub fn ranges_valid(words: &[usize], i: usize) -> bool
-    requires { (leastWords ≤ length words.now) × (i < mostItems) }
-    ensures { result ≡ rangesValid words.now i }
+    requires { (least_words ≤ length words.now) × (i < most_items) }
+    ensures { result ≡ ranges_valid words.now i }
 {
     let known = item_word(words, i, TABLE) < words[TABLES];
     let size = item_word(words, i, KEY_SIZE);
@@ -53,8 +53,8 @@ pub fn ranges_valid(words: &[usize], i: usize) -> bool
 
 // Whether item i's key is UTF-8, has the hash that is written, and is found as this item.
 pub fn key_valid(words: &[usize], arena: &[u8], i: usize) -> bool
-    requires { Valid words.now (length arena.now) × (i < itemTotal words.now) }
-    ensures { result ≡ keyValid words.now arena.now i }
+    requires { Valid words.now (length arena.now) × (i < item_total words.now) }
+    ensures { result ≡ key_valid words.now arena.now i }
 {
     let key = key_of(words, arena, i);
     let text = is_utf8(key);
@@ -67,7 +67,7 @@ pub fn key_valid(words: &[usize], arena: &[u8], i: usize) -> bool
 
 // Whether a key starts with a shorter one.
 fn begun_by(short: &[u8], key: &[u8]) -> bool
-    ensures { result ≡ begunBy short.now key.now }
+    ensures { result ≡ begun_by short.now key.now }
 {
     let n = short.len();
     if key.len() <= n {
@@ -78,8 +78,8 @@ fn begun_by(short: &[u8], key: &[u8]) -> bool
 
 // Whether item i has no parent, or one that was made before it, in its table, and whose key its key starts with.
 pub fn parent_valid(words: &[usize], arena: &[u8], i: usize) -> bool
-    requires { (leastWords ≤ length words.now) × (i < mostItems) }
-    ensures { result ≡ parentValid words.now arena.now i }
+    requires { (least_words ≤ length words.now) × (i < most_items) }
+    ensures { result ≡ parent_valid words.now arena.now i }
 {
     let parent = item_word(words, i, PARENT);
     if parent == 0 {

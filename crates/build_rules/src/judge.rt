@@ -1,8 +1,8 @@
 // The rules behind refusal 29 that a write judges, all of them.
 ghost use Rattle.std.specs.Prelude.{◌≡◌, ◌<◌, ◌≤◌, length};
 ghost use Rattle.words.specs.Below.{all_below};
-ghost use Rattle.build_memory.specs.Memory.{leastWords, links, itemTotal, Valid};
-ghost use Rattle.build_rules.specs.Valid.{itemValid, linkEmpty, fullyValid};
+ghost use Rattle.build_memory.specs.Memory.{least_words, links, item_total, Valid};
+ghost use Rattle.build_rules.specs.Valid.{item_valid, link_empty, fully_valid};
 
 use crate::guest::{guest_valid, held_once};
 use crate::item::{key_valid, parent_valid, ranges_valid};
@@ -11,8 +11,8 @@ use build_memory::rules::judge;
 
 // Whether item i keeps the rules that do not ask what other items hold.
 fn item_valid(words: &[usize], arena: &[u8], i: usize) -> bool
-    requires { Valid words.now (length arena.now) × (i < itemTotal words.now) }
-    ensures { result ≡ itemValid words.now arena.now i }
+    requires { Valid words.now (length arena.now) × (i < item_total words.now) }
+    ensures { result ≡ item_valid words.now arena.now i }
 {
     if !ranges_valid(words, i) {
         return false;
@@ -25,7 +25,7 @@ fn item_valid(words: &[usize], arena: &[u8], i: usize) -> bool
 // Whether all items do.
 fn items_valid(words: &[usize], arena: &[u8]) -> bool
     requires { Valid words.now (length arena.now) }
-    ensures { result ≡ all_below (itemValid words.now arena.now) (itemTotal words.now) }
+    ensures { result ≡ all_below (item_valid words.now arena.now) (item_total words.now) }
 {
     let n = words[ITEMS];
     let mut i = 0;
@@ -40,8 +40,8 @@ fn items_valid(words: &[usize], arena: &[u8]) -> bool
 
 // Whether all links hold the empty mark.
 fn links_empty(words: &[usize]) -> bool
-    requires { leastWords ≤ length words.now }
-    ensures { result ≡ all_below (linkEmpty words.now) links }
+    requires { least_words ≤ length words.now }
+    ensures { result ≡ all_below (link_empty words.now) links }
 {
     let mut j = 0;
     while j < LINKS {
@@ -55,7 +55,7 @@ fn links_empty(words: &[usize]) -> bool
 
 // Whether the memory keeps all rules behind 29.
 pub fn judge_fully(words: &[usize], arena: &[u8]) -> bool
-    ensures { result ≡ fullyValid words.now arena.now }
+    ensures { result ≡ fully_valid words.now arena.now }
 {
     if !judge(words, arena) {
         return false;

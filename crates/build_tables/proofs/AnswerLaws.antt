@@ -6,45 +6,45 @@ use mathlib.Core.List.{List}
 use lib.ListN.{length}
 use borrow.Author.Tests.{lt-ltb, le-ltb, lt-leb, le-leb, eq-eqb, ne_eqb}
 use Rattle.words.specs.Choice.{pick}
-use Rattle.layout.specs.Limits.{mostTables}
+use Rattle.layout.specs.Limits.{most_tables}
 use Rattle.model.specs.declared.Added.{Added}
-use Rattle.model.specs.Builder.{separatorOf}
-use Rattle.build_memory.specs.Memory.{itemTotal, tableTotal, valid}
-use Rattle.build_tables.specs.Table.{addTable, newTable, countOf, itemCount}
-use Rattle.build_tables.specs.Answer.{addedNumber, countedNumber, countedItems}
+use Rattle.model.specs.Builder.{separator_of}
+use Rattle.build_memory.specs.Memory.{item_total, table_total, valid}
+use Rattle.build_tables.specs.Table.{add_table, new_table, count_of, item_count}
+use Rattle.build_tables.specs.Answer.{added_number, counted_number, counted_items}
 
 -- ---- a new table: 29, 28, 27
 
 module _ (ws ar separator : List ℕ) where
-  pub new-29 : valid ws (length ar) ≡ false → addedNumber (newTable ws ar separator).answer ≡ 29
-  unfolding newTable addedNumber pick
-  new-29 h = simp h
+  pub new_29 : valid ws (length ar) ≡ false → added_number (new_table ws ar separator).answer ≡ 29
+  unfolding new_table added_number pick
+  new_29 h = simp h
 
   module _ (ok : valid ws (length ar) ≡ true) where
-    pub new-28 : separatorOf separator ≡ 0 → addedNumber (newTable ws ar separator).answer ≡ 28
-    unfolding newTable addedNumber pick
-    new-28 h = simp (ok, eq-eqb _ _ h)
+    pub new_28 : separator_of separator ≡ 0 → added_number (new_table ws ar separator).answer ≡ 28
+    unfolding new_table added_number pick
+    new_28 h = simp (ok, eq-eqb _ _ h)
 
-    module _ (inside : separatorOf separator ≡ 0 → ⊥) where
-      pub new-27 : mostTables ≤ tableTotal ws → addedNumber (newTable ws ar separator).answer ≡ 27
-      unfolding newTable addTable addedNumber pick
-      new-27 h = simp (ok, ne_eqb _ _ inside, le-leb _ _ h)
+    module _ (inside : separator_of separator ≡ 0 → ⊥) where
+      pub new_27 : most_tables ≤ table_total ws → added_number (new_table ws ar separator).answer ≡ 27
+      unfolding new_table add_table added_number pick
+      new_27 h = simp (ok, ne_eqb _ _ inside, le-leb _ _ h)
 
-      pub new-0 : tableTotal ws < mostTables → (newTable ws ar separator).answer ≡ Added.Table (tableTotal ws)
-      unfolding newTable addTable pick
-      new-0 h = simp (ok, ne_eqb _ _ inside, lt-leb _ _ h)
+      pub new_0 : table_total ws < most_tables → (new_table ws ar separator).answer ≡ Added.Table (table_total ws)
+      unfolding new_table add_table pick
+      new_0 h = simp (ok, ne_eqb _ _ inside, lt-leb _ _ h)
 
 -- ---- the item count: 29, 24
 
 module _ (ws ar : List ℕ) (t : ℕ) where
-  pub count-29 : valid ws (length ar) ≡ false → countedNumber (itemCount ws ar t) ≡ 29
-  unfolding itemCount countedNumber pick
-  count-29 h = simp h
+  pub count_29 : valid ws (length ar) ≡ false → counted_number (item_count ws ar t) ≡ 29
+  unfolding item_count counted_number pick
+  count_29 h = simp h
 
-  pub count-24 : valid ws (length ar) ≡ true → tableTotal ws ≤ t → countedNumber (itemCount ws ar t) ≡ 24
-  unfolding itemCount countedNumber pick
-  count-24 ok h = simp (ok, le-ltb _ _ h)
+  pub count_24 : valid ws (length ar) ≡ true → table_total ws ≤ t → counted_number (item_count ws ar t) ≡ 24
+  unfolding item_count counted_number pick
+  count_24 ok h = simp (ok, le-ltb _ _ h)
 
-  pub count-0 : valid ws (length ar) ≡ true → t < tableTotal ws → countedItems (itemCount ws ar t) ≡ countOf ws t (itemTotal ws)
-  unfolding itemCount countedItems pick
-  count-0 ok h = simp (ok, lt-ltb _ _ h)
+  pub count_0 : valid ws (length ar) ≡ true → t < table_total ws → counted_items (item_count ws ar t) ≡ count_of ws t (item_total ws)
+  unfolding item_count counted_items pick
+  count_0 ok h = simp (ok, lt-ltb _ _ h)

@@ -4,19 +4,19 @@ use Rattle.layout.specs.Refusal.{number}
 use Rattle.model.specs.declared.Added.{Added}
 use Rattle.model.specs.declared.Counted.{Counted}
 
-unfoldable pub addedNumber : Added → ℕ
-addedNumber (Added.Table t) = 0
-addedNumber (Added.Refused why) = number why
+unfoldable pub added_number : Added → ℕ
+added_number (Added.Table t) = 0
+added_number (Added.Refused why) = number why
 
 -- the new table's number
-unfoldable pub addedTable : Added → ℕ
-addedTable (Added.Table t) = t
-addedTable (Added.Refused why) = 0
+unfoldable pub added_table : Added → ℕ
+added_table (Added.Table t) = t
+added_table (Added.Refused why) = 0
 
-unfoldable pub countedNumber : Counted → ℕ
-countedNumber (Counted.Items n) = 0
-countedNumber (Counted.Refused why) = number why
+unfoldable pub counted_number : Counted → ℕ
+counted_number (Counted.Items n) = 0
+counted_number (Counted.Refused why) = number why
 
-unfoldable pub countedItems : Counted → ℕ
-countedItems (Counted.Items n) = n
-countedItems (Counted.Refused why) = 0
+unfoldable pub counted_items : Counted → ℕ
+counted_items (Counted.Items n) = n
+counted_items (Counted.Refused why) = 0

@@ -6,38 +6,38 @@ use Rattle.layout.specs.declared.refusal.Refusal.{Refusal}
 use Rattle.layout.specs.declared.refusal.Refusal.TheVariants.{MemoryBroken, TableUnknown, TooManyTables, SeparatorOutside}
 use Rattle.model.specs.declared.Added.{Added}
 use Rattle.model.specs.declared.Counted.{Counted}
-use Rattle.layout.specs.Limits.{mostTables}
-use Rattle.model.specs.Builder.{separatorOf}
-use Rattle.build_memory.specs.Memory.{table_at, tableTotal, itemTotal, tablePlaced, itemTable, valid, memory, Outcome, outcome}
+use Rattle.layout.specs.Limits.{most_tables}
+use Rattle.model.specs.Builder.{separator_of}
+use Rattle.build_memory.specs.Memory.{table_at, table_total, item_total, table_placed, item_table, valid, memory, Outcome, outcome}
 
 -- a free-standing table: known and not placed
-unfoldable pub freeStanding : List ℕ → ℕ → Bool
-freeStanding ws t = ltb t (tableTotal ws) && eqb (tablePlaced ws t) 0
+unfoldable pub free_standing : List ℕ → ℕ → Bool
+free_standing ws t = ltb t (table_total ws) && eqb (table_placed ws t) 0
 
-abbrev pub notAdded : Refusal → List ℕ → List ℕ → Outcome Added
-notAdded why ws ar = outcome (Added.Refused why) (memory ws ar)
+abbrev pub not_added : Refusal → List ℕ → List ℕ → Outcome Added
+not_added why ws ar = outcome (Added.Refused why) (memory ws ar)
 
 -- the next table, not placed
-unfoldable pub addTable : List ℕ → List ℕ → ℕ → Outcome Added
-addTable ws ar separator =
-    pick (leb mostTables (tableTotal ws)) (notAdded TooManyTables ws ar)
-    (outcome (Added.Table (tableTotal ws))
-    (memory (put_at (put_at ws (table_at (tableTotal ws)) (separator ∷ 0 ∷ 0 ∷ [])) 2 ((tableTotal ws + 1) ∷ [])) ar))
+unfoldable pub add_table : List ℕ → List ℕ → ℕ → Outcome Added
+add_table ws ar separator =
+    pick (leb most_tables (table_total ws)) (not_added TooManyTables ws ar)
+    (outcome (Added.Table (table_total ws))
+    (memory (put_at (put_at ws (table_at (table_total ws)) (separator ∷ 0 ∷ 0 ∷ [])) 2 ((table_total ws + 1) ∷ [])) ar))
 
-unfoldable pub newTable : List ℕ → List ℕ → List ℕ → Outcome Added
-newTable ws ar separator =
+unfoldable pub new_table : List ℕ → List ℕ → List ℕ → Outcome Added
+new_table ws ar separator =
     pick (valid ws (length ar))
-    (pick (eqb (separatorOf separator) 0) (notAdded SeparatorOutside ws ar) (addTable ws ar (separatorOf separator)))
-    (notAdded MemoryBroken ws ar)
+    (pick (eqb (separator_of separator) 0) (not_added SeparatorOutside ws ar) (add_table ws ar (separator_of separator)))
+    (not_added MemoryBroken ws ar)
 
 -- how many of the first n items are of table t
-unfoldable pub countOf : List ℕ → ℕ → ℕ → ℕ
-countOf ws t zero = 0
-countOf ws t (suc n) = pick (eqb (itemTable ws n) t) (suc (countOf ws t n)) (countOf ws t n)
+unfoldable pub count_of : List ℕ → ℕ → ℕ → ℕ
+count_of ws t zero = 0
+count_of ws t (suc n) = pick (eqb (item_table ws n) t) (suc (count_of ws t n)) (count_of ws t n)
 
 -- a table that is placed has its count too
-unfoldable pub itemCount : List ℕ → List ℕ → ℕ → Counted
-itemCount ws ar t =
+unfoldable pub item_count : List ℕ → List ℕ → ℕ → Counted
+item_count ws ar t =
     pick (valid ws (length ar))
-    (pick (ltb t (tableTotal ws)) (Counted.Items (countOf ws t (itemTotal ws))) (Counted.Refused TableUnknown))
+    (pick (ltb t (table_total ws)) (Counted.Items (count_of ws t (item_total ws))) (Counted.Refused TableUnknown))
     (Counted.Refused MemoryBroken)

@@ -1,8 +1,8 @@
 // New tables, and whether a table is free-standing.
 ghost use Rattle.std.specs.Prelude.{◌≡◌, ◌<◌, ◌^◌, length};
-ghost use Rattle.model.specs.Builder.{separatorOf};
+ghost use Rattle.model.specs.Builder.{separator_of};
 ghost use Rattle.build_memory.specs.Memory.{Valid, memory, outcome};
-ghost use Rattle.build_tables.specs.Table.{freeStanding, addTable, newTable};
+ghost use Rattle.build_tables.specs.Table.{free_standing, add_table, new_table};
 
 use build_memory::fields::{
     LAST_SEPARATOR, NO_SEPARATOR, PLACED, TABLE_SIZE, TABLES, TABLES_FROM, table_word,
@@ -24,7 +24,7 @@ pub fn narrow(n: usize) -> u32
 
 // A separator as its word: 0 for one outside the domain.
 fn separator_word(separator: &[u8]) -> usize
-    ensures { result ≡ separatorOf separator.now }
+    ensures { result ≡ separator_of separator.now }
 {
     if separator.len() == 0 {
         return NO_SEPARATOR;
@@ -42,7 +42,7 @@ fn separator_word(separator: &[u8]) -> usize
 // Whether a table is free-standing: known and not placed.
 pub fn is_free_standing(words: &[usize], arena: &[u8], table: usize) -> bool
     requires { Valid words.now (length arena.now) }
-    ensures { result ≡ freeStanding words.now table }
+    ensures { result ≡ free_standing words.now table }
 {
     if words[TABLES] <= table {
         return false;
@@ -53,7 +53,7 @@ pub fn is_free_standing(words: &[usize], arena: &[u8], table: usize) -> bool
 // The next table, with a separator's word.
 fn add_table(words: &mut [usize], arena: &[u8], separator: usize) -> Added
     requires { Valid words.old (length arena.now) }
-    ensures { outcome result (memory words.new arena.now) ≡ addTable words.old arena.now separator }
+    ensures { outcome result (memory words.new arena.now) ≡ add_table words.old arena.now separator }
 {
     let t = words[TABLES];
     if MOST_TABLES <= t {
@@ -70,7 +70,7 @@ fn add_table(words: &mut [usize], arena: &[u8], separator: usize) -> Added
 // gvdb-rs: HashTableBuilder::new, with_path_separator.
 // A new, empty table with the separator: 29, 28, 27.
 pub fn new_table(words: &mut [usize], arena: &[u8], separator: &[u8]) -> Added
-    ensures { outcome result (memory words.new arena.now) ≡ newTable words.old arena.now separator.now }
+    ensures { outcome result (memory words.new arena.now) ≡ new_table words.old arena.now separator.now }
 {
     if !judge(words, arena) {
         return Added::Refused(Refusal::MemoryBroken);

@@ -1,8 +1,8 @@
 // The count of a table's items.
 ghost use Rattle.std.specs.Prelude.{◌≡◌, ◌≤◌, length};
-ghost use Rattle.layout.specs.Limits.{mostItems};
-ghost use Rattle.build_memory.specs.Memory.{leastWords, itemTotal};
-ghost use Rattle.build_tables.specs.Table.{countOf, itemCount};
+ghost use Rattle.layout.specs.Limits.{most_items};
+ghost use Rattle.build_memory.specs.Memory.{least_words, item_total};
+ghost use Rattle.build_tables.specs.Table.{count_of, item_count};
 
 use crate::add::narrow;
 use build_memory::fields::{ITEMS, TABLE, TABLES, item_word};
@@ -13,9 +13,9 @@ use words::wide::word_size;
 
 // How many items are of the table.
 fn count_of(words: &[usize], table: usize) -> usize
-    requires { (leastWords ≤ length words.now) × (itemTotal words.now ≤ mostItems) }
-    ensures value { result ≡ countOf words.now table (itemTotal words.now) }
-    ensures few { result ≤ mostItems }
+    requires { (least_words ≤ length words.now) × (item_total words.now ≤ most_items) }
+    ensures value { result ≡ count_of words.now table (item_total words.now) }
+    ensures few { result ≤ most_items }
 {
     let n = words[ITEMS];
     let mut count = 0;
@@ -34,7 +34,7 @@ fn count_of(words: &[usize], table: usize) -> usize
 // gvdb-rs: HashTableBuilder::len, is_empty.
 // How many items a table has, containers included: 29, then 24 for a number that is unknown.
 pub fn item_count(words: &[usize], arena: &[u8], table: u32) -> Counted
-    ensures { result ≡ itemCount words.now arena.now table }
+    ensures { result ≡ item_count words.now arena.now table }
 {
     if !judge(words, arena) {
         return Counted::Refused(Refusal::MemoryBroken);

@@ -1,12 +1,12 @@
 // The insert of a value: each stage refuses, or hands on to the next. What is written was decided before.
 ghost use Rattle.std.specs.Prelude.{◌≡◌, ◌+◌, ◌≤◌, ◌<◌, length, take};
-ghost use Rattle.key_hash.specs.Hash.{hashOf};
-ghost use Rattle.key_order.specs.Prefix.{endsPast};
-ghost use Rattle.layout.specs.Limits.{mostItems};
-ghost use Rattle.build_memory.specs.Memory.{leastWords, itemTotal, roomUsed, tableSeparator, Valid, memory, outcome};
+ghost use Rattle.key_hash.specs.Hash.{hash_of};
+ghost use Rattle.key_order.specs.Prefix.{ends_past};
+ghost use Rattle.layout.specs.Limits.{most_items};
+ghost use Rattle.build_memory.specs.Memory.{least_words, item_total, room_used, table_separator, Valid, memory, outcome};
 ghost use Rattle.build_memory.specs.Item.{stored};
 ghost use Rattle.build_values.specs.Walk.{sum};
-ghost use Rattle.build_values.specs.Insert.{Ready, extended, containers, added, insertNew, overwrite, insertOrReplace, insertBelowPath, insertAtKey, insertValue};
+ghost use Rattle.build_values.specs.Insert.{Ready, extended, containers, added, insert_new, overwrite, insert_or_replace, insert_below_path, insert_at_key, insert_value};
 
 use crate::walk::{Walked, cost_of, descend_to};
 use build_memory::fields::{ITEMS, KIND, SEPARATOR, USED, item_word, table_word};
@@ -40,12 +40,12 @@ fn make_containers(
     sep: usize,
     walked: Walked,
 ) -> usize
-    requires least_words_in_bounds { (leastWords ≤ length words.old) × (walked.way.from ≤ length key.now) }
-    requires hash_value { walked.hash ≡ hashOf (take walked.way.from key.now) }
-    requires from_bound { itemTotal words.old + length (endsPast sep key.now walked.way.from) ≤ mostItems }
-    requires from_in_bounds { roomUsed words.old + sum (endsPast sep key.now walked.way.from) ≤ length arena.old }
-    ensures result_after { extended (memory words.new arena.new) result ≡ containers table key.now (endsPast sep key.now walked.way.from) (memory words.old arena.old) walked.way.parent }
-    ensures counts { (itemTotal words.new + 1 ≡ itemTotal words.old + length (endsPast sep key.now walked.way.from)) × (roomUsed words.new + length key.now ≡ roomUsed words.old + sum (endsPast sep key.now walked.way.from)) }
+    requires least_words_in_bounds { (least_words ≤ length words.old) × (walked.way.from ≤ length key.now) }
+    requires hash_value { walked.hash ≡ hash_of (take walked.way.from key.now) }
+    requires from_bound { item_total words.old + length (ends_past sep key.now walked.way.from) ≤ most_items }
+    requires from_in_bounds { room_used words.old + sum (ends_past sep key.now walked.way.from) ≤ length arena.old }
+    ensures result_after { extended (memory words.new arena.new) result ≡ containers table key.now (ends_past sep key.now walked.way.from) (memory words.old arena.old) walked.way.parent }
+    ensures counts { (item_total words.new + 1 ≡ item_total words.old + length (ends_past sep key.now walked.way.from)) × (room_used words.new + length key.now ≡ room_used words.old + sum (ends_past sep key.now walked.way.from)) }
 {
     let way = walked.way;
     let mut at = way.from;
@@ -84,10 +84,10 @@ fn build_new(
     hash: usize,
 )
     requires ready { Ready words.old arena.old job.table key.now }
-    requires from_in_bounds { (walked.way.from ≤ length key.now) × (walked.hash ≡ hashOf (take walked.way.from key.now)) × (hash ≡ hashOf key.now) }
-    requires from_bound { itemTotal words.old + length (endsPast (tableSeparator words.old job.table) key.now walked.way.from) ≤ mostItems }
-    requires value_in_bounds { roomUsed words.old + sum (endsPast (tableSeparator words.old job.table) key.now walked.way.from) + length value.now ≤ length arena.old }
-    ensures { memory words.new arena.new ≡ added (containers job.table key.now (endsPast (tableSeparator words.old job.table) key.now walked.way.from) (memory words.old arena.old) walked.way.parent) job.table key.now (stored job.kind value.now job.guest) }
+    requires from_in_bounds { (walked.way.from ≤ length key.now) × (walked.hash ≡ hash_of (take walked.way.from key.now)) × (hash ≡ hash_of key.now) }
+    requires from_bound { item_total words.old + length (ends_past (table_separator words.old job.table) key.now walked.way.from) ≤ most_items }
+    requires value_in_bounds { room_used words.old + sum (ends_past (table_separator words.old job.table) key.now walked.way.from) + length value.now ≤ length arena.old }
+    ensures { memory words.new arena.new ≡ added (containers job.table key.now (ends_past (table_separator words.old job.table) key.now walked.way.from) (memory words.old arena.old) walked.way.parent) job.table key.now (stored job.kind value.now job.guest) }
 {
     let table = job.table;
     let kind = job.kind;
@@ -114,8 +114,8 @@ fn insert_new(
     hash: usize,
 ) -> Inserted
     requires ready { Ready words.old arena.old job.table key.now }
-    requires from_in_bounds { (walked.way.from ≤ length key.now) × (walked.hash ≡ hashOf (take walked.way.from key.now)) × (hash ≡ hashOf key.now) }
-    ensures { outcome result (memory words.new arena.new) ≡ insertNew words.old arena.old job.table key.now (stored job.kind value.now job.guest) walked.way.from walked.way.parent }
+    requires from_in_bounds { (walked.way.from ≤ length key.now) × (walked.hash ≡ hash_of (take walked.way.from key.now)) × (hash ≡ hash_of key.now) }
+    ensures { outcome result (memory words.new arena.new) ≡ insert_new words.old arena.old job.table key.now (stored job.kind value.now job.guest) walked.way.from walked.way.parent }
 {
     let table = job.table;
     let sep = table_word(words, table, SEPARATOR);
@@ -144,7 +144,7 @@ fn overwrite_item(
     value: &[u8],
 ) -> Inserted
     requires valid { Valid words.old (length arena.old) }
-    requires i_bound { i < itemTotal words.old }
+    requires i_bound { i < item_total words.old }
     ensures { outcome result (memory words.new arena.new) ≡ overwrite words.old arena.old i (stored job.kind value.now job.guest) }
 {
     let left = arena.len() - words[USED];
@@ -168,8 +168,8 @@ fn insert_or_replace(
     walked: Walked,
 ) -> Inserted
     requires ready { Ready words.old arena.old job.table key.now }
-    requires from_in_bounds { (walked.way.from ≤ length key.now) × (walked.hash ≡ hashOf (take walked.way.from key.now)) }
-    ensures { outcome result (memory words.new arena.new) ≡ insertOrReplace words.old arena.old job.table key.now (stored job.kind value.now job.guest) walked.way.from walked.way.parent }
+    requires from_in_bounds { (walked.way.from ≤ length key.now) × (walked.hash ≡ hash_of (take walked.way.from key.now)) }
+    ensures { outcome result (memory words.new arena.new) ≡ insert_or_replace words.old arena.old job.table key.now (stored job.kind value.now job.guest) walked.way.from walked.way.parent }
 {
     let table = job.table;
     let way = walked.way;
@@ -193,7 +193,7 @@ pub fn insert_below_path(
     deep: bool,
 ) -> Inserted
     requires { Ready words.old arena.old job.table key.now }
-    ensures { outcome result (memory words.new arena.new) ≡ insertBelowPath words.old arena.old job.table key.now (stored job.kind value.now job.guest) deep }
+    ensures { outcome result (memory words.new arena.new) ≡ insert_below_path words.old arena.old job.table key.now (stored job.kind value.now job.guest) deep }
 {
     let table = job.table;
     let sep = table_word(words, table, SEPARATOR);
@@ -218,7 +218,7 @@ fn insert_at_key(
     value: &[u8],
 ) -> Inserted
     requires { Valid words.old (length arena.old) }
-    ensures { outcome result (memory words.new arena.new) ≡ insertAtKey words.old arena.old table key.now value.now }
+    ensures { outcome result (memory words.new arena.new) ≡ insert_at_key words.old arena.old table key.now value.now }
 {
     if !is_free_standing(words, arena, table) {
         return Inserted::Refused(Refusal::TableUnknown);
@@ -246,7 +246,7 @@ pub fn insert_value(
     key: &[u8],
     value: &[u8],
 ) -> Inserted
-    ensures { outcome result (memory words.new arena.new) ≡ insertValue words.old arena.old table key.now value.now }
+    ensures { outcome result (memory words.new arena.new) ≡ insert_value words.old arena.old table key.now value.now }
 {
     if !judge(words, arena) {
         return Inserted::Refused(Refusal::MemoryBroken);

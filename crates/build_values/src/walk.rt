@@ -1,8 +1,8 @@
 // The dry walk of an insert: it reads and counts, and writes nothing.
 ghost use Rattle.std.specs.Prelude.{◌≡◌, ◌≤◌, length, take};
-ghost use Rattle.key_hash.specs.Hash.{hashOf};
-ghost use Rattle.key_order.specs.Prefix.{endsPast};
-ghost use Rattle.layout.specs.Limits.{longestKey, mostItems};
+ghost use Rattle.key_hash.specs.Hash.{hash_of};
+ghost use Rattle.key_order.specs.Prefix.{ends_past};
+ghost use Rattle.layout.specs.Limits.{longest_key, most_items};
 ghost use Rattle.build_memory.specs.Memory.{Valid};
 ghost use Rattle.build_values.specs.Walk.{way, descend, sum};
 
@@ -53,9 +53,9 @@ fn ended(clear: bool, from: usize, parent: usize, hash: u32) -> Walked
 // Goes down the containers of the key that are there.
 pub fn descend_to(words: &[usize], arena: &[u8], table: usize, key: &[u8], sep: usize) -> Walked
     requires { Valid words.now (length arena.now) }
-    ensures way_value { result.way ≡ descend words.now arena.now table key.now (endsPast sep key.now 0) 0 0 }
-    ensures within { (result.way.from ≤ length key.now) × (result.way.parent ≤ mostItems) }
-    ensures hashed { result.hash ≡ hashOf (take result.way.from key.now) }
+    ensures way_value { result.way ≡ descend words.now arena.now table key.now (ends_past sep key.now 0) 0 0 }
+    ensures within { (result.way.from ≤ length key.now) × (result.way.parent ≤ most_items) }
+    ensures hashed { result.hash ≡ hash_of (take result.way.from key.now) }
 {
     let n = words[ITEMS];
     let mut from = 0;
@@ -82,8 +82,8 @@ pub fn descend_to(words: &[usize], arena: &[u8], table: usize, key: &[u8], sep: 
 
 // What it costs to make the prefixes of the key that end past `from`.
 pub fn cost_of(key: &[u8], from: usize, sep: usize) -> Cost
-    requires { (from ≤ length key.now) × (length key.now ≤ longestKey) }
-    ensures { (result.items ≡ length (endsPast sep key.now from)) × (result.room ≡ sum (endsPast sep key.now from)) }
+    requires { (from ≤ length key.now) × (length key.now ≤ longest_key) }
+    ensures { (result.items ≡ length (ends_past sep key.now from)) × (result.room ≡ sum (ends_past sep key.now from)) }
 {
     let mut at = from;
     let mut items = 0;

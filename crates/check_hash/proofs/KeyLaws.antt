@@ -1,6 +1,6 @@
 -- An item's joined key: its bytes where it is measured, and the loop that tallies its hash and length.
 use Rattle.std.proofs.Common.{◌≡◌, ℕ, ◌+◌, ◌-◌, ◌*◌, ◌<◌, ◌≤◌, true, List, ◌++◌, length, sym, refl, ap, ◌∙◌, subst, add-zero, arith, length-append}
-use Rattle.key_hash.specs.Hash.{hashBy}
+use Rattle.key_hash.specs.Hash.{hash_by}
 use Rattle.key_order.proofs.CompareLaws.{same_refl}
 use Rattle.layout.specs.declared.refusal.Refusal.{Refusal}
 use Rattle.layout.specs.declared.table.Table.{Table}
@@ -8,21 +8,21 @@ use Rattle.layout.specs.declared.item.Item.{Item}
 use Rattle.layout.specs.Item.{item_at}
 use Rattle.read_chain.specs.declared.chain.Step.{Step}
 use Rattle.read_listing.specs.declared.listing.Measured.{Measured}
-use Rattle.read_chain.specs.Chain.{Joined, append, joinStep, key_of, climbFrom, fragmentOf, names}
+use Rattle.read_chain.specs.Chain.{Joined, append, join_step, key_of, climb_from, fragment_of, names}
 use Rattle.read_listing.specs.Listing.{measure}
-use Rattle.read_chain.proofs.ChainLaws.{StepFits, climb-fits, key-turn, key-over, fragment-size}
+use Rattle.read_chain.proofs.ChainLaws.{StepFits, climb_fits, key_turn, key_over, fragment_size}
 use Rattle.check_hash.specs.declared.tally.JoinedKey.{JoinedKey}
 use Rattle.check_hash.specs.declared.tally.Tally.{Tally}
 use Rattle.check_hash.specs.Tally.{prepend, finish, none}
-use Rattle.check_hash.specs.Key.{bytes_of, joinedKey}
-use Rattle.check_hash.proofs.TallyLaws.{hash-back, prepend-append}
+use Rattle.check_hash.specs.Key.{bytes_of, joined_key}
+use Rattle.check_hash.proofs.TallyLaws.{hash_back, prepend-append}
 
 -- ---- a key that is measured
 
-pub sized-bytes : (j : Joined) {size : ℕ} → measure j ≡ Measured.Size size → length (bytes_of j) ≡ size
+pub sized_bytes : (j : Joined) {size : ℕ} → measure j ≡ Measured.Size size → length (bytes_of j) ≡ size
 unfolding measure bytes_of
-sized-bytes (Joined.joined k) e = cc
-sized-bytes (Joined.broken why) e = cc
+sized_bytes (Joined.joined k) e = cc
+sized_bytes (Joined.broken why) e = cc
 
 names-joined : (j : Joined) {size : ℕ} → measure j ≡ Measured.Size size → true ≡ names j (bytes_of j)
 unfolding measure bytes_of names
@@ -37,33 +37,33 @@ names_at file t {at} {index} same e =
     ∙ ap (λ (n : ℕ). names (key_of file t t.count n) (bytes_of (key_of file t t.count index))) (sym same)
 
 -- what the tallied key tells: its length and its hash
-pub joined-sized : (rule : ℕ → ℕ) (j : Joined) {hash size : ℕ} → joinedKey rule j ≡ JoinedKey.Key hash size → measure j ≡ Measured.Size size
-unfolding joinedKey measure
-joined-sized rule (Joined.joined k) e = cc
-joined-sized rule (Joined.broken why) e = cc
+pub joined_sized : (rule : ℕ → ℕ) (j : Joined) {hash size : ℕ} → joined_key rule j ≡ JoinedKey.Key hash size → measure j ≡ Measured.Size size
+unfolding joined_key measure
+joined_sized rule (Joined.joined k) e = cc
+joined_sized rule (Joined.broken why) e = cc
 
-pub joined-hashed : (rule : ℕ → ℕ) (j : Joined) {hash size : ℕ} → joinedKey rule j ≡ JoinedKey.Key hash size → hash ≡ hashBy rule (bytes_of j)
-unfolding joinedKey bytes_of
-joined-hashed rule (Joined.joined k) e = cc
-joined-hashed rule (Joined.broken why) e = cc
+pub joined_hashed : (rule : ℕ → ℕ) (j : Joined) {hash size : ℕ} → joined_key rule j ≡ JoinedKey.Key hash size → hash ≡ hash_by rule (bytes_of j)
+unfolding joined_key bytes_of
+joined_hashed rule (Joined.joined k) e = cc
+joined_hashed rule (Joined.broken why) e = cc
 
 -- ---- the loop: what the key of the present item gives with the tally of what was passed is what the whole key gives
 
-unfoldable pub joinedFrom : (ℕ → ℕ) → ℕ → Tally → Joined → JoinedKey
-joinedFrom rule total tally (Joined.joined k) = JoinedKey.Key (finish (prepend rule k tally)) (length k + total)
-joinedFrom rule total tally (Joined.broken why) = JoinedKey.Broken
+unfoldable pub joined_from : (ℕ → ℕ) → ℕ → Tally → Joined → JoinedKey
+joined_from rule total tally (Joined.joined k) = JoinedKey.Key (finish (prepend rule k tally)) (length k + total)
+joined_from rule total tally (Joined.broken why) = JoinedKey.Broken
 
-joined-from-none : (rule : ℕ → ℕ) (j : Joined) → joinedFrom rule 0 none j ≡ joinedKey rule j
-unfolding joinedFrom joinedKey
+joined-from-none : (rule : ℕ → ℕ) (j : Joined) → joined_from rule 0 none j ≡ joined_key rule j
+unfolding joined_from joined_key
 joined-from-none rule (Joined.joined k) =
-    let hashed = hash-back rule k in
+    let hashed = hash_back rule k in
     let long : length k + 0 ≡ length k = add-zero (length k) in
     cc
 joined-from-none rule (Joined.broken why) = refl
 
 joined-append : (rule : ℕ → ℕ) (total : ℕ) (tally : Tally) (j : Joined) (f : List ℕ)
-    → joinedFrom rule total tally (append j f) ≡ joinedFrom rule (total + length f) (prepend rule f tally) j
-unfolding joinedFrom append
+    → joined_from rule total tally (append j f) ≡ joined_from rule (total + length f) (prepend rule f tally) j
+unfolding joined_from append
 joined-append rule total tally (Joined.joined k) f =
     let long : length (k ++ f) + total ≡ length k + (total + length f) = omega (arith, length-append k f) in
     let tallied = prepend-append rule k f tally in
@@ -74,44 +74,44 @@ pub record Tallying (rule : ℕ → ℕ) (file : List ℕ) (t : Table) (index at
   pub below : at < t.count
   pub few : left ≤ t.count
   pub small : total ≤ 65535 * (t.count - left)
-  pub same : joinedFrom rule total tally (key_of file t left at) ≡ joinedKey rule (key_of file t t.count index)
+  pub same : joined_from rule total tally (key_of file t left at) ≡ joined_key rule (key_of file t t.count index)
 
 module _ (rule : ℕ → ℕ) (file : List ℕ) (t : Table) (index : ℕ) where
   pub joined-start : index < t.count → Tallying rule file t index index 0 none t.count
   joined-start h = record { below = h; few = omega arith; small = omega arith; same = joined-from-none rule _ }
 
   module _ {at total left : ℕ} {tally : Tally} (i : Tallying rule file t index at total tally left) where
-    pub joined-over : left ≤ 0 → JoinedKey.Broken ≡ joinedKey rule (key_of file t t.count index)
-    unfolding joinedFrom
-    joined-over h = sym (ap (joinedFrom rule total tally) (key-over file t left at h)) ∙ i.same
+    pub joined_over : left ≤ 0 → JoinedKey.Broken ≡ joined_key rule (key_of file t t.count index)
+    unfolding joined_from
+    joined_over h = sym (ap (joined_from rule total tally) (key_over file t left at h)) ∙ i.same
 
     module _ (h : 0 < left) {item : Item} (is : item ≡ item_at file t at) where
-      pub joined-refused : {why : Refusal} → climbFrom file t.count item ≡ Step.Refused why → JoinedKey.Broken ≡ joinedKey rule (key_of file t t.count index)
-      unfolding joinedFrom joinStep
-      joined-refused e = sym (ap (joinedFrom rule total tally) (key-turn file t left at item _ h is e)) ∙ i.same
+      pub joined-refused : {why : Refusal} → climb_from file t.count item ≡ Step.Refused why → JoinedKey.Broken ≡ joined_key rule (key_of file t t.count index)
+      unfolding joined_from join_step
+      joined-refused e = sym (ap (joined_from rule total tally) (key_turn file t left at item _ h is e)) ∙ i.same
 
-      module _ {size : ℕ} (z : size ≡ item.size) {next : Tally} (n : next ≡ prepend rule (fragmentOf file item) tally) where
-        pub joined-root : climbFrom file t.count item ≡ Step.Root → {hash : ℕ} → hash ≡ finish next → JoinedKey.Key hash (total + size) ≡ joinedKey rule (key_of file t t.count index)
-        unfolding joinedFrom joinStep StepFits
-        joined-root e {hash} hashed =
-            let fits : item.key + item.size ≤ length file = subst (StepFits file t.count item) e (climb-fits file t.count item) in
-            let sum : total + size ≡ length (fragmentOf file item) + total = omega (arith, fragment-size file item fits) in
-            let whole : hash ≡ finish (prepend rule (fragmentOf file item) tally) = hashed ∙ ap finish n in
-            ap (λ (s : ℕ). JoinedKey.Key hash s) sum ∙ ap (λ (x : ℕ). JoinedKey.Key x (length (fragmentOf file item) + total)) whole
-            ∙ sym (ap (joinedFrom rule total tally) (key-turn file t left at item _ h is e)) ∙ i.same
+      module _ {size : ℕ} (z : size ≡ item.size) {next : Tally} (n : next ≡ prepend rule (fragment_of file item) tally) where
+        pub joined_root : climb_from file t.count item ≡ Step.Root → {hash : ℕ} → hash ≡ finish next → JoinedKey.Key hash (total + size) ≡ joined_key rule (key_of file t t.count index)
+        unfolding joined_from join_step StepFits
+        joined_root e {hash} hashed =
+            let fits : item.key + item.size ≤ length file = subst (StepFits file t.count item) e (climb_fits file t.count item) in
+            let sum : total + size ≡ length (fragment_of file item) + total = omega (arith, fragment_size file item fits) in
+            let whole : hash ≡ finish (prepend rule (fragment_of file item) tally) = hashed ∙ ap finish n in
+            ap (λ (s : ℕ). JoinedKey.Key hash s) sum ∙ ap (λ (x : ℕ). JoinedKey.Key x (length (fragment_of file item) + total)) whole
+            ∙ sym (ap (joined_from rule total tally) (key_turn file t left at item _ h is e)) ∙ i.same
 
-        pub joined-up : size < 65536 → {parent : ℕ} → climbFrom file t.count item ≡ Step.Up parent → Tallying rule file t index parent (total + size) next (left - 1)
-        unfolding joinStep StepFits
-        joined-up short {parent} e =
-            let fits : (item.key + item.size ≤ length file) × (parent < t.count) = subst (StepFits file t.count item) e (climb-fits file t.count item) in
-            let sum : total + size ≡ total + length (fragmentOf file item) = omega (arith, fragment-size file item fits.0) in
+        pub joined_up : size < 65536 → {parent : ℕ} → climb_from file t.count item ≡ Step.Up parent → Tallying rule file t index parent (total + size) next (left - 1)
+        unfolding join_step StepFits
+        joined_up short {parent} e =
+            let fits : (item.key + item.size ≤ length file) × (parent < t.count) = subst (StepFits file t.count item) e (climb_fits file t.count item) in
+            let sum : total + size ≡ total + length (fragment_of file item) = omega (arith, fragment_size file item fits.0) in
             record {
               below = fits.1;
               few = omega (arith, i.few);
               small = omega (arith, i.small, i.few);
               same =
-                  ap (λ (s : Tally). joinedFrom rule (total + size) s (key_of file t (left - 1) parent)) n
-                  ∙ ap (λ (m : ℕ). joinedFrom rule m (prepend rule (fragmentOf file item) tally) (key_of file t (left - 1) parent)) sum
-                  ∙ sym (ap (joinedFrom rule total tally) (key-turn file t left at item _ h is e) ∙ joined-append rule total tally (key_of file t (left - 1) parent) (fragmentOf file item))
+                  ap (λ (s : Tally). joined_from rule (total + size) s (key_of file t (left - 1) parent)) n
+                  ∙ ap (λ (m : ℕ). joined_from rule m (prepend rule (fragment_of file item) tally) (key_of file t (left - 1) parent)) sum
+                  ∙ sym (ap (joined_from rule total tally) (key_turn file t left at item _ h is e) ∙ joined-append rule total tally (key_of file t (left - 1) parent) (fragment_of file item))
                   ∙ i.same;
             }

@@ -1,6 +1,6 @@
 -- The joined key of an item, which is never written out: its bytes, its hash and its length.
 use Rattle.std.specs.Prelude.{◌≡◌, ℕ, ◌<◌, List, [], length}
-use Rattle.key_hash.specs.Hash.{hashBy}
+use Rattle.key_hash.specs.Hash.{hash_by}
 use Rattle.layout.specs.declared.table.Table.{Table}
 use Rattle.layout.specs.Table.{InFile}
 use Rattle.read_chain.specs.Chain.{Joined, key_of}
@@ -12,9 +12,9 @@ unfoldable pub bytes_of : Joined → List ℕ
 bytes_of (Joined.joined k) = k
 bytes_of (Joined.broken why) = []
 
-unfoldable pub joinedKey : (ℕ → ℕ) → Joined → JoinedKey
-joinedKey rule (Joined.joined k) = JoinedKey.Key (hashBy rule k) (length k)
-joinedKey rule (Joined.broken why) = JoinedKey.Broken
+unfoldable pub joined_key : (ℕ → ℕ) → Joined → JoinedKey
+joined_key rule (Joined.joined k) = JoinedKey.Key (hash_by rule k) (length k)
+joined_key rule (Joined.broken why) = JoinedKey.Broken
 
 -- an item of the table whose joined key reads and has `size` bytes
 pub record Keyed (file : List ℕ) (t : Table) (index size : ℕ) : Type 0 where

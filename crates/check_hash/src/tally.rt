@@ -1,10 +1,10 @@
 // The hash and the length of an item's joined key, on the way from the item to its root, with no buffer for the key.
 ghost use Rattle.std.specs.Prelude.{◌≡◌, ◌<◌, [], ◌∷◌};
-ghost use Rattle.key_hash.specs.Hash.{plain, ruleOf};
+ghost use Rattle.key_hash.specs.Hash.{plain, rule_of};
 ghost use Rattle.layout.specs.Table.{InFile};
 ghost use Rattle.read_chain.specs.Chain.{key_of};
 ghost use Rattle.check_hash.specs.Tally.{before, prepend, finish};
-ghost use Rattle.check_hash.specs.Key.{joinedKey};
+ghost use Rattle.check_hash.specs.Key.{joined_key};
 
 use key_hash::hash::{Form, byte_counts, wrapping_mul};
 use layout::item::item_at;
@@ -28,7 +28,7 @@ pub enum JoinedKey {
 
 // The tally with one byte more in front.
 fn prepend_byte(byte: u8, tally: Tally, form: Form) -> Tally
-    ensures { result ≡ before (ruleOf form) byte tally }
+    ensures { result ≡ before (rule_of form) byte tally }
 {
     let weight = tally.weight;
     let counted = wrapping_mul(byte_counts(byte, form), weight);
@@ -40,7 +40,7 @@ fn prepend_byte(byte: u8, tally: Tally, form: Form) -> Tally
 
 // The tally with all of a slice in front, byte by byte.
 fn prepend_each(bytes: &[u8], tally: Tally, form: Form) -> Tally
-    ensures { result ≡ prepend (ruleOf form) bytes.now tally }
+    ensures { result ≡ prepend (rule_of form) bytes.now tally }
 {
     let mut state = tally;
     let mut i = bytes.len();
@@ -67,7 +67,7 @@ fn prepend_four(a: u32, b: u32, c: u32, d: u32, tally: Tally) -> Tally
 
 // The same as prepend_each, four bytes at a time from the back, and then what is left in front.
 fn prepend_strides(bytes: &[u8], tally: Tally, form: Form) -> Tally
-    ensures { result ≡ prepend (ruleOf form) bytes.now tally }
+    ensures { result ≡ prepend (rule_of form) bytes.now tally }
 {
     let mut state = tally;
     let mut i = bytes.len();
@@ -84,7 +84,7 @@ fn prepend_strides(bytes: &[u8], tally: Tally, form: Form) -> Tally
 
 // The same: the form is chosen once for all bytes, and not at each of them.
 fn prepend_all(bytes: &[u8], tally: Tally, form: Form) -> Tally
-    ensures { result ≡ prepend (ruleOf form) bytes.now tally }
+    ensures { result ≡ prepend (rule_of form) bytes.now tally }
 {
     match form {
         Form::Plain => prepend_strides(bytes, tally, Form::Plain),
@@ -103,7 +103,7 @@ fn finished(tally: Tally) -> u32
 // The hash and the length of the joined key of the item at an index.
 pub fn joined_key(file: &[u8], table: Table, index: usize, form: Form) -> JoinedKey
     requires { InFile file.now table × (index < table.count) }
-    ensures { result ≡ joinedKey (ruleOf form) (key_of file.now table table.count index) }
+    ensures { result ≡ joined_key (rule_of form) (key_of file.now table table.count index) }
 {
     let count = table.count;
     let mut at = index;

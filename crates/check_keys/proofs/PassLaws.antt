@@ -8,33 +8,33 @@ use lib.ListN.{length, take}
 use lib.Seq.{take-take}
 use borrow.Author.Tests.{ltb-true, ltb-false}
 use Rattle.words.specs.Store.{part}
-use Rattle.words.proofs.ChoiceLaws.{pick-with}
+use Rattle.words.proofs.ChoiceLaws.{pick_with}
 use Rattle.words.proofs.StoreLaws.{length_part, part-part}
-use Rattle.key_order.specs.Compare.{sameBytes, ends_at}
-use Rattle.key_order.proofs.CompareLaws.{same-equal, ends-short}
+use Rattle.key_order.specs.Compare.{same_bytes, ends_at}
+use Rattle.key_order.proofs.CompareLaws.{same_equal, ends_short}
 use Rattle.layout.specs.declared.table.Table.{Table}
 use Rattle.layout.specs.Item.{item_at}
 use Rattle.read_listing.specs.declared.listing.Measured.{Measured}
 use Rattle.check_keys.specs.declared.front.Front.{Front}
 use Rattle.check_keys.specs.declared.front.Passed.{Passed}
-use Rattle.check_keys.specs.Front.{smaller, frontBytes, FrontFits, Raised, StretchPassed, BackPassed}
-use Rattle.check_keys.proofs.PartLaws.{part-front, part_join, ends-part, ends-differs}
+use Rattle.check_keys.specs.Front.{smaller, front_bytes, FrontFits, Raised, StretchPassed, BackPassed}
+use Rattle.check_keys.proofs.PartLaws.{part_front, part_join, ends_part, ends_differs}
 
 -- ---- one turn
 
 -- the shorter of two stretches
-pub smaller-fits : {n : ℕ} (a b : ℕ) → n ≡ smaller a b → (n ≤ a) × (n ≤ b) × (0 < a → 0 < b → 0 < n)
+pub smaller_fits : {n : ℕ} (a b : ℕ) → n ≡ smaller a b → (n ≤ a) × (n ≤ b) × (0 < a → 0 < b → 0 < n)
 unfolding smaller
-smaller-fits {n} a b is =
+smaller_fits {n} a b is =
     let P : ℕ → Type 0 = λ m. (m ≤ a) × (m ≤ b) × (0 < a → 0 < b → 0 < m) in
-    subst P (sym is) (pick-with P _ _ _
+    subst P (sym is) (pick_with P _ _ _
     (λ less. let l : a < b = ltb-true _ _ less in (omega arith, omega arith, λ some _. some))
     (λ more. let l : b ≤ a = ltb-false _ _ more in (omega arith, omega arith, λ _ some. some)))
 
 module _ (file : List ℕ) (t : Table) {p : Front} (from end : ℕ) where
-  pub some-raised : {q : Front} → Raised file t p q → StretchPassed file t p from end (Passed.Over q)
-  unfolding StretchPassed frontBytes
-  some-raised {q} r =
+  pub some_raised : {q : Front} → Raised file t p q → StretchPassed file t p from end (Passed.Over q)
+  unfolding StretchPassed front_bytes
+  some_raised {q} r =
       let none : p.size - q.size ≡ 0 = omega (arith, r.level) in (
         record {
           fitting = r.fitting;
@@ -51,8 +51,8 @@ module _ (file : List ℕ) (t : Table) {p : Front} (from end : ℕ) where
     abbrev back : Front
     back = record { at = p.at; rest = p.rest - n; size = p.size - n; left = p.left }
 
-    back-fitting : FrontFits file t back
-    back-fitting =
+    back_fitting : FrontFits file t back
+    back_fitting =
         let e : p.size + ((item_at file t p.at).size - p.rest) ≡ p.size - n + ((item_at file t p.at).size - (p.rest - n)) = omega (arith, fitting.short, fitting.within) in
         record {
           below = fitting.below;
@@ -61,34 +61,34 @@ module _ (file : List ℕ) (t : Table) {p : Front} (from end : ℕ) where
           within = omega (arith, fitting.within);
         }
 
-    module _ {told : Bool} (is : told ≡ sameBytes (part (frontBytes file t p) (p.size - n) n) (part file (end - n) n)) (room : n ≤ end - from) where
-      pub some-passed : 0 < n → told ≡ true → StretchPassed file t p from end (Passed.Over back)
-      unfolding StretchPassed frontBytes
-      some-passed some e =
+    module _ {told : Bool} (is : told ≡ same_bytes (part (front_bytes file t p) (p.size - n) n) (part file (end - n) n)) (room : n ≤ end - from) where
+      pub some_passed : 0 < n → told ≡ true → StretchPassed file t p from end (Passed.Over back)
+      unfolding StretchPassed front_bytes
+      some_passed some e =
           let passed : p.size - (p.size - n) ≡ n = omega (arith, fitting.within) in (
             record {
-              fitting = back-fitting;
+              fitting = back_fitting;
               fewer = omega arith;
               nearer = omega (arith, fitting.within);
               front = sym (take-take (p.size - n) p.size _ (omega arith));
-              same = rw passed (same-equal _ _ (sym is ∙ e));
+              same = rw passed (same_equal _ _ (sym is ∙ e));
             },
             omega (arith, passed),
           )
 
-      pub some-differs : told ≡ false → StretchPassed file t p from end Passed.Differs
+      pub some_differs : told ≡ false → StretchPassed file t p from end Passed.Differs
       unfolding StretchPassed
-      some-differs e = (n, room, sym is ∙ e)
+      some_differs e = (n, room, sym is ∙ e)
 
 -- the counts of a turn: the front has d bytes fewer, and so has what is left of the stretch
 low_turn : (d from end : ℕ) → d ≤ end - from → from ≤ end → (d ≤ end) × (from ≤ end - d)
 low_turn d from end room low = omega arith
 
-even-turn : (p h n to end d : ℕ) → n + d ≡ h → h + to ≡ p + end → d ≤ end → n + to ≡ p + (end - d)
-even-turn p h n to end d up even fits = omega arith
+even_turn : (p h n to end d : ℕ) → n + d ≡ h → h + to ≡ p + end → d ≤ end → n + to ≡ p + (end - d)
+even_turn p h n to end d up even fits = omega arith
 
-gone-turn : (d end to : ℕ) → d ≤ end → end ≤ to → (to - (end - d) ≡ d + (to - end)) × (end - d + d ≡ end)
-gone-turn d end to fits high = omega arith
+gone_turn : (d end to : ℕ) → d ≤ end → end ≤ to → (to - (end - d) ≡ d + (to - end)) × (end - d + d ≡ end)
+gone_turn d end to fits high = omega arith
 
 -- ---- the loop: the present front, and behind it the bytes of the file from `end` to `to`, are the front at the start
 
@@ -98,13 +98,13 @@ pub record Passing (file : List ℕ) (t : Table) (p : Front) (from to : ℕ) (he
   pub high : end ≤ to
   pub enough : to - from ≤ p.size
   pub even : here.size + to ≡ p.size + end
-  pub front : frontBytes file t here ≡ take here.size (frontBytes file t p)
-  pub same : part (frontBytes file t p) here.size (p.size - here.size) ≡ part file end (to - end)
+  pub front : front_bytes file t here ≡ take here.size (front_bytes file t p)
+  pub same : part (front_bytes file t p) here.size (p.size - here.size) ≡ part file end (to - end)
 
 module _ (file : List ℕ) (t : Table) (p : Front) (from to : ℕ) where
-  pub pass-start : FrontFits file t p → from ≤ to → to - from ≤ p.size → Passing file t p from to p to
-  unfolding frontBytes
-  pass-start fitting ordered enough =
+  pub pass_start : FrontFits file t p → from ≤ to → to - from ≤ p.size → Passing file t p from to p to
+  unfolding front_bytes
+  pass_start fitting ordered enough =
       let none : p.size - p.size ≡ 0 = omega arith in
       let nothing : to - to ≡ 0 = omega arith in
       record {
@@ -117,41 +117,41 @@ module _ (file : List ℕ) (t : Table) (p : Front) (from to : ℕ) where
         same = rw (none, nothing);
       }
 
-  pub pass-short : to ≤ length file → p.size < to - from → BackPassed file t p (part file from (to - from)) Passed.Differs
+  pub pass_short : to ≤ length file → p.size < to - from → BackPassed file t p (part file from (to - from)) Passed.Differs
   unfolding BackPassed
-  pass-short inside short = by_order (omega arith)
+  pass_short inside short = by_order (omega arith)
     where
-      by_order : from + (to - from) ≤ length file → ends_at (frontBytes file t p) p.size (part file from (to - from)) ≡ false
-      by_order l = ends-short _ _ _ (omega (arith, length_part file from (to - from) l))
+      by_order : from + (to - from) ≤ length file → ends_at (front_bytes file t p) p.size (part file from (to - from)) ≡ false
+      by_order l = ends_short _ _ _ (omega (arith, length_part file from (to - from) l))
 
   module _ {here : Front} {end : ℕ} (i : Passing file t p from to here end) where
-    pub pass-room : end - from ≤ here.size
-    pass-room = omega (arith, i.even, i.low, i.high, i.enough)
+    pub pass_room : end - from ≤ here.size
+    pass_room = omega (arith, i.even, i.low, i.high, i.enough)
 
-    pub pass-turn : {next : Front} → StretchPassed file t here from end (Passed.Over next)
+    pub pass_turn : {next : Front} → StretchPassed file t here from end (Passed.Over next)
         → Passing file t p from to next (end - (here.size - next.size))
     unfolding StretchPassed
-    pass-turn {next} (m, room) =
+    pass_turn {next} (m, room) =
         let d = here.size - next.size in
         let e = p.size - here.size in
         let all : p.size - next.size ≡ d + e = omega (arith, m.fewer, i.even, i.high) in
         let up : next.size + d ≡ here.size = omega (arith, m.fewer) in
         let low = low_turn d from end room i.low in
-        let gone = gone-turn d end to low.0 i.high in
-        let mine : part (frontBytes file t p) next.size d ≡ part file (end - d) d =
-        sym (ap (λ (l : List ℕ). part l next.size d) i.front ∙ part-front (frontBytes file t p) here.size next.size d (omega (arith, m.fewer))) ∙ m.same in
+        let gone = gone_turn d end to low.0 i.high in
+        let mine : part (front_bytes file t p) next.size d ≡ part file (end - d) d =
+        sym (ap (λ (l : List ℕ). part l next.size d) i.front ∙ part_front (front_bytes file t p) here.size next.size d (omega (arith, m.fewer))) ∙ m.same in
         record {
           fitting = m.fitting;
           low = low.1;
           high = omega (arith, i.high);
           enough = i.enough;
-          even = even-turn _ _ _ _ _ _ up i.even low.0;
+          even = even_turn _ _ _ _ _ _ up i.even low.0;
           front = m.front ∙ ap (take next.size) i.front ∙ take-take next.size here.size _ m.fewer;
           same =
-              ap (λ (k : ℕ). part (frontBytes file t p) next.size k) all
-              ∙ part_join (frontBytes file t p) next.size d e
-              ∙ ap (λ (l : List ℕ). l ++ part (frontBytes file t p) (next.size + d) e) mine
-              ∙ ap (λ (k : ℕ). part file (end - d) d ++ part (frontBytes file t p) k e) up
+              ap (λ (k : ℕ). part (front_bytes file t p) next.size k) all
+              ∙ part_join (front_bytes file t p) next.size d e
+              ∙ ap (λ (l : List ℕ). l ++ part (front_bytes file t p) (next.size + d) e) mine
+              ∙ ap (λ (k : ℕ). part file (end - d) d ++ part (front_bytes file t p) k e) up
               ∙ ap (λ (l : List ℕ). part file (end - d) d ++ l) i.same
               ∙ ap (λ (k : ℕ). part file (end - d) d ++ part file k (to - end)) (sym gone.1)
               ∙ sym (part_join file (end - d) d (to - end))
@@ -159,39 +159,39 @@ module _ (file : List ℕ) (t : Table) (p : Front) (from to : ℕ) where
         }
 
     -- the bytes passed over are there, and fewer steps or bytes are left
-    pub pass-less : (next : Front) → StretchPassed file t here from end (Passed.Over next)
+    pub pass_less : (next : Front) → StretchPassed file t here from end (Passed.Over next)
         → (next.size ≤ here.size) × (here.size - next.size ≤ end) × (next.left + next.size < here.left + here.size)
     unfolding StretchPassed
-    pass-less next (m, room) = (m.fewer, omega (arith, room, i.low), m.nearer)
+    pass_less next (m, room) = (m.fewer, omega (arith, room, i.low), m.nearer)
 
     module _ (inside : to ≤ length file) where
-      frag-long : length (part file from (to - from)) ≡ to - from
-      frag-long = length_part file from (to - from) (omega (arith, inside, i.low, i.high))
+      frag_long : length (part file from (to - from)) ≡ to - from
+      frag_long = length_part file from (to - from) (omega (arith, inside, i.low, i.high))
 
-      pub pass-over : end ≤ from → BackPassed file t p (part file from (to - from)) (Passed.Over here)
+      pub pass_over : end ≤ from → BackPassed file t p (part file from (to - from)) (Passed.Over here)
       unfolding BackPassed
-      pass-over done =
+      pass_over done =
           let last : end ≡ from = omega (arith, i.low) in
-          let size : here.size ≡ p.size - length (part file from (to - from)) = omega (arith, frag-long, i.even, i.low, i.high) in
-          let gap : p.size - here.size ≡ length (part file from (to - from)) = omega (arith, frag-long, i.even, i.low, i.high) in
-          let same : part (frontBytes file t p) (p.size - length (part file from (to - from))) (length (part file from (to - from))) ≡ part file from (to - from) =
-          ap (λ (k : ℕ). part (frontBytes file t p) k (length (part file from (to - from)))) (sym size)
-          ∙ ap (λ (k : ℕ). part (frontBytes file t p) here.size k) (sym gap)
+          let size : here.size ≡ p.size - length (part file from (to - from)) = omega (arith, frag_long, i.even, i.low, i.high) in
+          let gap : p.size - here.size ≡ length (part file from (to - from)) = omega (arith, frag_long, i.even, i.low, i.high) in
+          let same : part (front_bytes file t p) (p.size - length (part file from (to - from))) (length (part file from (to - from))) ≡ part file from (to - from) =
+          ap (λ (k : ℕ). part (front_bytes file t p) k (length (part file from (to - from)))) (sym size)
+          ∙ ap (λ (k : ℕ). part (front_bytes file t p) here.size k) (sym gap)
           ∙ i.same ∙ ap (λ (k : ℕ). part file k (to - k)) last in
-          (i.fitting, size, i.front, ends-part _ _ _ (omega (arith, frag-long, i.enough)) same)
+          (i.fitting, size, i.front, ends_part _ _ _ (omega (arith, frag_long, i.enough)) same)
 
-      pub pass-differs : StretchPassed file t here from end Passed.Differs → BackPassed file t p (part file from (to - from)) Passed.Differs
+      pub pass_differs : StretchPassed file t here from end Passed.Differs → BackPassed file t p (part file from (to - from)) Passed.Differs
       unfolding StretchPassed BackPassed
-      pass-differs (n, few, other) =
+      pass_differs (n, few, other) =
           let f = part file from (to - from) in
           let at = end - n - from in
-          let mine : part (frontBytes file t here) (here.size - n) n ≡ part (frontBytes file t p) (p.size - length f + at) n =
-          let front : here.size - n ≡ p.size - length f + at = omega (arith, frag-long, i.even, i.low, i.high, i.enough) in
+          let mine : part (front_bytes file t here) (here.size - n) n ≡ part (front_bytes file t p) (p.size - length f + at) n =
+          let front : here.size - n ≡ p.size - length f + at = omega (arith, frag_long, i.even, i.low, i.high, i.enough) in
           ap (λ (l : List ℕ). part l (here.size - n) n) i.front
-          ∙ part-front (frontBytes file t p) here.size (here.size - n) n (omega (arith, i.even, i.low, i.high, i.enough))
-          ∙ ap (λ (k : ℕ). part (frontBytes file t p) k n) front in
+          ∙ part_front (front_bytes file t p) here.size (here.size - n) n (omega (arith, i.even, i.low, i.high, i.enough))
+          ∙ ap (λ (k : ℕ). part (front_bytes file t p) k n) front in
           let yours : part file (end - n) n ≡ part f at n =
           let front : end - n ≡ from + at = omega (arith, i.low) in
           ap (λ (k : ℕ). part file k n) front ∙ sym (part-part file from (to - from) at n (omega (arith, i.low, i.high))) in
-          ends-differs (frontBytes file t p) p.size f at n (omega (arith, frag-long, i.enough)) (omega (arith, frag-long, i.low, i.high))
+          ends_differs (front_bytes file t p) p.size f at n (omega (arith, frag_long, i.enough)) (omega (arith, frag_long, i.low, i.high))
           (rw (mine, yours) at other)

@@ -15,87 +15,87 @@ use Rattle.layout.specs.declared.table.Table.{Table}
 use Rattle.layout.specs.declared.item.Item.{Item}
 use Rattle.layout.specs.Item.{item_at}
 use Rattle.read_chain.specs.declared.chain.Step.{Step}
-use Rattle.read_chain.specs.Chain.{Joined, append, joinStep, key_of, climbFrom, fragmentOf, names}
-use Rattle.read_listing.proofs.AnswerLaws.{key-2}
-use Rattle.read_chain.proofs.ChainLaws.{StepFits, climb-fits, fragment-taken}
+use Rattle.read_chain.specs.Chain.{Joined, append, join_step, key_of, climb_from, fragment_of, names}
+use Rattle.read_listing.proofs.AnswerLaws.{key_2}
+use Rattle.read_chain.proofs.ChainLaws.{StepFits, climb_fits, fragment_taken}
 use Rattle.read_chain.proofs.MatchLaws.{names-tail}
-use Rattle.read_listing.proofs.WriteLaws.{above, joined-above}
+use Rattle.read_listing.proofs.WriteLaws.{above, joined_above}
 use Rattle.check_keys.specs.declared.search.Compared.{Compared}
 use Rattle.check_keys.specs.declared.front.Front.{Front}
 use Rattle.check_keys.specs.declared.front.Passed.{Passed}
 use Rattle.check_hash.specs.Key.{bytes_of, Keyed}
-use Rattle.check_keys.specs.Front.{frontAt, frontBytes, FrontFits, BackPassed, ItemCompared}
-use Rattle.check_hash.proofs.KeyLaws.{sized-bytes}
-use Rattle.check_keys.proofs.PartLaws.{empty-length}
-use Rattle.check_keys.proofs.FrontLaws.{fitting-start, front_long}
+use Rattle.check_keys.specs.Front.{front_at, front_bytes, FrontFits, BackPassed, ItemCompared}
+use Rattle.check_hash.proofs.KeyLaws.{sized_bytes}
+use Rattle.check_keys.proofs.PartLaws.{empty_length}
+use Rattle.check_keys.proofs.FrontLaws.{fitting_start, front_long}
 
 -- ---- one item, whose fragment's offset is at hand
 
 module _ (file : List ℕ) (t : Table) (at : ℕ) {item : Item} (is : item ≡ item_at file t at) where
-  pub same-refused : (p : Front) {why : Refusal} → climbFrom file t.count item ≡ Step.Refused why → ItemCompared file t at p (Compared.Ended false)
-  unfolding ItemCompared key_of joinStep names
-  same-refused p e steps = rw (← is, e)
+  pub same_refused : (p : Front) {why : Refusal} → climb_from file t.count item ≡ Step.Refused why → ItemCompared file t at p (Compared.Ended false)
+  unfolding ItemCompared key_of join_step names
+  same_refused p e steps = rw (← is, e)
 
-  pub same-outside : (p : Front) {start size : ℕ} → start ≡ item.key → size ≡ item.size → length file < start + size → ItemCompared file t at p (Compared.Ended false)
+  pub same_outside : (p : Front) {start size : ℕ} → start ≡ item.key → size ≡ item.size → length file < start + size → ItemCompared file t at p (Compared.Ended false)
   unfolding ItemCompared names
-  same-outside p from long past steps =
+  same_outside p from long past steps =
       let outside : length file < (item_at file t at).key + (item_at file t at).size = omega (arith, from ∙ ap (λ (i : Item). i.key) is, long ∙ ap (λ (i : Item). i.size) is) in
-      rw (key-2 file t steps at outside)
+      rw (key_2 file t steps at outside)
 
-  key_above : {s : Step} → climbFrom file t.count item ≡ s → (steps : ℕ)
-      → key_of file t (suc steps) at ≡ append (above s (λ q. key_of file t steps q)) (fragmentOf file item)
+  key_above : {s : Step} → climb_from file t.count item ≡ s → (steps : ℕ)
+      → key_of file t (suc steps) at ≡ append (above s (λ q. key_of file t steps q)) (fragment_of file item)
   unfolding key_of
-  key_above e steps = rw (← is, e) (joined-above _ _ _)
+  key_above e steps = rw (← is, e) (joined_above _ _ _)
 
   module _ {p : Front} (fitting : FrontFits file t p) {start size : ℕ} (from : start ≡ item.key) (long : size ≡ item.size) where
-    names-above : {s : Step} → climbFrom file t.count item ≡ s → (steps : ℕ) → names (key_of file t (suc steps) at) (frontBytes file t p)
-        ≡ pick (ends_at (frontBytes file t p) p.size (take (start + size - start) (drop start file)))
-        (names (above s (λ q. key_of file t steps q)) (take (p.size - length (take (start + size - start) (drop start file))) (frontBytes file t p))) false
-    names-above {s} e steps =
-        let k = frontBytes file t p in
+    names_above : {s : Step} → climb_from file t.count item ≡ s → (steps : ℕ) → names (key_of file t (suc steps) at) (front_bytes file t p)
+        ≡ pick (ends_at (front_bytes file t p) p.size (take (start + size - start) (drop start file)))
+        (names (above s (λ q. key_of file t steps q)) (take (p.size - length (take (start + size - start) (drop start file))) (front_bytes file t p))) false
+    names_above {s} e steps =
+        let k = front_bytes file t p in
         let j = above s (λ q. key_of file t steps q) in
         let form : ℕ → List ℕ → Bool = λ n f. pick (ends_at k n f) (names j (take (n - length f) k)) false in
-        ap (λ (z : Joined). names z k) (key_above e steps) ∙ names-tail j (fragmentOf file item) k
-        ∙ ap (λ (n : ℕ). form n (fragmentOf file item)) (front_long file t fitting)
-        ∙ ap (form p.size) (sym (fragment-taken file item from long))
+        ap (λ (z : Joined). names z k) (key_above e steps) ∙ names-tail j (fragment_of file item) k
+        ∙ ap (λ (n : ℕ). form n (fragment_of file item)) (front_long file t fitting)
+        ∙ ap (form p.size) (sym (fragment_taken file item from long))
 
     module _ (q : Front) (passed : BackPassed file t p (take (start + size - start) (drop start file)) (Passed.Over q)) where
-      over-names : {s : Step} → climbFrom file t.count item ≡ s → (steps : ℕ)
-          → names (key_of file t (suc steps) at) (frontBytes file t p) ≡ names (above s (λ q. key_of file t steps q)) (frontBytes file t q)
+      over_names : {s : Step} → climb_from file t.count item ≡ s → (steps : ℕ)
+          → names (key_of file t (suc steps) at) (front_bytes file t p) ≡ names (above s (λ q. key_of file t steps q)) (front_bytes file t q)
       unfolding BackPassed
-      over-names {s} e steps =
-          names-above e steps ∙ pick_true _ _ passed.3
-          ∙ ap (λ (n : ℕ). names (above s (λ q. key_of file t steps q)) (take n (frontBytes file t p))) (sym passed.1)
+      over_names {s} e steps =
+          names_above e steps ∙ pick_true _ _ passed.3
+          ∙ ap (λ (n : ℕ). names (above s (λ q. key_of file t steps q)) (take n (front_bytes file t p))) (sym passed.1)
           ∙ ap (names (above s (λ q. key_of file t steps q))) (sym passed.2)
 
-      pub root_over : climbFrom file t.count item ≡ Step.Root → ItemCompared file t at p (Compared.Ended (eqb q.size 0))
+      pub root_over : climb_from file t.count item ≡ Step.Root → ItemCompared file t at p (Compared.Ended (eqb q.size 0))
       unfolding ItemCompared BackPassed above names
-      root_over e steps = empty-length (frontBytes file t q) (front_long file t passed.0) ∙ sym (over-names e steps)
+      root_over e steps = empty_length (front_bytes file t q) (front_long file t passed.0) ∙ sym (over_names e steps)
 
-      pub up-over : {parent : ℕ} → climbFrom file t.count item ≡ Step.Up parent → ItemCompared file t at p (Compared.Rest parent q)
+      pub up_over : {parent : ℕ} → climb_from file t.count item ≡ Step.Up parent → ItemCompared file t at p (Compared.Rest parent q)
       unfolding ItemCompared BackPassed above StepFits
-      up-over e =
-          ((subst (StepFits file t.count item) e (climb-fits file t.count item)).1, passed.0, λ steps. over-names e steps)
+      up_over e =
+          ((subst (StepFits file t.count item) e (climb_fits file t.count item)).1, passed.0, λ steps. over_names e steps)
 
-    pub ended-differs : BackPassed file t p (take (start + size - start) (drop start file)) Passed.Differs
+    pub ended_differs : BackPassed file t p (take (start + size - start) (drop start file)) Passed.Differs
         → ItemCompared file t at p (Compared.Ended false)
     unfolding ItemCompared BackPassed
-    ended-differs other steps = sym (names-above refl steps ∙ pick-false _ _ other)
+    ended_differs other steps = sym (names_above refl steps ∙ pick-false _ _ other)
 
 -- ---- the loop: what the present item's chain says of the present front is what the whole chain says of the whole key
 
 pub record Comparing (file : List ℕ) (t : Table) (first : ℕ) (key : List ℕ) (here : Front) (at left : ℕ) : Type 0 where
   pub below : at < t.count
   pub fitting : FrontFits file t here
-  pub same : names (key_of file t left at) (frontBytes file t here) ≡ names (key_of file t t.count first) key
+  pub same : names (key_of file t left at) (front_bytes file t here) ≡ names (key_of file t t.count first) key
 
-pub same_start : (file : List ℕ) (t : Table) {first index size : ℕ} → first < t.count → Keyed file t index size → {here : Front} → here ≡ frontAt file t index size t.count
+pub same_start : (file : List ℕ) (t : Table) {first index size : ℕ} → first < t.count → Keyed file t index size → {here : Front} → here ≡ front_at file t index size t.count
     → Comparing file t first (bytes_of (key_of file t t.count index)) here first t.count
-unfolding frontBytes frontAt
+unfolding front_bytes front_at
 same_start file t {first} {index} {size} h k {here} is =
-    let long : length (bytes_of (key_of file t t.count index)) ≡ size = sized-bytes _ k.sized in
-    let z : Comparing file t first (bytes_of (key_of file t t.count index)) (frontAt file t index size t.count) first t.count =
-    record { below = h; fitting = fitting-start file t k; same = ap (names (key_of file t t.count first)) (take_all size _ (omega arith)) } in
+    let long : length (bytes_of (key_of file t t.count index)) ≡ size = sized_bytes _ k.sized in
+    let z : Comparing file t first (bytes_of (key_of file t t.count index)) (front_at file t index size t.count) first t.count =
+    record { below = h; fitting = fitting_start file t k; same = ap (names (key_of file t t.count first)) (take_all size _ (omega arith)) } in
     subst (λ (p : Front). Comparing file t first (bytes_of (key_of file t t.count index)) p first t.count) (sym is) z
 
 module _ (file : List ℕ) (t : Table) (first : ℕ) (key : List ℕ) {here : Front} {at left : ℕ} (i : Comparing file t first key here at left) where
@@ -103,13 +103,13 @@ module _ (file : List ℕ) (t : Table) (first : ℕ) (key : List ℕ) {here : Fr
   unfolding key_of names
   same_over h =
       let none : left ≡ 0 = omega arith in
-      ap (λ (n : ℕ). names (key_of file t n at) (frontBytes file t here)) (sym none) ∙ i.same
+      ap (λ (n : ℕ). names (key_of file t n at) (front_bytes file t here)) (sym none) ∙ i.same
 
   module _ (h : 0 < left) where
-    turned : names (key_of file t (suc (left - 1)) at) (frontBytes file t here) ≡ names (key_of file t t.count first) key
+    turned : names (key_of file t (suc (left - 1)) at) (front_bytes file t here) ≡ names (key_of file t t.count first) key
     turned =
         let one : suc (left - 1) ≡ left = omega arith in
-        ap (λ (n : ℕ). names (key_of file t n at) (frontBytes file t here)) one ∙ i.same
+        ap (λ (n : ℕ). names (key_of file t n at) (front_bytes file t here)) one ∙ i.same
 
     pub same_ended : {answer : Bool} → ItemCompared file t at here (Compared.Ended answer) → answer ≡ names (key_of file t t.count first) key
     unfolding ItemCompared

@@ -1,9 +1,9 @@
 // The front of an item's joined key that is still to be compared. It is cut from its end, by stretches of the file that hold the same bytes.
 ghost use Rattle.std.specs.Prelude.{◌≡◌, ◌+◌, ◌-◌, ◌≤◌, ◌<◌, length};
 ghost use Rattle.words.specs.Store.{part};
-ghost use Rattle.key_order.specs.Compare.{sameBytes};
+ghost use Rattle.key_order.specs.Compare.{same_bytes};
 ghost use Rattle.layout.specs.Table.{InFile};
-ghost use Rattle.check_keys.specs.Front.{frontAt, frontBytes, FrontFits, Raised, StretchPassed, BackPassed, smaller};
+ghost use Rattle.check_keys.specs.Front.{front_at, front_bytes, FrontFits, Raised, StretchPassed, BackPassed, smaller};
 
 use key_order::compare::same_bytes;
 use layout::item::item_at;
@@ -30,7 +30,7 @@ pub enum Passed {
 // The front of `size` bytes that ends with the fragment of item `at`.
 pub fn front_at(file: &[u8], table: Table, at: usize, size: usize, left: usize) -> Front
     requires { InFile file.now table × (at < table.count) }
-    ensures { result ≡ frontAt file.now table at size left }
+    ensures { result ≡ front_at file.now table at size left }
 {
     let item = item_at(file, table, at);
     Front {
@@ -57,7 +57,7 @@ fn raise(file: &[u8], table: Table, front: Front) -> Front
 // Whether the last n bytes of a front, all of them in the item's fragment, are those of the file up to `end`.
 fn same_stretch(file: &[u8], table: Table, front: Front, end: usize, n: usize) -> bool
     requires { InFile file.now table × FrontFits file.now table front × (n ≤ front.rest) × (n ≤ end) × (end ≤ length file.now) }
-    ensures { result ≡ sameBytes (part (frontBytes file.now table front) (front.size - n) n) (part file.now (end - n) n) }
+    ensures { result ≡ same_bytes (part (front_bytes file.now table front) (front.size - n) n) (part file.now (end - n) n) }
 {
     let item = item_at(file, table, front.at);
     let stop = word_size(item.key) + front.rest;

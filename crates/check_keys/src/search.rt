@@ -1,9 +1,9 @@
 // Looking up the joined key of an item, with no buffer for it.
 ghost use Rattle.std.specs.Prelude.{◌≡◌, ◌<◌};
-ghost use Rattle.key_hash.specs.Hash.{hashBy, ruleOf};
+ghost use Rattle.key_hash.specs.Hash.{hash_by, rule_of};
 ghost use Rattle.layout.specs.Table.{InFile};
 ghost use Rattle.read_chain.specs.Chain.{key_of, names};
-ghost use Rattle.read_find.specs.Find.{mannerOf, itemMatches, first_of, findItem};
+ghost use Rattle.read_find.specs.Find.{manner_of, item_matches, first_of, find_item};
 ghost use Rattle.check_hash.specs.Key.{bytes_of, Keyed};
 ghost use Rattle.check_keys.specs.Front.{FrontFits, ItemCompared};
 
@@ -80,8 +80,8 @@ fn joined_matches(
     at: usize,
     manner: Manner,
 ) -> bool
-    requires { Keyed file.now table index size × (at < table.count) × (hash ≡ hashBy (ruleOf manner.form) (bytes_of (key_of file.now table table.count index))) }
-    ensures { result ≡ itemMatches (mannerOf manner) file.now table (bytes_of (key_of file.now table table.count index)) at }
+    requires { Keyed file.now table index size × (at < table.count) × (hash ≡ hash_by (rule_of manner.form) (bytes_of (key_of file.now table table.count index))) }
+    ensures { result ≡ item_matches (manner_of manner) file.now table (bytes_of (key_of file.now table table.count index)) at }
 {
     let item = item_at(file, table, at);
     if item.hash != hash {
@@ -103,8 +103,8 @@ fn first_same(
     run: Run,
     manner: Manner,
 ) -> Found
-    requires { Keyed file.now table index size × (hash ≡ hashBy (ruleOf manner.form) (bytes_of (key_of file.now table table.count index))) }
-    ensures { result ≡ first_of (mannerOf manner) file.now table (bytes_of (key_of file.now table table.count index)) run }
+    requires { Keyed file.now table index size × (hash ≡ hash_by (rule_of manner.form) (bytes_of (key_of file.now table table.count index))) }
+    ensures { result ≡ first_of (manner_of manner) file.now table (bytes_of (key_of file.now table table.count index)) run }
 {
     let last = run.last;
     let count = table.count;
@@ -130,8 +130,8 @@ pub fn find_joined(
     hash: u32,
     manner: Manner,
 ) -> Found
-    requires { Keyed file.now table index size × (hash ≡ hashBy (ruleOf manner.form) (bytes_of (key_of file.now table table.count index))) }
-    ensures { result ≡ findItem (mannerOf manner) file.now table (bytes_of (key_of file.now table table.count index)) }
+    requires { Keyed file.now table index size × (hash ≡ hash_by (rule_of manner.form) (bytes_of (key_of file.now table table.count index))) }
+    ensures { result ≡ find_item (manner_of manner) file.now table (bytes_of (key_of file.now table table.count index)) }
 {
     let buckets = table.buckets;
     if buckets == 0 {

@@ -11,12 +11,12 @@ use lib.Bits.{bit_or, or_zero_r}
 use lib.Pow.{pow-lt, pow-add, shl-shr}
 use lib.Dec.{eqb, ltb}
 use borrow.Author.Tests.{ltb-true, ltb-false, eqb-true, eqb-false, eq-eqb}
-use Rattle.words.proofs.BitLaws.{one-bit-same, or-bit, or-one}
-use Rattle.check_rules.specs.Bits.{hasBit, withBit}
+use Rattle.words.proofs.BitLaws.{one_bit_same, or_bit, or_one}
+use Rattle.check_rules.specs.Bits.{has_bit, with_bit}
 
 -- another bit of a power of two
-bit-above : (b c : ℕ) → b < c → 2 ^ b / 2 ^ c % 2 ≡ 0
-bit-above b c h = ap (λ (n : ℕ). n % 2) (div-eq_of_lt (pow-lt h))
+bit_above : (b c : ℕ) → b < c → 2 ^ b / 2 ^ c % 2 ≡ 0
+bit_above b c h = ap (λ (n : ℕ). n % 2) (div-eq_of_lt (pow-lt h))
 
 bit_below : (b c : ℕ) → c < b → 2 ^ b / 2 ^ c % 2 ≡ 0
 bit_below b c h =
@@ -28,55 +28,55 @@ bit_below b c h =
     ∙ ap (λ (n : ℕ). n % 2) (pow-suc 2 d)
     ∙ mul-mod_left (2 ^ d) 2
 
-one-bit-other : (b c : ℕ) → (b ≡ c → ⊥) → 2 ^ b / 2 ^ c % 2 ≡ 0
-one-bit-other b c n = by-case (ltb b c) refl
+one_bit_other : (b c : ℕ) → (b ≡ c → ⊥) → 2 ^ b / 2 ^ c % 2 ≡ 0
+one_bit_other b c n = by_case (ltb b c) refl
   where
-    by-case : (t : Bool) → ltb b c ≡ t → 2 ^ b / 2 ^ c % 2 ≡ 0
-    by-case true e = bit-above b c (ltb-true b c e)
-    by-case false e = let l : c ≤ b = ltb-false b c e in bit_below b c (omega arith)
+    by_case : (t : Bool) → ltb b c ≡ t → 2 ^ b / 2 ^ c % 2 ≡ 0
+    by_case true e = bit_above b c (ltb-true b c e)
+    by_case false e = let l : c ≤ b = ltb-false b c e in bit_below b c (omega arith)
 
 -- what is in the set after an index is put in
 module _ (bits : List ℕ) (at : ℕ) (h : at < 64 * length bits) where
-  pub bit-same : hasBit (withBit bits at) at ≡ true
-  unfolding hasBit withBit
-  bit-same =
+  pub bit_same : has_bit (with_bit bits at) at ≡ true
+  unfolding has_bit with_bit
+  bit_same =
       let w = get_or bits (at / 64) 0 in
       let l : at / 64 < length bits = omega arith in
       eq-eqb _ _ (ap (λ (n : ℕ). n / 2 ^ (at % 64) % 2) (get_or-set_same bits (at / 64) _ 0 l)
-      ∙ or-bit w (2 ^ (at % 64)) (at % 64) ∙ ap (bit_or (w / 2 ^ (at % 64) % 2)) (one-bit-same (at % 64)) ∙ or-one (w / 2 ^ (at % 64) % 2) (omega arith))
+      ∙ or_bit w (2 ^ (at % 64)) (at % 64) ∙ ap (bit_or (w / 2 ^ (at % 64) % 2)) (one_bit_same (at % 64)) ∙ or_one (w / 2 ^ (at % 64) % 2) (omega arith))
 
-  other-bit : (other : ℕ) → (other ≡ at → ⊥) → get_or (withBit bits at) (other / 64) 0 / 2 ^ (other % 64) % 2 ≡ get_or bits (other / 64) 0 / 2 ^ (other % 64) % 2
-  unfolding withBit
-  other-bit other n = by-case (eqb (other / 64) (at / 64)) refl
+  other_bit : (other : ℕ) → (other ≡ at → ⊥) → get_or (with_bit bits at) (other / 64) 0 / 2 ^ (other % 64) % 2 ≡ get_or bits (other / 64) 0 / 2 ^ (other % 64) % 2
+  unfolding with_bit
+  other_bit other n = by_case (eqb (other / 64) (at / 64)) refl
     where
-      by-case : (t : Bool) → eqb (other / 64) (at / 64) ≡ t
+      by_case : (t : Bool) → eqb (other / 64) (at / 64) ≡ t
           → get_or (set bits (at / 64) (bit_or (get_or bits (at / 64) 0) (2 ^ (at % 64)))) (other / 64) 0 / 2 ^ (other % 64) % 2 ≡ get_or bits (other / 64) 0 / 2 ^ (other % 64) % 2
-      by-case true e =
+      by_case true e =
           let same : other / 64 ≡ at / 64 = eqb-true _ _ e in
           let l : at / 64 < length bits = omega arith in
           let differ : at % 64 ≡ other % 64 → ⊥ = λ f. n (omega arith) in
           let w = get_or bits (at / 64) 0 in
           rw same (ap (λ (m : ℕ). m / 2 ^ (other % 64) % 2) (get_or-set_same bits (at / 64) _ 0 l)
-          ∙ or-bit w (2 ^ (at % 64)) (other % 64) ∙ ap (bit_or (w / 2 ^ (other % 64) % 2)) (one-bit-other (at % 64) (other % 64) differ) ∙ or_zero_r _)
-      by-case false e = ap (λ (m : ℕ). m / 2 ^ (other % 64) % 2) (get_or-set_other bits (at / 64) (other / 64) _ 0 (eqb-false _ _ e))
+          ∙ or_bit w (2 ^ (at % 64)) (other % 64) ∙ ap (bit_or (w / 2 ^ (other % 64) % 2)) (one_bit_other (at % 64) (other % 64) differ) ∙ or_zero_r _)
+      by_case false e = ap (λ (m : ℕ). m / 2 ^ (other % 64) % 2) (get_or-set_other bits (at / 64) (other / 64) _ 0 (eqb-false _ _ e))
 
-  pub bit-other : (other : ℕ) → (other ≡ at → ⊥) → hasBit (withBit bits at) other ≡ hasBit bits other
-  unfolding hasBit
-  bit-other other n = ap (λ (m : ℕ). eqb m 1) (other-bit other n)
+  pub bit_other : (other : ℕ) → (other ≡ at → ⊥) → has_bit (with_bit bits at) other ≡ has_bit bits other
+  unfolding has_bit
+  bit_other other n = ap (λ (m : ℕ). eqb m 1) (other_bit other n)
 
-pub length-bit : (bits : List ℕ) (at : ℕ) → length (withBit bits at) ≡ length bits
-unfolding withBit
-length-bit bits at = length-set bits _ _
+pub length_bit : (bits : List ℕ) (at : ℕ) → length (with_bit bits at) ≡ length bits
+unfolding with_bit
+length_bit bits at = length-set bits _ _
 
 -- an array of zeros has no bit set
-zeros-at : (n i : ℕ) → ◌≡◌ {A = ℕ} (get_or (replicate n 0) i 0) 0
-zeros-at zero i = refl
-zeros-at (suc n) zero = refl
-zeros-at (suc n) (suc i) = zeros-at n i
+zeros_at : (n i : ℕ) → ◌≡◌ {A = ℕ} (get_or (replicate n 0) i 0) 0
+zeros_at zero i = refl
+zeros_at (suc n) zero = refl
+zeros_at (suc n) (suc i) = zeros_at n i
 
-pub none-bit-set : (n c : ℕ) → hasBit (replicate n 0) c ≡ false
-unfolding hasBit
-none-bit-set n c =
+pub none-bit_set : (n c : ℕ) → has_bit (replicate n 0) c ≡ false
+unfolding has_bit
+none-bit_set n c =
     let e : get_or (replicate n 0) (c / 64) 0 / 2 ^ (c % 64) % 2 ≡ 0 =
-    ap (λ (w : ℕ). w / 2 ^ (c % 64) % 2) (zeros-at n (c / 64)) ∙ ap (λ (w : ℕ). w % 2) (zero-div (2 ^ (c % 64))) in
+    ap (λ (w : ℕ). w / 2 ^ (c % 64) % 2) (zeros_at n (c / 64)) ∙ ap (λ (w : ℕ). w % 2) (zero-div (2 ^ (c % 64))) in
     rw e

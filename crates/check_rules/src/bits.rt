@@ -1,11 +1,11 @@
 // A set of item indices: a bit each, 64 to a word.
 ghost use Rattle.std.specs.Prelude.{◌≡◌, ◌*◌, ◌<◌, length};
-ghost use Rattle.check_rules.specs.Bits.{hasBit, withBit};
+ghost use Rattle.check_rules.specs.Bits.{has_bit, with_bit};
 
 // Whether an index is in the set.
 pub fn has_bit(bits: &[usize], at: usize) -> bool
     requires { at < 64 * length bits.now }
-    ensures { result ≡ hasBit bits.now at }
+    ensures { result ≡ has_bit bits.now at }
 {
     (bits[at / 64] >> (at % 64)) & 1 == 1
 }
@@ -13,7 +13,7 @@ pub fn has_bit(bits: &[usize], at: usize) -> bool
 // Puts an index into the set.
 pub fn set_bit(bits: &mut [usize], at: usize)
     requires { at < 64 * length bits.old }
-    ensures { bits.new ≡ withBit bits.old at }
+    ensures { bits.new ≡ with_bit bits.old at }
 {
     let word = at / 64;
     bits[word] = bits[word] | (1 << (at % 64));

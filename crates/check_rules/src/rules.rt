@@ -1,11 +1,11 @@
 // The rules of an item that are tested by themselves: 1 and 2 of its key, 4 of its value, and whether a container lists an index.
 ghost use Rattle.std.specs.Prelude.{◌≡◌, ◌+◌, ◌*◌, ◌≤◌, ◌<◌, length};
-ghost use Rattle.layout.specs.Table.{InFile, openTable};
-ghost use Rattle.layout.specs.Pointer.{openPointer};
-ghost use Rattle.read_listing.specs.Children.{childCount};
-ghost use Rattle.read_find.specs.Find.{mannerOf};
-ghost use Rattle.check_rules.specs.Rules.{isInside, isTable, listOpens, valueOpens, among, listsIt};
-ghost use Rattle.check_rules.specs.Survey.{keyRule};
+ghost use Rattle.layout.specs.Table.{InFile, open_table};
+ghost use Rattle.layout.specs.Pointer.{open_pointer};
+ghost use Rattle.read_listing.specs.Children.{child_count};
+ghost use Rattle.read_find.specs.Find.{manner_of};
+ghost use Rattle.check_rules.specs.Rules.{is_inside, is_table, list_opens, value_opens, among, lists_it};
+ghost use Rattle.check_rules.specs.Survey.{key_rule};
 
 use check_hash::tally::{JoinedKey, joined_key};
 use check_keys::search::find_joined;
@@ -23,7 +23,7 @@ use words::wide::word_size;
 // Which of rules 1 and 2 the item's key breaks first; 0 for neither.
 pub fn key_rule(file: &[u8], table: Table, index: usize, manner: Manner) -> u32
     requires { InFile file.now table × (index < table.count) }
-    ensures { result ≡ keyRule (mannerOf manner) file.now table index }
+    ensures { result ≡ key_rule (manner_of manner) file.now table index }
 {
     let form = manner.form;
     match joined_key(file, table, index, form) {
@@ -37,7 +37,7 @@ pub fn key_rule(file: &[u8], table: Table, index: usize, manner: Manner) -> u32
 
 // Rule 4 of a value: its pointer opens at alignment 8.
 fn value_inside(file: &[u8], item: Item) -> bool
-    ensures { result ≡ isInside (openPointer (length file.now) item.from item.to 8) }
+    ensures { result ≡ is_inside (open_pointer (length file.now) item.from item.to 8) }
 {
     match open_value(file, item, Alignment::Value) {
         Pointed::Refused(_) => false,
@@ -47,7 +47,7 @@ fn value_inside(file: &[u8], item: Item) -> bool
 
 // Rule 4 of a nested table: it opens.
 fn nested_opens(file: &[u8], item: Item) -> bool
-    ensures { result ≡ isTable (openTable file.now item.from item.to) }
+    ensures { result ≡ is_table (open_table file.now item.from item.to) }
 {
     match open_table(file, item.from, item.to) {
         Opened::Refused(_) => false,
@@ -57,7 +57,7 @@ fn nested_opens(file: &[u8], item: Item) -> bool
 
 // Rule 4 of a container: its list opens, and has a length divisible by 4.
 fn list_opens(file: &[u8], item: Item) -> bool
-    ensures { result ≡ listOpens file.now item }
+    ensures { result ≡ list_opens file.now item }
 {
     let from = word_size(item.from);
     let to = word_size(item.to);
@@ -69,7 +69,7 @@ fn list_opens(file: &[u8], item: Item) -> bool
 
 // Rule 4: the value pointer opens, as its kind asks.
 pub fn value_opens(file: &[u8], item: Item) -> bool
-    ensures { result ≡ valueOpens file.now item }
+    ensures { result ≡ value_opens file.now item }
 {
     let kind = item.kind;
     if kind == VALUE_BYTE {
@@ -101,7 +101,7 @@ fn is_among(file: &[u8], from: usize, n: usize, index: usize) -> bool
 
 // Whether an item is a container that keeps rule 4 and lists an index.
 pub fn lists_it(file: &[u8], index: usize, parent: Item) -> bool
-    ensures { result ≡ listsIt file.now index parent }
+    ensures { result ≡ lists_it file.now index parent }
 {
     if parent.kind != CONTAINER_BYTE {
         return false;

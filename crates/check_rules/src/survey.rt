@@ -2,8 +2,8 @@
 ghost use Rattle.std.specs.Prelude.{◌≡◌, ◌+◌, ◌*◌, ◌≤◌, length};
 ghost use Rattle.words.specs.Below.{all_below};
 ghost use Rattle.layout.specs.Table.{InFile};
-ghost use Rattle.check_rules.specs.Rules.{childGood, among, listsIt};
-ghost use Rattle.check_rules.specs.Survey.{freshChild, afterChild, fiveOrShut, Fresh, Surveying, Survey, Blank};
+ghost use Rattle.check_rules.specs.Rules.{child_good, among, lists_it};
+ghost use Rattle.check_rules.specs.Survey.{fresh_child, after_child, five_or_shut, Fresh, Surveying, Survey, Blank};
 
 use crate::bits::{has_bit, set_bit};
 use crate::rules::value_opens;
@@ -17,8 +17,8 @@ use words::wide::word_size;
 // Sets the bit of a child that is an item, names the container as its parent, and has no bit yet. Answers whether it is such a child.
 fn survey_child(file: &[u8], table: Table, index: usize, child: usize, bits: &mut [usize]) -> bool
     requires { InFile file.now table × (table.count ≤ 64 * length bits.old) }
-    ensures said { result ≡ freshChild file.now table index bits.old child }
-    ensures wrote { bits.new ≡ afterChild result bits.old child }
+    ensures said { result ≡ fresh_child file.now table index bits.old child }
+    ensures wrote { bits.new ≡ after_child result bits.old child }
 {
     if table.count <= child {
         return false;
@@ -45,7 +45,7 @@ fn survey_children(
 ) -> bool
     requires in_file { InFile file.now table × (from + 4 * n ≤ length file.now) }
     requires fresh { Fresh file.now table index bits.old }
-    ensures said { result ≡ all_below (childGood file.now table index from) n }
+    ensures said { result ≡ all_below (child_good file.now table index from) n }
     ensures wrote { Surveying file.now table index (among file.now from n) bits.old bits.new result }
 {
     let mut k = 0;
@@ -63,8 +63,8 @@ fn survey_children(
 fn survey_container(file: &[u8], table: Table, index: usize, item: Item, bits: &mut [usize]) -> bool
     requires in_file { InFile file.now table }
     requires fresh { Fresh file.now table index bits.old }
-    ensures said { result ≡ fiveOrShut file.now table index item }
-    ensures wrote { Surveying file.now table index (λ c. listsIt file.now c item) bits.old bits.new result }
+    ensures said { result ≡ five_or_shut file.now table index item }
+    ensures wrote { Surveying file.now table index (λ c. lists_it file.now c item) bits.old bits.new result }
 {
     if item.kind != CONTAINER_BYTE {
         return true;

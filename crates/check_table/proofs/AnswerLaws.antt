@@ -5,46 +5,46 @@ use mathlib.Core.Path.{◌≡◌, ap, ◌∙◌}
 use mathlib.Core.List.{List}
 use Rattle.layout.specs.declared.refusal.Refusal.{Refusal}
 use Rattle.layout.specs.declared.table.Opened.{Opened}
-use Rattle.layout.specs.Refusal.{number, badAt}
-use Rattle.layout.specs.Table.{openTable}
+use Rattle.layout.specs.Refusal.{number, bad_at}
+use Rattle.layout.specs.Table.{open_table}
 use Rattle.read_chain.specs.Chain.{Joined}
 use Rattle.read_listing.specs.Listing.{key_at}
-use Rattle.check_rules.specs.Rules.{checkTable}
-use Rattle.check_rules.specs.Answer.{checkedNumber, checkedRule, checkedItem, checkedWhy, checkedAt}
+use Rattle.check_rules.specs.Rules.{check_table}
+use Rattle.check_rules.specs.Answer.{checked_number, checked_rule, checked_item, checked_why, checked_at}
 use Rattle.check_table.specs.Sound.{SoundTable}
 use Rattle.check_rules.specs.Broken.{BrokenAt}
-use Rattle.check_table.proofs.ExplainLaws.{explained-same}
-use Rattle.check_table.proofs.SoundLaws.{passes-exactly-the-sound}
+use Rattle.check_table.proofs.ExplainLaws.{explained_same}
+use Rattle.check_table.proofs.SoundLaws.{passes_exactly_the_sound}
 use Rattle.read_find.specs.Find.{Manner}
-use Rattle.check_table.proofs.BrokenLaws.{at-broken, names-the-first, refused-as-opening}
+use Rattle.check_table.proofs.BrokenLaws.{at_broken, names_the_first, refused_as_opening}
 
 module _ (manner : Manner) (file : List ℕ) (start end : ℕ) where
-  pub check-0 : SoundTable manner file start end → checkedNumber (checkTable manner file start end) ≡ 0
-  unfolding checkedNumber
-  check-0 sound = ap checkedNumber ((passes-exactly-the-sound manner file start end).1 sound)
+  pub check_0 : SoundTable manner file start end → checked_number (check_table manner file start end) ≡ 0
+  unfolding checked_number
+  check_0 sound = ap checked_number ((passes_exactly_the_sound manner file start end).1 sound)
 
-  pub check-40 : {broken item : ℕ} → BrokenAt manner file start end broken item
-      → (checkedNumber (checkTable manner file start end) ≡ 40) × (checkedRule (checkTable manner file start end) ≡ broken) × (checkedItem (checkTable manner file start end) ≡ item)
-  check-40 {broken} {item} b =
-      let e = at-broken manner file start end b in
-      let same = explained-same file b.table broken item in
-      (ap checkedNumber e ∙ same.number, ap checkedRule e ∙ same.rule, ap checkedItem e ∙ same.item)
+  pub check_40 : {broken item : ℕ} → BrokenAt manner file start end broken item
+      → (checked_number (check_table manner file start end) ≡ 40) × (checked_rule (check_table manner file start end) ≡ broken) × (checked_item (check_table manner file start end) ≡ item)
+  check_40 {broken} {item} b =
+      let e = at_broken manner file start end b in
+      let same = explained_same file b.table broken item in
+      (ap checked_number e ∙ same.number, ap checked_rule e ∙ same.rule, ap checked_item e ∙ same.item)
 
   -- with rule 1 the number and the offset of what listing the item refuses with, and with no other
-  pub check-why : {item : ℕ} {why : Refusal} → BrokenAt manner file start end 1 item → key_at file start end item ≡ Joined.broken why
-      → (checkedWhy (checkTable manner file start end) ≡ number why) × (checkedAt (checkTable manner file start end) ≡ badAt why)
-  unfolding checkedWhy checkedAt
-  check-why {item} {why} b key =
-      let e = ((names-the-first manner file start end item).1 why).1 (b, key) in
-      (ap checkedWhy e, ap checkedAt e)
+  pub check_why : {item : ℕ} {why : Refusal} → BrokenAt manner file start end 1 item → key_at file start end item ≡ Joined.broken why
+      → (checked_why (check_table manner file start end) ≡ number why) × (checked_at (check_table manner file start end) ≡ bad_at why)
+  unfolding checked_why checked_at
+  check_why {item} {why} b key =
+      let e = ((names_the_first manner file start end item).1 why).1 (b, key) in
+      (ap checked_why e, ap checked_at e)
 
-  pub check-no-why : {broken item : ℕ} → BrokenAt manner file start end broken item → (broken ≡ 1 → ⊥)
-      → (checkedWhy (checkTable manner file start end) ≡ 0) × (checkedAt (checkTable manner file start end) ≡ 0)
-  unfolding checkedWhy checkedAt
-  check-no-why {broken} {item} b other =
-      let e = ((names-the-first manner file start end item).0 broken).1 (b, other) in
-      (ap checkedWhy e, ap checkedAt e)
+  pub check_no_why : {broken item : ℕ} → BrokenAt manner file start end broken item → (broken ≡ 1 → ⊥)
+      → (checked_why (check_table manner file start end) ≡ 0) × (checked_at (check_table manner file start end) ≡ 0)
+  unfolding checked_why checked_at
+  check_no_why {broken} {item} b other =
+      let e = ((names_the_first manner file start end item).0 broken).1 (b, other) in
+      (ap checked_why e, ap checked_at e)
 
-  pub check-opening : {why : Refusal} → openTable file start end ≡ Opened.Refused why → checkedNumber (checkTable manner file start end) ≡ number why
-  unfolding checkedNumber
-  check-opening {why} e = ap checkedNumber ((refused-as-opening manner file start end why).1 e)
+  pub check_opening : {why : Refusal} → open_table file start end ≡ Opened.Refused why → checked_number (check_table manner file start end) ≡ number why
+  unfolding checked_number
+  check_opening {why} e = ap checked_number ((refused_as_opening manner file start end why).1 e)

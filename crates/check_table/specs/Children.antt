@@ -8,37 +8,37 @@ use Rattle.layout.specs.declared.pointer.Pointed.{Pointed}
 use Rattle.layout.specs.declared.table.Opened.{Opened}
 use Rattle.layout.specs.declared.table.Table.{Table}
 use Rattle.layout.specs.declared.item.Item.{Item}
-use Rattle.layout.specs.Kind.{kindByte}
-use Rattle.layout.specs.Table.{openTable}
+use Rattle.layout.specs.Kind.{kind_byte}
+use Rattle.layout.specs.Table.{open_table}
 use Rattle.layout.specs.Item.{item_at}
 use Rattle.read_find.specs.declared.find.Found.{Found}
 use Rattle.read.specs.declared.lookup.Sought.{Sought}
 use Rattle.read_listing.specs.declared.children.Childed.{Childed}
-use Rattle.read.specs.Lookup.{lookupIn}
-use Rattle.read_listing.specs.Children.{childAt, childCount, openList, nextChild}
+use Rattle.read.specs.Lookup.{lookup_in}
+use Rattle.read_listing.specs.Children.{child_at, child_count, open_list, next_child}
 use Rattle.check_rules.specs.Rules.{index_of}
 use Rattle.read_find.specs.Find.{Manner}
 use Rattle.check_table.specs.Sound.{SoundIn}
 
 -- a table that opens and is sound, and a key that looks up its item i, which is a container
 pub record Container (manner : Manner) (file : List ℕ) (start end : ℕ) (key : List ℕ) (t : Table) (i : ℕ) : Type 0 where
-  pub opens : openTable file start end ≡ Opened.Table t
+  pub opens : open_table file start end ≡ Opened.Table t
   pub sound : SoundIn manner file t
   pub finds : index_of manner file t key ≡ Found.At i
-  pub holds : (item_at file t i).kind ≡ kindByte Kind.Container
+  pub holds : (item_at file t i).kind ≡ kind_byte Kind.Container
 
 -- the answer at a position is the child of that index, with its kind, its fragment and the next position
 abbrev pub Answers : Manner → List ℕ → ℕ → ℕ → List ℕ → Table → ℕ → ℕ → Type 0
 Answers manner file start end key t k child =
-    nextChild manner file start end key k
+    next_child manner file start end key k
     ≡ Childed.Child child (item_at file t child).kind (item_at file t child).key ((item_at file t child).key + (item_at file t child).size) (record { at = k + 1 })
 
 -- each position below the count of the children answers the child that is listed there, and every position from there on is 15
 abbrev pub ChildrenAnswer : Type 0
 ChildrenAnswer =
     (manner : Manner) (file : List ℕ) (start end : ℕ) (key : List ℕ) (t : Table) (i : ℕ) → Container manner file start end key t i
-    → (k : ℕ) → (k < childCount (item_at file t i) → Answers manner file start end key t k (childAt file (item_at file t i).from k))
-    × (childCount (item_at file t i) ≤ k → nextChild manner file start end key k ≡ Childed.Refused PastTheLast)
+    → (k : ℕ) → (k < child_count (item_at file t i) → Answers manner file start end key t k (child_at file (item_at file t i).from k))
+    × (child_count (item_at file t i) ≤ k → next_child manner file start end key k ≡ Childed.Refused PastTheLast)
 
 -- the container's key and the child's fragment, joined, look up that very child
 abbrev pub ChildrenFound : Type 0
@@ -58,5 +58,5 @@ ChildrenAll =
 abbrev pub Probe : Type 0
 Probe =
     (manner : Manner) (file : List ℕ) (start end : ℕ) (key : List ℕ)
-    → (nextChild manner file start end key (2 ^ 64 - 1) ≡ Childed.Refused PastTheLast)
-    ↔ ((t : Table) × (item : Item) × (openTable file start end ≡ Opened.Table t) × (lookupIn manner file key t ≡ Sought.Item item) × (openList file item ≡ Pointed.Inside))
+    → (next_child manner file start end key (2 ^ 64 - 1) ≡ Childed.Refused PastTheLast)
+    ↔ ((t : Table) × (item : Item) × (open_table file start end ≡ Opened.Table t) × (lookup_in manner file key t ≡ Sought.Item item) × (open_list file item ≡ Pointed.Inside))

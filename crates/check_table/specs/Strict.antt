@@ -3,20 +3,20 @@ use Rattle.std.specs.Prelude.{ℕ, ◌≡◌, List}
 use Rattle.layout.specs.declared.table.Table.{Table}
 use Rattle.read_find.specs.declared.manner.Lookup.{Lookup}
 use Rattle.read_find.specs.declared.find.Found.{Found}
-use Rattle.read_find.specs.Find.{Manner, shift_of, findItem}
+use Rattle.read_find.specs.Find.{Manner, shift_of, find_item}
 use Rattle.check_rules.specs.declared.checked.Checked.{Checked}
-use Rattle.check_rules.specs.Rules.{checkTable}
+use Rattle.check_rules.specs.Rules.{check_table}
 
 -- a rule for a byte, and a lookup
-abbrev pub mannerBy : (ℕ → ℕ) → Lookup → Manner
-mannerBy rule lookup = record { byte = rule; shift = shift_of lookup }
+abbrev pub manner_by : (ℕ → ℕ) → Lookup → Manner
+manner_by rule lookup = record { byte = rule; shift = shift_of lookup }
 
 abbrev pub StrictFindsLess : Type 0
 StrictFindsLess =
     (rule : ℕ → ℕ) (file : List ℕ) (t : Table) (key : List ℕ) (i : ℕ)
-    → findItem (mannerBy rule Lookup.Strict) file t key ≡ Found.At i → findItem (mannerBy rule Lookup.Rust) file t key ≡ Found.At i
+    → find_item (manner_by rule Lookup.Strict) file t key ≡ Found.At i → find_item (manner_by rule Lookup.Rust) file t key ≡ Found.At i
 
 abbrev pub StrictPassesLess : Type 0
 StrictPassesLess =
     (rule : ℕ → ℕ) (file : List ℕ) (start end : ℕ)
-    → checkTable (mannerBy rule Lookup.Strict) file start end ≡ Checked.Sound → checkTable (mannerBy rule Lookup.Rust) file start end ≡ Checked.Sound
+    → check_table (manner_by rule Lookup.Strict) file start end ≡ Checked.Sound → check_table (manner_by rule Lookup.Rust) file start end ≡ Checked.Sound

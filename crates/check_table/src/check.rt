@@ -2,8 +2,8 @@
 ghost use Rattle.std.specs.Prelude.{◌≡◌, ◌≤◌, ◌<◌};
 ghost use Rattle.layout.specs.Table.{InFile};
 ghost use Rattle.layout.specs.Item.{item_at};
-ghost use Rattle.read_find.specs.Find.{mannerOf};
-ghost use Rattle.check_rules.specs.Rules.{parentGood, brokenRule, explained, checkIn, checkTable};
+ghost use Rattle.read_find.specs.Find.{manner_of};
+ghost use Rattle.check_rules.specs.Rules.{parent_good, broken_rule, explained, check_in, check_table};
 ghost use Rattle.check_rules.specs.Survey.{Survey};
 
 use check_rules::bits::has_bit;
@@ -28,7 +28,7 @@ fn parent_good(
 ) -> bool
     requires in_file { InFile file.now table × (index < table.count) × (item ≡ item_at file.now table index) }
     requires survey { Survey file.now table stop bits.now }
-    ensures { result ≡ parentGood file.now table index item }
+    ensures { result ≡ parent_good file.now table index item }
 {
     match parent_of(table.count, item.parent) {
         Step::Root => true,
@@ -54,7 +54,7 @@ fn broken_rule(
 ) -> u32
     requires in_file { InFile file.now table × (index < table.count) × (index ≤ stop) }
     requires survey { Survey file.now table stop bits.now }
-    ensures { result ≡ brokenRule (mannerOf manner) file.now table index }
+    ensures { result ≡ broken_rule (manner_of manner) file.now table index }
 {
     let key = key_rule(file, table, index, manner);
     if key != 0 {
@@ -94,7 +94,7 @@ fn explain(file: &[u8], table: Table, rule: u32, item: usize) -> Checked
 fn check_surveyed(file: &[u8], table: Table, stop: usize, bits: &[usize], manner: Manner) -> Checked
     requires in_file { InFile file.now table }
     requires survey { Survey file.now table stop bits.now }
-    ensures { result ≡ checkIn (mannerOf manner) file.now table }
+    ensures { result ≡ check_in (manner_of manner) file.now table }
 {
     let count = table.count;
     let mut at = 0;
@@ -111,7 +111,7 @@ fn check_surveyed(file: &[u8], table: Table, stop: usize, bits: &[usize], manner
 // The check of an open table, with a bit for each of the 699,050 items that a file can hold.
 fn check_open(file: &[u8], table: Table, manner: Manner) -> Checked
     requires { InFile file.now table }
-    ensures { result ≡ checkIn (mannerOf manner) file.now table }
+    ensures { result ≡ check_in (manner_of manner) file.now table }
 {
     let mut bits = [0usize; 10923];
     let stop = survey_all(file, table, &mut bits);
@@ -120,7 +120,7 @@ fn check_open(file: &[u8], table: Table, manner: Manner) -> Checked
 
 // The check of the table at a pointer: opening, then 40 for the first item and its first broken rule.
 pub fn check_table(file: &[u8], start: u32, end: u32, manner: Manner) -> Checked
-    ensures { result ≡ checkTable (mannerOf manner) file.now start end }
+    ensures { result ≡ check_table (manner_of manner) file.now start end }
 {
     match open_table(file, start, end) {
         Opened::Refused(why) => Checked::Refused(why),

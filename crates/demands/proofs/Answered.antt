@@ -4,35 +4,35 @@ use mathlib.Core.Path.{◌≡◌, refl, sym, ap, subst}
 use mathlib.Core.List.{List, []}
 use denote.Ref.{Bor}
 use lib.ListN.{length}
-use Rattle.key_hash.specs.Hash.{ruleOf}
-use Rattle.words.proofs.ChoiceLaws.{pick-with}
-use Rattle.text.specs.Utf8.{firstBad}
-use Rattle.layout.specs.Table.{openTable}
-use Rattle.file_header.specs.Answer.{headerLaidNumber}
-use Rattle.file_header.specs.Header.{readHeader, headerLaid, withHeader}
-use Rattle.read.specs.Lookup.{lookupValue, lookupTable}
-use Rattle.read.specs.Layered.{layeredValue}
+use Rattle.key_hash.specs.Hash.{rule_of}
+use Rattle.words.proofs.ChoiceLaws.{pick_with}
+use Rattle.text.specs.Utf8.{first_bad}
+use Rattle.layout.specs.Table.{open_table}
+use Rattle.file_header.specs.Answer.{header_laid_number}
+use Rattle.file_header.specs.Header.{read_header, header_laid, with_header}
+use Rattle.read.specs.Lookup.{lookup_value, lookup_table}
+use Rattle.read.specs.Layered.{layered_value}
 use Rattle.read_listing.specs.Listing.{key_at, listed, written, value_at}
-use Rattle.read_listing.specs.Children.{nextChild}
-use Rattle.check_rules.specs.Rules.{checkTable}
-use Rattle.build_memory.specs.Memory.{Memory, memory, Outcome, outcome, leastWords, freshStart}
-use Rattle.build_memory.specs.Answer.{startedNumber}
-use Rattle.build_tables.specs.Table.{addTable, newTable, itemCount}
-use Rattle.build_values.specs.Insert.{insertValue}
-use Rattle.build_nested.specs.Nest.{insertTable}
-use Rattle.write.specs.Write.{writeAnswer, imageAfter}
-use Rattle.answers.specs.Header.{abi, order_of, headedAnswer}
-use Rattle.answers.specs.Manner.{form_of, mannerNamed}
-use Rattle.answers_build.specs.Building.{told, addedAnswer, insertedAnswer, countedAnswer}
-use Rattle.answers.specs.Reading.{openedAnswer, lookedAnswer, layeredAnswer, listedAnswer, valuedAnswer, childedAnswer}
-use Rattle.answers.specs.Checking.{checkedAnswer}
-use Rattle.answers_build.specs.Writing.{writtenAnswer}
+use Rattle.read_listing.specs.Children.{next_child}
+use Rattle.check_rules.specs.Rules.{check_table}
+use Rattle.build_memory.specs.Memory.{Memory, memory, Outcome, outcome, least_words, fresh_start}
+use Rattle.build_memory.specs.Answer.{started_number}
+use Rattle.build_tables.specs.Table.{add_table, new_table, item_count}
+use Rattle.build_values.specs.Insert.{insert_value}
+use Rattle.build_nested.specs.Nest.{insert_table}
+use Rattle.write.specs.Write.{write_answer, image_after}
+use Rattle.answers.specs.Header.{abi, order_of, headed_answer}
+use Rattle.answers.specs.Manner.{form_of, manner_named}
+use Rattle.answers_build.specs.Building.{told, added_answer, inserted_answer, counted_answer}
+use Rattle.answers.specs.Reading.{opened_answer, looked_answer, layered_answer, listed_answer, valued_answer, childed_answer}
+use Rattle.answers.specs.Checking.{checked_answer}
+use Rattle.answers_build.specs.Writing.{written_answer}
 use Rattle.demands.specs.Calls.{Call, Does, Starts}
 use Rattle.demands.specs.Readers.{read_by, Abi, MemoryWords, ReadingHeader, LayingHeader, Judging, Opening, Getting, GettingTable, GettingLayered, Listing, ListingValue, ListingChild, Checking}
 use Rattle.demands.specs.Model as model
 use Rattle.demands.specs.Inhabited.{EveryCallAnswers}
 use Rattle.demands.specs.InhabitedToo.{EveryNewerCallAnswers}
-use Rattle.demands.proofs.Contracts.{answers, leaves, leavesLent}
+use Rattle.demands.proofs.Contracts.{answers, leaves, leaves_lent}
 
 -- a slice somewhere
 abbrev lend : List ℕ → Bor (List ℕ)
@@ -42,65 +42,65 @@ lend bytes = record { ref_ptr = (0, 0); now = bytes }
 record Same {A : Type 0} (ar : List ℕ) (o : Outcome A) : Type 0 where
   pub arena : o.after.arena ≡ ar
 
-fresh-same : (ws ar : List ℕ) → Same ar (freshStart ws ar)
-unfolding freshStart
-fresh-same ws ar = pick-with (Same ar) _ _ _ (λ _. record { arena = refl }) (λ _. record { arena = refl })
+fresh_same : (ws ar : List ℕ) → Same ar (fresh_start ws ar)
+unfolding fresh_start
+fresh_same ws ar = pick_with (Same ar) _ _ _ (λ _. record { arena = refl }) (λ _. record { arena = refl })
 
-table_same : (ws ar separator : List ℕ) → Same ar (newTable ws ar separator)
-unfolding newTable addTable
+table_same : (ws ar separator : List ℕ) → Same ar (new_table ws ar separator)
+unfolding new_table add_table
 table_same ws ar separator =
-    pick-with (Same ar) _ _ _
-    (λ _. pick-with (Same ar) _ _ _ (λ _. record { arena = refl }) (λ _. pick-with (Same ar) _ _ _ (λ _. record { arena = refl }) (λ _. record { arena = refl })))
+    pick_with (Same ar) _ _ _
+    (λ _. pick_with (Same ar) _ _ _ (λ _. record { arena = refl }) (λ _. pick_with (Same ar) _ _ _ (λ _. record { arena = refl }) (λ _. record { arena = refl })))
     (λ _. record { arena = refl })
 
 -- ---- the builder's calls
 
-pub starts : (m : Memory) → Starts m (startedNumber (freshStart m.words m.arena).answer) (memory (freshStart m.words m.arena).after.words m.arena)
+pub starts : (m : Memory) → Starts m (started_number (fresh_start m.words m.arena).answer) (memory (fresh_start m.words m.arena).after.words m.arena)
 unfolding told
 starts m =
-    let o = freshStart m.words m.arena in
+    let o = fresh_start m.words m.arena in
     Starts.fresh (record {
       lifetimes = ([], ([], tt));
       given = (lend m.words, (lend m.arena, tt));
-      answer = startedNumber o.answer;
+      answer = started_number o.answer;
       left = (lend o.after.words, (lend m.arena, tt));
-      meets = ap (λ (ar : List ℕ). outcome (startedNumber o.answer) (memory o.after.words ar)) (sym (fresh-same m.words m.arena).arena);
+      meets = ap (λ (ar : List ℕ). outcome (started_number o.answer) (memory o.after.words ar)) (sym (fresh_same m.words m.arena).arena);
     })
 
-new-table-does : (m : Memory) (separator : List ℕ)
-    → Does m (Call.new-table separator) (model.added (newTable m.words m.arena separator).answer) (memory (newTable m.words m.arena separator).after.words m.arena) []
-unfolding told model.added addedAnswer
-new-table-does m separator =
-    let o = newTable m.words m.arena separator in
-    Does.new-table (record {
+new_table_does : (m : Memory) (separator : List ℕ)
+    → Does m (Call.new_table separator) (model.added (new_table m.words m.arena separator).answer) (memory (new_table m.words m.arena separator).after.words m.arena) []
+unfolding told model.added added_answer
+new_table_does m separator =
+    let o = new_table m.words m.arena separator in
+    Does.new_table (record {
       lifetimes = ([], ([], ([], tt)));
       given = (lend m.words, (lend m.arena, (lend separator, tt)));
-      answer = addedAnswer o.answer;
+      answer = added_answer o.answer;
       left = (lend o.after.words, (lend m.arena, (lend separator, tt)));
-      meets = ap (λ (ar : List ℕ). outcome (addedAnswer o.answer) (memory o.after.words ar)) (sym (table_same m.words m.arena separator).arena);
+      meets = ap (λ (ar : List ℕ). outcome (added_answer o.answer) (memory o.after.words ar)) (sym (table_same m.words m.arena separator).arena);
     })
 
-pub does : (m : Memory) (call : Call) → Does m call (answers m call) (leaves m call) (leavesLent m call)
-unfolding answers leaves leavesLent told model.added model.inserted model.counted model.written addedAnswer insertedAnswer countedAnswer writtenAnswer
-does m (Call.new-table separator) =
-    let o = newTable m.words m.arena separator in
-    subst (λ (ar : List ℕ). Does m (Call.new-table separator) (model.added o.answer) (memory o.after.words ar) []) (sym (table_same m.words m.arena separator).arena)
-    (new-table-does m separator)
-does m (Call.insert-value t key value) =
-    let o = insertValue m.words m.arena t key value in
-    Does.insert-value (record {
+pub does : (m : Memory) (call : Call) → Does m call (answers m call) (leaves m call) (leaves_lent m call)
+unfolding answers leaves leaves_lent told model.added model.inserted model.counted model.written added_answer inserted_answer counted_answer written_answer
+does m (Call.new_table separator) =
+    let o = new_table m.words m.arena separator in
+    subst (λ (ar : List ℕ). Does m (Call.new_table separator) (model.added o.answer) (memory o.after.words ar) []) (sym (table_same m.words m.arena separator).arena)
+    (new_table_does m separator)
+does m (Call.insert_value t key value) =
+    let o = insert_value m.words m.arena t key value in
+    Does.insert_value (record {
       lifetimes = ([], ([], ([], ([], tt))));
       given = (lend m.words, (lend m.arena, (t, (lend key, (lend value, tt)))));
-      answer = insertedAnswer o.answer;
+      answer = inserted_answer o.answer;
       left = (lend o.after.words, (lend o.after.arena, (t, (lend key, (lend value, tt)))));
       meets = refl;
     })
-does m (Call.insert-table t key guest) =
-    let o = insertTable m.words m.arena t key guest in
-    Does.insert-table (record {
+does m (Call.insert_table t key guest) =
+    let o = insert_table m.words m.arena t key guest in
+    Does.insert_table (record {
       lifetimes = ([], ([], ([], tt)));
       given = (lend m.words, (lend m.arena, (t, (lend key, (guest, tt)))));
-      answer = insertedAnswer o.answer;
+      answer = inserted_answer o.answer;
       left = (lend o.after.words, (lend o.after.arena, (t, (lend key, (guest, tt)))));
       meets = refl;
     })
@@ -108,7 +108,7 @@ does m (Call.item_count t) =
     Does.item_count (record {
       lifetimes = ([], ([], tt));
       given = (lend m.words, (lend m.arena, (t, tt)));
-      answer = countedAnswer (itemCount m.words m.arena t);
+      answer = counted_answer (item_count m.words m.arena t);
       left = (lend m.words, (lend m.arena, (t, tt)));
       meets = refl;
     })
@@ -116,119 +116,119 @@ does m (Call.write t buffer manner filter) =
     Does.write (record {
       lifetimes = ([], ([], ([], tt)));
       given = (lend m.words, (lend m.arena, (t, (lend buffer, (manner, (filter, tt))))));
-      answer = writtenAnswer (writeAnswer (ruleOf (form_of manner)) filter m.words m.arena t (length buffer));
-      left = (lend m.words, (lend m.arena, (t, (lend (imageAfter (ruleOf (form_of manner)) filter m.words m.arena t buffer), (manner, (filter, tt))))));
+      answer = written_answer (write_answer (rule_of (form_of manner)) filter m.words m.arena t (length buffer));
+      left = (lend m.words, (lend m.arena, (t, (lend (image_after (rule_of (form_of manner)) filter m.words m.arena t buffer), (manner, (filter, tt))))));
       meets = (refl, (refl, refl));
     })
 
 -- ---- the readers and the check
 
 module _ (file : List ℕ) (start end : ℕ) where
-  opens : Opening file start end (openedAnswer (openTable file start end))
+  opens : Opening file start end (opened_answer (open_table file start end))
   opens = Opening.opening (record {
     lifetimes = ([], tt);
     given = (lend file, (start, (end, tt)));
-    answer = openedAnswer (openTable file start end);
+    answer = opened_answer (open_table file start end);
     left = (lend file, (start, (end, tt)));
     meets = refl;
   })
 
-  pub checks : (manner : ℕ) → Checking file start end manner (checkedAnswer (checkTable (read_by manner) file start end))
-  unfolding mannerNamed
+  pub checks : (manner : ℕ) → Checking file start end manner (checked_answer (check_table (read_by manner) file start end))
+  unfolding manner_named
   checks manner = Checking.checking (record {
     lifetimes = ([], tt);
     given = (lend file, (start, (end, (manner, tt))));
-    answer = checkedAnswer (checkTable (read_by manner) file start end);
+    answer = checked_answer (check_table (read_by manner) file start end);
     left = (lend file, (start, (end, (manner, tt))));
     meets = refl;
   })
 
   module _ (key : List ℕ) (manner : ℕ) where
-    pub gets : Getting file start end key manner (lookedAnswer (lookupValue (read_by manner) file start end key))
-    unfolding mannerNamed
+    pub gets : Getting file start end key manner (looked_answer (lookup_value (read_by manner) file start end key))
+    unfolding manner_named
     gets = Getting.getting (record {
       lifetimes = ([], ([], tt));
       given = (lend file, (start, (end, (lend key, (manner, tt)))));
-      answer = lookedAnswer (lookupValue (read_by manner) file start end key);
+      answer = looked_answer (lookup_value (read_by manner) file start end key);
       left = (lend file, (start, (end, (lend key, (manner, tt)))));
       meets = refl;
     })
 
-    pub gets_table : GettingTable file start end key manner (lookedAnswer (lookupTable (read_by manner) file start end key))
-    unfolding mannerNamed
-    gets_table = GettingTable.getting-table (record {
+    pub gets_table : GettingTable file start end key manner (looked_answer (lookup_table (read_by manner) file start end key))
+    unfolding manner_named
+    gets_table = GettingTable.getting_table (record {
       lifetimes = ([], ([], tt));
       given = (lend file, (start, (end, (lend key, (manner, tt)))));
-      answer = lookedAnswer (lookupTable (read_by manner) file start end key);
+      answer = looked_answer (lookup_table (read_by manner) file start end key);
       left = (lend file, (start, (end, (lend key, (manner, tt)))));
       meets = refl;
     })
 
   lists : (position : ℕ) (out : List ℕ)
-      → Listing file start end position out (listedAnswer (listed (key_at file start end position) (length out) position)) (written (key_at file start end position) out)
+      → Listing file start end position out (listed_answer (listed (key_at file start end position) (length out) position)) (written (key_at file start end position) out)
   lists position out = Listing.listing (record {
     lifetimes = ([], ([], tt));
     given = (lend file, (start, (end, (position, (lend out, tt)))));
-    answer = listedAnswer (listed (key_at file start end position) (length out) position);
+    answer = listed_answer (listed (key_at file start end position) (length out) position);
     left = (lend file, (start, (end, (position, (lend (written (key_at file start end position) out), tt)))));
     meets = (refl, refl);
   })
 
-  values : (position : ℕ) → ListingValue file start end position (valuedAnswer (value_at file start end position))
-  values position = ListingValue.listing-value (record {
+  values : (position : ℕ) → ListingValue file start end position (valued_answer (value_at file start end position))
+  values position = ListingValue.listing_value (record {
     lifetimes = ([], tt);
     given = (lend file, (start, (end, (position, tt))));
-    answer = valuedAnswer (value_at file start end position);
+    answer = valued_answer (value_at file start end position);
     left = (lend file, (start, (end, (position, tt))));
     meets = refl;
   })
 
-  children : (key : List ℕ) (position manner : ℕ) → ListingChild file start end key position manner (childedAnswer (nextChild (read_by manner) file start end key position))
-  unfolding mannerNamed
-  children key position manner = ListingChild.listing-child (record {
+  children : (key : List ℕ) (position manner : ℕ) → ListingChild file start end key position manner (childed_answer (next_child (read_by manner) file start end key position))
+  unfolding manner_named
+  children key position manner = ListingChild.listing_child (record {
     lifetimes = ([], ([], tt));
     given = (lend file, (start, (end, (lend key, (position, (manner, tt))))));
-    answer = childedAnswer (nextChild (read_by manner) file start end key position);
+    answer = childed_answer (next_child (read_by manner) file start end key position);
     left = (lend file, (start, (end, (lend key, (position, (manner, tt))))));
     meets = refl;
   })
 
 layered : (owner : List ℕ) (ostart oend : ℕ) (district : List ℕ) (dstart dend : ℕ) (key : List ℕ) (omanner dmanner : ℕ)
-    → GettingLayered owner ostart oend district dstart dend key omanner dmanner (layeredAnswer (layeredValue (read_by omanner) (read_by dmanner) owner ostart oend district dstart dend key))
-unfolding mannerNamed
-layered owner ostart oend district dstart dend key omanner dmanner = GettingLayered.getting-layered (record {
+    → GettingLayered owner ostart oend district dstart dend key omanner dmanner (layered_answer (layered_value (read_by omanner) (read_by dmanner) owner ostart oend district dstart dend key))
+unfolding manner_named
+layered owner ostart oend district dstart dend key omanner dmanner = GettingLayered.getting_layered (record {
   lifetimes = ([], ([], tt));
   given = (lend owner, (ostart, (oend, (lend district, (dstart, (dend, (lend key, (omanner, (dmanner, tt)))))))));
-  answer = layeredAnswer (layeredValue (read_by omanner) (read_by dmanner) owner ostart oend district dstart dend key);
+  answer = layered_answer (layered_value (read_by omanner) (read_by dmanner) owner ostart oend district dstart dend key);
   left = (lend owner, (ostart, (oend, (lend district, (dstart, (dend, (lend key, (omanner, (dmanner, tt)))))))));
   meets = refl;
 })
 
 -- ---- the header, texts, and the two calls without arguments
 
-headed : (file : List ℕ) → ReadingHeader file (headedAnswer (readHeader file))
-headed file = ReadingHeader.reading-header (record { lifetimes = ([], tt); given = (lend file, tt); answer = headedAnswer (readHeader file); left = (lend file, tt); meets = refl })
+headed : (file : List ℕ) → ReadingHeader file (headed_answer (read_header file))
+headed file = ReadingHeader.reading_header (record { lifetimes = ([], tt); given = (lend file, tt); answer = headed_answer (read_header file); left = (lend file, tt); meets = refl })
 
-pub lays : (target : List ℕ) (big start end : ℕ) → LayingHeader target big start end (headerLaidNumber (headerLaid (length target))) (withHeader target (order_of big) start end)
-lays target big start end = LayingHeader.laying-header (record {
+pub lays : (target : List ℕ) (big start end : ℕ) → LayingHeader target big start end (header_laid_number (header_laid (length target))) (with_header target (order_of big) start end)
+lays target big start end = LayingHeader.laying_header (record {
   lifetimes = ([], tt);
   given = (lend target, (big, (start, (end, tt))));
-  answer = headerLaidNumber (headerLaid (length target));
-  left = (lend (withHeader target (order_of big) start end), (big, (start, (end, tt))));
+  answer = header_laid_number (header_laid (length target));
+  left = (lend (with_header target (order_of big) start end), (big, (start, (end, tt))));
   meets = (refl, refl);
 })
 
-judges : (text : List ℕ) → Judging text (firstBad text)
-judges text = Judging.judging (record { lifetimes = ([], tt); given = (lend text, tt); answer = firstBad text; left = (lend text, tt); meets = refl })
+judges : (text : List ℕ) → Judging text (first_bad text)
+judges text = Judging.judging (record { lifetimes = ([], tt); given = (lend text, tt); answer = first_bad text; left = (lend text, tt); meets = refl })
 
 numbers : Abi abi
 numbers = Abi.abi (record { lifetimes = tt; given = tt; answer = abi; left = tt; meets = refl })
 
-words : MemoryWords leastWords
-words = MemoryWords.memory-words (record { lifetimes = tt; given = tt; answer = leastWords; left = tt; meets = refl })
+words : MemoryWords least_words
+words = MemoryWords.memory_words (record { lifetimes = tt; given = tt; answer = least_words; left = tt; meets = refl })
 
-pub every-call-answers : EveryCallAnswers
-every-call-answers = record {
+pub every_call_answers : EveryCallAnswers
+every_call_answers = record {
   starts = λ m. (_, _, starts m);
   calls = λ m call. (_, _, _, does m call);
   opens = λ file start end. (_, opens file start end);
@@ -238,8 +238,8 @@ every-call-answers = record {
   checks = λ file start end manner. (_, checks file start end manner);
 }
 
-pub every-newer-call-answers : EveryNewerCallAnswers
-every-newer-call-answers = record {
+pub every_newer_call_answers : EveryNewerCallAnswers
+every_newer_call_answers = record {
   abi = (_, numbers);
   words = (_, words);
   headed = λ file. (_, headed file);

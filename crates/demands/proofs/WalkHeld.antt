@@ -10,19 +10,19 @@ use lib.Dec.{eqb}
 use lib.ListN.{length, set, take}
 use lib.Seq.{take-length}
 use Rattle.words.specs.Choice.{pick}
-use Rattle.words.proofs.ChoiceLaws.{pick-with}
-use Rattle.key_order.specs.Compare.{sameBytes}
-use Rattle.key_order.specs.Prefix.{endsFrom, prefixes}
+use Rattle.words.proofs.ChoiceLaws.{pick_with}
+use Rattle.key_order.specs.Compare.{same_bytes}
+use Rattle.key_order.specs.Prefix.{ends_from, prefixes}
 use Rattle.model.specs.Table.{Content, Entry, entry_at}
-use Rattle.model.specs.Walk.{findKey, isThere, entry, putKey, Walked, walk}
+use Rattle.model.specs.Walk.{find_key, is_there, entry, put_key, Walked, walk}
 use Rattle.demands.specs.Last.{Held, or_else, among}
-use Rattle.demands.proofs.HeldLaws.{heldIn, hit, or_nothing, hit_same, held-snoc, there-holds, not_there, held-set}
+use Rattle.demands.proofs.HeldLaws.{held_in, hit, or_nothing, hit_same, held_snoc, there_holds, not_there, held-set}
 
 -- the last of some keys
-unfoldable lastKey : List (List ℕ) → List ℕ
-lastKey [] = []
-lastKey (key ∷ []) = key
-lastKey (key ∷ next ∷ rest) = lastKey (next ∷ rest)
+unfoldable last_key : List (List ℕ) → List ℕ
+last_key [] = []
+last_key (key ∷ []) = key
+last_key (key ∷ next ∷ rest) = last_key (next ∷ rest)
 
 module _ (t : ℕ) (content : Content) (u : ℕ) (k : List ℕ) where
   -- under key k of table u, which held h
@@ -33,66 +33,66 @@ module _ (t : ℕ) (content : Content) (u : ℕ) (k : List ℕ) where
 
   -- a walk that is not blocked leaves this
   unfoldable Left : List (List ℕ) → List Entry → Walked → Type 0
-  Left keys items (Walked.walked after) = heldIn after u k ≡ stepped keys (heldIn items u k)
+  Left keys items (Walked.walked after) = held_in after u k ≡ stepped keys (held_in items u k)
   Left keys items Walked.blocked = Unit
 
-  put-new : (b : Bool) (h : Held) → (b ≡ true → h ≡ Held.nothing) → or_else h (pick b (Held.holds content) Held.nothing) ≡ pick b (Held.holds content) h
+  put_new : (b : Bool) (h : Held) → (b ≡ true → h ≡ Held.nothing) → or_else h (pick b (Held.holds content) Held.nothing) ≡ pick b (Held.holds content) h
   unfolding pick or_else
-  put-new true h none = rw (none refl) refl
-  put-new false h none = or_nothing h
+  put_new true h none = rw (none refl) refl
+  put_new false h none = or_nothing h
 
-  put-left : (key : List ℕ) (items : List Entry) (above : ℕ) → heldIn (putKey items t key content above) u k ≡ pick (hit t key u k) (Held.holds content) (heldIn items u k)
-  unfolding putKey pick
-  put-left key items above = by (isThere items t key) refl
+  put_left : (key : List ℕ) (items : List Entry) (above : ℕ) → held_in (put_key items t key content above) u k ≡ pick (hit t key u k) (Held.holds content) (held_in items u k)
+  unfolding put_key pick
+  put_left key items above = by (is_there items t key) refl
     where
       old : List Entry
-      old = set items (findKey items t key) (entry t key content (entry_at items (findKey items t key)).above)
+      old = set items (find_key items t key) (entry t key content (entry_at items (find_key items t key)).above)
 
-      by : (b : Bool) → isThere items t key ≡ b
-          → heldIn (pick b old (items ++ (entry t key content above ∷ []))) u k ≡ pick (hit t key u k) (Held.holds content) (heldIn items u k)
-      by true e = held-set items t key content (entry_at items (findKey items t key)).above u k (ltb-true _ _ e)
+      by : (b : Bool) → is_there items t key ≡ b
+          → held_in (pick b old (items ++ (entry t key content above ∷ []))) u k ≡ pick (hit t key u k) (Held.holds content) (held_in items u k)
+      by true e = held-set items t key content (entry_at items (find_key items t key)).above u k (ltb-true _ _ e)
       by false e =
-          held-snoc items (entry t key content above) u k
-          ∙ put-new (hit t key u k) (heldIn items u k) (λ q. let s = hit_same t key u k q in rw (sym s.0) (rw (sym s.1) (not_there items t key e)))
+          held_snoc items (entry t key content above) u k
+          ∙ put_new (hit t key u k) (held_in items u k) (λ q. let s = hit_same t key u k q in rw (sym s.0) (rw (sym s.1) (not_there items t key e)))
 
   -- a container that is there is passed; one that is missing is made
-  pass-left : (prefix : List ℕ) (items : List Entry) → isThere items t prefix ≡ true
-      → pick (hit t prefix u k) (or_else (heldIn items u k) (Held.holds Content.container)) (heldIn items u k) ≡ heldIn items u k
+  pass_left : (prefix : List ℕ) (items : List Entry) → is_there items t prefix ≡ true
+      → pick (hit t prefix u k) (or_else (held_in items u k) (Held.holds Content.container)) (held_in items u k) ≡ held_in items u k
   unfolding pick or_else
-  pass-left prefix items e = by (hit t prefix u k) refl
+  pass_left prefix items e = by (hit t prefix u k) refl
     where
-      by : (b : Bool) → hit t prefix u k ≡ b → pick b (or_else (heldIn items u k) (Held.holds Content.container)) (heldIn items u k) ≡ heldIn items u k
-      by true q = let s = hit_same t prefix u k q in let h : heldIn items u k ≡ Held.holds (entry_at items (findKey items t prefix)).content = rw (sym s.0) (rw (sym s.1) (there-holds items t prefix e)) in rw h refl
+      by : (b : Bool) → hit t prefix u k ≡ b → pick b (or_else (held_in items u k) (Held.holds Content.container)) (held_in items u k) ≡ held_in items u k
+      by true q = let s = hit_same t prefix u k q in let h : held_in items u k ≡ Held.holds (entry_at items (find_key items t prefix)).content = rw (sym s.0) (rw (sym s.1) (there_holds items t prefix e)) in rw h refl
       by false q = refl
 
-  made-left : (prefix : List ℕ) (items : List Entry) (above : ℕ)
-      → heldIn (items ++ (entry t prefix Content.container above ∷ [])) u k ≡ pick (hit t prefix u k) (or_else (heldIn items u k) (Held.holds Content.container)) (heldIn items u k)
+  made_left : (prefix : List ℕ) (items : List Entry) (above : ℕ)
+      → held_in (items ++ (entry t prefix Content.container above ∷ [])) u k ≡ pick (hit t prefix u k) (or_else (held_in items u k) (Held.holds Content.container)) (held_in items u k)
   unfolding pick
-  made-left prefix items above = held-snoc items (entry t prefix Content.container above) u k ∙ by (hit t prefix u k)
+  made_left prefix items above = held_snoc items (entry t prefix Content.container above) u k ∙ by (hit t prefix u k)
     where
-      by : (b : Bool) → or_else (heldIn items u k) (pick b (Held.holds Content.container) Held.nothing) ≡ pick b (or_else (heldIn items u k) (Held.holds Content.container)) (heldIn items u k)
+      by : (b : Bool) → or_else (held_in items u k) (pick b (Held.holds Content.container) Held.nothing) ≡ pick b (or_else (held_in items u k) (Held.holds Content.container)) (held_in items u k)
       by true = refl
-      by false = or_nothing (heldIn items u k)
+      by false = or_nothing (held_in items u k)
 
   -- a walk over the rest from items that hold what the first step leaves
-  left-on : (prefix next : List ℕ) (rest : List (List ℕ)) (items more : List Entry)
-      → heldIn more u k ≡ pick (hit t prefix u k) (or_else (heldIn items u k) (Held.holds Content.container)) (heldIn items u k)
+  left_on : (prefix next : List ℕ) (rest : List (List ℕ)) (items more : List Entry)
+      → held_in more u k ≡ pick (hit t prefix u k) (or_else (held_in items u k) (Held.holds Content.container)) (held_in items u k)
       → (w : Walked) → Left (next ∷ rest) more w → Left (prefix ∷ next ∷ rest) items w
   unfolding Left stepped
-  left-on prefix next rest items more is (Walked.walked after) left = left ∙ ap (stepped (next ∷ rest)) is
-  left-on prefix next rest items more is Walked.blocked left = tt
+  left_on prefix next rest items more is (Walked.walked after) left = left ∙ ap (stepped (next ∷ rest)) is
+  left_on prefix next rest items more is Walked.blocked left = tt
 
-  walk-left : (keys : List (List ℕ)) (items : List Entry) (above : ℕ) → Left keys items (walk t content keys items above)
+  walk_left : (keys : List (List ℕ)) (items : List Entry) (above : ℕ) → Left keys items (walk t content keys items above)
   unfolding walk stepped Left
-  walk-left [] items above = refl
-  walk-left (key ∷ []) items above = put-left key items above
-  walk-left (prefix ∷ next ∷ rest) items above =
-      pick-with (Left (prefix ∷ next ∷ rest) items) (isThere items t prefix) _ _
-      (λ there. pick-with (Left (prefix ∷ next ∷ rest) items) _ _ _
-      (λ _. left-on prefix next rest items items (sym (pass-left prefix items there)) (walk t content (next ∷ rest) items (findKey items t prefix)) (walk-left (next ∷ rest) items (findKey items t prefix)))
+  walk_left [] items above = refl
+  walk_left (key ∷ []) items above = put_left key items above
+  walk_left (prefix ∷ next ∷ rest) items above =
+      pick_with (Left (prefix ∷ next ∷ rest) items) (is_there items t prefix) _ _
+      (λ there. pick_with (Left (prefix ∷ next ∷ rest) items) _ _ _
+      (λ _. left_on prefix next rest items items (sym (pass_left prefix items there)) (walk t content (next ∷ rest) items (find_key items t prefix)) (walk_left (next ∷ rest) items (find_key items t prefix)))
       (λ _. tt))
       (λ _. let more = items ++ (entry t prefix Content.container above ∷ []) in
-      left-on prefix next rest items more (made-left prefix items above) (walk t content (next ∷ rest) more (length items)) (walk-left (next ∷ rest) more (length items)))
+      left_on prefix next rest items more (made_left prefix items above) (walk t content (next ∷ rest) more (length items)) (walk_left (next ∷ rest) more (length items)))
 
   -- ---- in one step
 
@@ -101,46 +101,46 @@ module _ (t : ℕ) (content : Content) (u : ℕ) (k : List ℕ) where
 
   -- under the last key what was put; under another that was passed what it held, or a container
   abbrev whole : List (List ℕ) → Held → Held
-  whole keys h = or_else (pick (hit t (lastKey keys) u k) (Held.holds content) Held.nothing) (pick (eqb t u && among keys k) (or_else h container) h)
+  whole keys h = or_else (pick (hit t (last_key keys) u k) (Held.holds content) Held.nothing) (pick (eqb t u && among keys k) (or_else h container) h)
 
-  one-is : (b s : Bool) (h : Held) → pick (b && s) (Held.holds content) h ≡ or_else (pick (b && s) (Held.holds content) Held.nothing) (pick (b && (s || false)) (or_else h container) h)
+  one_is : (b s : Bool) (h : Held) → pick (b && s) (Held.holds content) h ≡ or_else (pick (b && s) (Held.holds content) Held.nothing) (pick (b && (s || false)) (or_else h container) h)
   unfolding pick or_else
-  one-is true true h = refl
-  one-is true false h = refl
-  one-is false s h = refl
+  one_is true true h = refl
+  one_is true false h = refl
+  one_is false s h = refl
 
   twice : (h : Held) → or_else (or_else h container) container ≡ or_else h container
   unfolding or_else
   twice Held.nothing = refl
   twice (Held.holds c) = refl
 
-  more-is : (b p r : Bool) (h : Held)
+  more_is : (b p r : Bool) (h : Held)
       → pick (b && r) (or_else (pick (b && p) (or_else h container) h) container) (pick (b && p) (or_else h container) h) ≡ pick (b && (p || r)) (or_else h container) h
   unfolding pick
-  more-is true true true h = twice h
-  more-is true true false h = refl
-  more-is true false true h = refl
-  more-is true false false h = refl
-  more-is false p r h = refl
+  more_is true true true h = twice h
+  more_is true true false h = refl
+  more_is true false true h = refl
+  more_is true false false h = refl
+  more_is false p r h = refl
 
-  stepped-is : (key : List ℕ) (keys : List (List ℕ)) (h : Held) → stepped (key ∷ keys) h ≡ whole (key ∷ keys) h
-  unfolding stepped lastKey among
-  stepped-is key [] h = one-is (eqb t u) (sameBytes key k) h
-  stepped-is key (next ∷ rest) h =
-      stepped-is next rest (pick (hit t key u k) (or_else h container) h)
-      ∙ ap (or_else (pick (hit t (lastKey (next ∷ rest)) u k) (Held.holds content) Held.nothing)) (more-is (eqb t u) (sameBytes key k) (among (next ∷ rest) k) h)
+  stepped_is : (key : List ℕ) (keys : List (List ℕ)) (h : Held) → stepped (key ∷ keys) h ≡ whole (key ∷ keys) h
+  unfolding stepped last_key among
+  stepped_is key [] h = one_is (eqb t u) (same_bytes key k) h
+  stepped_is key (next ∷ rest) h =
+      stepped_is next rest (pick (hit t key u k) (or_else h container) h)
+      ∙ ap (or_else (pick (hit t (last_key (next ∷ rest)) u k) (Held.holds content) Held.nothing)) (more_is (eqb t u) (same_bytes key k) (among (next ∷ rest) k) h)
 
 -- ---- the prefixes of a key: the last is the key itself
 
-some_end : (sep at : ℕ) (rest : List ℕ) → (e : ℕ) × (ends : List ℕ) × (endsFrom sep at rest ≡ e ∷ ends)
-unfolding endsFrom pick
+some_end : (sep at : ℕ) (rest : List ℕ) → (e : ℕ) × (ends : List ℕ) × (ends_from sep at rest ≡ e ∷ ends)
+unfolding ends_from pick
 some_end sep at [] = (at, [], refl)
 some_end sep at (x ∷ []) = (suc at, [], refl)
 some_end sep at (x ∷ y ∷ rest) = by (eqb x sep) (some_end sep (suc at) (y ∷ rest))
   where
-    by : (b : Bool) → (e : ℕ) × (ends : List ℕ) × (endsFrom sep (suc at) (y ∷ rest) ≡ e ∷ ends)
-        → (e : ℕ) × (ends : List ℕ) × (pick b (suc at ∷ endsFrom sep (suc at) (y ∷ rest)) (endsFrom sep (suc at) (y ∷ rest)) ≡ e ∷ ends)
-    by true r = (suc at, endsFrom sep (suc at) (y ∷ rest), refl)
+    by : (b : Bool) → (e : ℕ) × (ends : List ℕ) × (ends_from sep (suc at) (y ∷ rest) ≡ e ∷ ends)
+        → (e : ℕ) × (ends : List ℕ) × (pick b (suc at ∷ ends_from sep (suc at) (y ∷ rest)) (ends_from sep (suc at) (y ∷ rest)) ≡ e ∷ ends)
+    by true r = (suc at, ends_from sep (suc at) (y ∷ rest), refl)
     by false r = r
 
 unfoldable last_end : List ℕ → ℕ
@@ -152,19 +152,19 @@ end_more : (x : ℕ) (ends : List ℕ) → (e : ℕ) × (more : List ℕ) × (en
 unfolding last_end
 end_more x ends some = rw some.2 refl
 
-last-end : (sep at : ℕ) (rest : List ℕ) → last_end (endsFrom sep at rest) ≡ at + length rest
-unfolding endsFrom last_end pick
-last-end sep at [] = omega arith
-last-end sep at (x ∷ []) = omega arith
-last-end sep at (x ∷ y ∷ rest) = by (eqb x sep) (last-end sep (suc at) (y ∷ rest))
+last_end_lem : (sep at : ℕ) (rest : List ℕ) → last_end (ends_from sep at rest) ≡ at + length rest
+unfolding ends_from last_end pick
+last_end_lem sep at [] = omega arith
+last_end_lem sep at (x ∷ []) = omega arith
+last_end_lem sep at (x ∷ y ∷ rest) = by (eqb x sep) (last_end_lem sep (suc at) (y ∷ rest))
   where
-    by : (b : Bool) → last_end (endsFrom sep (suc at) (y ∷ rest)) ≡ suc at + length (y ∷ rest)
-        → last_end (pick b (suc at ∷ endsFrom sep (suc at) (y ∷ rest)) (endsFrom sep (suc at) (y ∷ rest))) ≡ at + length (x ∷ y ∷ rest)
-    by true r = end_more (suc at) (endsFrom sep (suc at) (y ∷ rest)) (some_end sep (suc at) (y ∷ rest)) ∙ r ∙ omega arith
+    by : (b : Bool) → last_end (ends_from sep (suc at) (y ∷ rest)) ≡ suc at + length (y ∷ rest)
+        → last_end (pick b (suc at ∷ ends_from sep (suc at) (y ∷ rest)) (ends_from sep (suc at) (y ∷ rest))) ≡ at + length (x ∷ y ∷ rest)
+    by true r = end_more (suc at) (ends_from sep (suc at) (y ∷ rest)) (some_end sep (suc at) (y ∷ rest)) ∙ r ∙ omega arith
     by false r = r ∙ omega arith
 
-last-map : (f : ℕ → List ℕ) (e : ℕ) (ends : List ℕ) → lastKey (map f (e ∷ ends)) ≡ f (last_end (e ∷ ends))
-unfolding lastKey last_end
+last-map : (f : ℕ → List ℕ) (e : ℕ) (ends : List ℕ) → last_key (map f (e ∷ ends)) ≡ f (last_end (e ∷ ends))
+unfolding last_key last_end
 last-map f e [] = refl
 last-map f e (next ∷ ends) = last-map f next ends
 
@@ -172,19 +172,19 @@ last-map f e (next ∷ ends) = last-map f next ends
 
 pub walk-held : (t : ℕ) (content : Content) (sep : ℕ) (key : List ℕ) (items : List Entry) (above : ℕ) (after : List Entry)
     → walk t content (prefixes sep key) items above ≡ Walked.walked after → (u : ℕ) (k : List ℕ)
-    → heldIn after u k
+    → held_in after u k
     ≡ or_else (pick (hit t key u k) (Held.holds content) Held.nothing)
-    (pick (eqb t u && among (prefixes sep key) k) (or_else (heldIn items u k) (Held.holds Content.container)) (heldIn items u k))
+    (pick (eqb t u && among (prefixes sep key) k) (or_else (held_in items u k) (Held.holds Content.container)) (held_in items u k))
 unfolding prefixes Left
 walk-held t content sep key items above after is u k =
     let f : ℕ → List ℕ = λ (n : ℕ). take n key in
     let some = some_end sep 0 key in
-    let left : heldIn after u k ≡ stepped t content u k (prefixes sep key) (heldIn items u k) = rw is at (walk-left t content u k (prefixes sep key) items above) in
-    let last : lastKey (prefixes sep key) ≡ key =
-    ap (λ (l : List ℕ). lastKey (map f l)) some.2 ∙ last-map f some.0 some.1 ∙ ap (λ (l : List ℕ). f (last_end l)) (sym some.2) ∙ ap f (last-end sep 0 key ∙ (let z : 0 + length key ≡ length key = omega arith in z)) ∙ take-length key in
-    let step : stepped t content u k (prefixes sep key) (heldIn items u k) ≡ whole t content u k (prefixes sep key) (heldIn items u k) =
-    ap (λ (l : List ℕ). stepped t content u k (map f l) (heldIn items u k)) some.2
-    ∙ stepped-is t content u k (f some.0) (map f some.1) (heldIn items u k)
-    ∙ ap (λ (l : List ℕ). whole t content u k (map f l) (heldIn items u k)) (sym some.2) in
+    let left : held_in after u k ≡ stepped t content u k (prefixes sep key) (held_in items u k) = rw is at (walk_left t content u k (prefixes sep key) items above) in
+    let last : last_key (prefixes sep key) ≡ key =
+    ap (λ (l : List ℕ). last_key (map f l)) some.2 ∙ last-map f some.0 some.1 ∙ ap (λ (l : List ℕ). f (last_end l)) (sym some.2) ∙ ap f (last_end_lem sep 0 key ∙ (let z : 0 + length key ≡ length key = omega arith in z)) ∙ take-length key in
+    let step : stepped t content u k (prefixes sep key) (held_in items u k) ≡ whole t content u k (prefixes sep key) (held_in items u k) =
+    ap (λ (l : List ℕ). stepped t content u k (map f l) (held_in items u k)) some.2
+    ∙ stepped_is t content u k (f some.0) (map f some.1) (held_in items u k)
+    ∙ ap (λ (l : List ℕ). whole t content u k (map f l) (held_in items u k)) (sym some.2) in
     left ∙ step
-    ∙ ap (λ (name : List ℕ). or_else (pick (hit t name u k) (Held.holds content) Held.nothing) (pick (eqb t u && among (prefixes sep key) k) (or_else (heldIn items u k) (Held.holds Content.container)) (heldIn items u k))) last
+    ∙ ap (λ (name : List ℕ). or_else (pick (hit t name u k) (Held.holds content) Held.nothing) (pick (eqb t u && among (prefixes sep key) k) (or_else (held_in items u k) (Held.holds Content.container)) (held_in items u k))) last

@@ -12,21 +12,21 @@ use Rattle.words.specs.Choice.{pick}
 use Rattle.words.specs.Store.{put_at}
 use Rattle.words.proofs.StoreLaws.{part-put}
 use Rattle.layout.specs.declared.refusal.Refusal.TheVariants.{MemoryBroken, TableUnknown, TooManyFilterWords, EmptyKey, ImageTooLong}
-use Rattle.layout.specs.Limits.{longestFile, deepest, mostFilter}
-use Rattle.layout.specs.Sizes.{headerSize, chunkSize}
+use Rattle.layout.specs.Limits.{longest_file, deepest, most_filter}
+use Rattle.layout.specs.Sizes.{header_size, chunk_size}
 use Rattle.image.specs.Image.{image_of}
 use Rattle.image.specs.WellFormed.{Writable}
 use Rattle.image.specs.Laid.{Holds}
-use Rattle.laid.proofs.ImageBack.{root-held, alone-back}
-use Rattle.laid.proofs.Passes.{alone-passes}
-use Rattle.laid.proofs.AlikeLaws.{lookups-alike}
-use Rattle.build_rules.specs.Valid.{fullyValid}
+use Rattle.laid.proofs.ImageBack.{root_held, alone_back}
+use Rattle.laid.proofs.Passes.{alone_passes}
+use Rattle.laid.proofs.AlikeLaws.{lookups_alike}
+use Rattle.build_rules.specs.Valid.{fully_valid}
 use Rattle.write_numbers.specs.Roster.{state_of}
 use Rattle.write.specs.declared.Written.{Written}
-use Rattle.build_tables.specs.Table.{freeStanding}
-use Rattle.write.specs.Write.{hasEmpty, imageFor, tooLong, writeAnswer, laidBy, imageAfter}
+use Rattle.build_tables.specs.Table.{free_standing}
+use Rattle.write.specs.Write.{has_empty, image_for, too_long, write_answer, laid_by, image_after}
 use Rattle.demands.specs.Success.{Success, SuccessSays, SuccessLays, SuccessReadsBack, SuccessPasses, SuccessAlike}
-use Rattle.demands.proofs.Writable.{free-standing-writable}
+use Rattle.demands.proofs.Writable.{free_standing_writable}
 
 -- ---- what a success says
 
@@ -35,9 +35,9 @@ record Passed (whole root many empty long : Bool) (good answer : Written) : Type
   pub whole_is : whole ≡ true
   pub root_is : root ≡ true
   pub many_is : many ≡ false
-  pub empty-is : empty ≡ false
-  pub long-is : long ≡ false
-  pub answer-is : good ≡ answer
+  pub empty_is : empty ≡ false
+  pub long_is : long ≡ false
+  pub answer_is : good ≡ answer
 
 module _ (good : Written) (start end size : ℕ) where
   passed : (whole root many empty long : Bool)
@@ -49,31 +49,31 @@ module _ (good : Written) (start end size : ℕ) where
   passed true true true empty long e = absurd (let z : ◌≡◌ {A = ℕ} 0 1 = cc in omega arith)
   passed true true false true long e = absurd (let z : ◌≡◌ {A = ℕ} 0 1 = cc in omega arith)
   passed true true false false true e = absurd (let z : ◌≡◌ {A = ℕ} 0 1 = cc in omega arith)
-  passed true true false false false e = record { whole_is = refl; root_is = refl; many_is = refl; empty-is = refl; long-is = refl; answer-is = e }
+  passed true true false false false e = record { whole_is = refl; root_is = refl; many_is = refl; empty_is = refl; long_is = refl; answer_is = e }
 
 neither : (p q : Bool) → (p || q) ≡ false → (p ≡ false) × (q ≡ false)
 neither true q e = absurd (let z : ◌≡◌ {A = ℕ} 0 1 = cc in omega arith)
 neither false q e = (refl, e)
 
-not-too-long : (room size : ℕ) → tooLong room size ≡ false → (size ≤ longestFile) × (size ≤ room)
-unfolding tooLong
-not-too-long room size e = let (file, buffer) = neither (ltb longestFile size) (ltb room size) e in (ltb-false _ _ file, ltb-false _ _ buffer)
+not-too_long : (room size : ℕ) → too_long room size ≡ false → (size ≤ longest_file) × (size ≤ room)
+unfolding too_long
+not-too_long room size e = let (file, buffer) = neither (ltb longest_file size) (ltb room size) e in (ltb-false _ _ file, ltb-false _ _ buffer)
 
 pub success : SuccessSays
-unfolding writeAnswer
+unfolding write_answer
 success rule filter ws ar t room start end size e =
-    let image = length (imageFor rule filter ws ar t) in
-    let good = Written.Image headerSize (headerSize + chunkSize filter (length (state_of ws ar t).members)) image in
-    let p = passed good start end size (fullyValid ws ar) (freeStanding ws t) (ltb mostFilter filter) (hasEmpty (state_of ws ar) deepest t) (tooLong room image) e in
-    let (short, fits) = not-too-long room image p.long-is in
-    let is = p.answer-is in
+    let image = length (image_for rule filter ws ar t) in
+    let good = Written.Image header_size (header_size + chunk_size filter (length (state_of ws ar t).members)) image in
+    let p = passed good start end size (fully_valid ws ar) (free_standing ws t) (ltb most_filter filter) (has_empty (state_of ws ar) deepest t) (too_long room image) e in
+    let (short, fits) = not-too_long room image p.long_is in
+    let is = p.answer_is in
     let long : size ≡ image = cc in record {
       starts = cc;
       ends = cc;
       long = long;
       whole = p.whole_is;
       root = p.root_is;
-      named = p.empty-is;
+      named = p.empty_is;
       few = ltb-false _ _ p.many_is;
       fits = omega arith;
       short = omega arith;
@@ -82,46 +82,46 @@ success rule filter ws ar t room start end size e =
 -- ---- the file
 
 -- what stands in the buffer
-after-success : (rule : ℕ → ℕ) (filter : ℕ) (ws ar buffer : List ℕ) (t start end size : ℕ) → writeAnswer rule filter ws ar t (length buffer) ≡ Written.Image start end size
-    → imageAfter rule filter ws ar t buffer ≡ put_at buffer 0 (imageFor rule filter ws ar t)
-unfolding imageAfter laidBy
-after-success rule filter ws ar buffer t start end size e = ap (λ (answer : Written). laidBy answer (imageFor rule filter ws ar t) buffer) e
+after_success : (rule : ℕ → ℕ) (filter : ℕ) (ws ar buffer : List ℕ) (t start end size : ℕ) → write_answer rule filter ws ar t (length buffer) ≡ Written.Image start end size
+    → image_after rule filter ws ar t buffer ≡ put_at buffer 0 (image_for rule filter ws ar t)
+unfolding image_after laid_by
+after_success rule filter ws ar buffer t start end size e = ap (λ (answer : Written). laid_by answer (image_for rule filter ws ar t) buffer) e
 
-pub success-lays : SuccessLays
-success-lays rule filter ws ar buffer t start end size e =
+pub success_lays : SuccessLays
+success_lays rule filter ws ar buffer t start end size e =
     let s = success rule filter ws ar t (length buffer) start end size e in
-    rw (after-success rule filter ws ar buffer t start end size e, s.long) (part-put buffer 0 (imageFor rule filter ws ar t) (omega arith))
+    rw (after_success rule filter ws ar buffer t start end size e, s.long) (part-put buffer 0 (image_for rule filter ws ar t) (omega arith))
 
-module _ (rule : ℕ → ℕ) (filter : ℕ) (ws ar buffer : List ℕ) (t start end size : ℕ) (e : writeAnswer rule filter ws ar t (length buffer) ≡ Written.Image start end size) where
+module _ (rule : ℕ → ℕ) (filter : ℕ) (ws ar buffer : List ℕ) (t start end size : ℕ) (e : write_answer rule filter ws ar t (length buffer) ≡ Written.Image start end size) where
   made : Success rule filter ws ar t (length buffer) start end size
   made = success rule filter ws ar t (length buffer) start end size e
 
   pub writable : Writable (state_of ws ar) deepest t
-  writable = free-standing-writable ws ar made.whole t made.root
+  writable = free_standing_writable ws ar made.whole t made.root
 
-  pub short-image : length (image_of rule filter (state_of ws ar) t) ≤ longestFile
-  unfolding imageFor
-  short-image = omega (arith, made.long, made.short)
+  pub short_image : length (image_of rule filter (state_of ws ar) t) ≤ longest_file
+  unfolding image_for
+  short_image = omega (arith, made.long, made.short)
 
-  pub file-is : take size (imageAfter rule filter ws ar t buffer) ≡ image_of rule filter (state_of ws ar) t
-  unfolding imageFor
-  file-is = success-lays rule filter ws ar buffer t start end size e
+  pub file_is : take size (image_after rule filter ws ar t buffer) ≡ image_of rule filter (state_of ws ar) t
+  unfolding image_for
+  file_is = success_lays rule filter ws ar buffer t start end size e
 
 -- a file of the bytes laid reads back, with all that is nested in it
-pub success-back : SuccessReadsBack
-success-back lay ws ar buffer t start end size e =
-    rw (file-is lay.manner.byte lay.filter ws ar buffer t start end size e) (alone-back lay (state_of ws ar) t (writable lay.manner.byte lay.filter ws ar buffer t start end size e) (short-image lay.manner.byte lay.filter ws ar buffer t start end size e))
+pub success_back : SuccessReadsBack
+success_back lay ws ar buffer t start end size e =
+    rw (file_is lay.manner.byte lay.filter ws ar buffer t start end size e) (alone_back lay (state_of ws ar) t (writable lay.manner.byte lay.filter ws ar buffer t start end size e) (short_image lay.manner.byte lay.filter ws ar buffer t start end size e))
 
 -- and passes the check
-pub success-passes : SuccessPasses
-success-passes lay ws ar buffer t start end size e =
-    rw (file-is lay.manner.byte lay.filter ws ar buffer t start end size e) (alone-passes lay (state_of ws ar) t (writable lay.manner.byte lay.filter ws ar buffer t start end size e) (short-image lay.manner.byte lay.filter ws ar buffer t start end size e))
+pub success_passes : SuccessPasses
+success_passes lay ws ar buffer t start end size e =
+    rw (file_is lay.manner.byte lay.filter ws ar buffer t start end size e) (alone_passes lay (state_of ws ar) t (writable lay.manner.byte lay.filter ws ar buffer t start end size e) (short_image lay.manner.byte lay.filter ws ar buffer t start end size e))
 
 -- and by both lookups each key answers alike in it
-pub success-alike : SuccessAlike
+pub success_alike : SuccessAlike
 unfolding Holds
-success-alike rule filter ws ar buffer t start end size e =
+success_alike rule filter ws ar buffer t start end size e =
     let image = image_of rule filter (state_of ws ar) t in
     let few = (made rule filter ws ar buffer t start end size e).few in
-    rw (file-is rule filter ws ar buffer t start end size e)
-    (lookups-alike rule filter (omega (arith, few)) image (state_of ws ar) deepest t headerSize (root-held rule filter (state_of ws ar) t image (take-length image)) (short-image rule filter ws ar buffer t start end size e) refl (writable rule filter ws ar buffer t start end size e))
+    rw (file_is rule filter ws ar buffer t start end size e)
+    (lookups_alike rule filter (omega (arith, few)) image (state_of ws ar) deepest t header_size (root_held rule filter (state_of ws ar) t image (take-length image)) (short_image rule filter ws ar buffer t start end size e) refl (writable rule filter ws ar buffer t start end size e))

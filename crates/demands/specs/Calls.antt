@@ -28,22 +28,22 @@ pub record Met {n : ℕ} (ps : List (ParamKind n)) (r : ResultKind n) (Post : Ou
 
 -- a call of the builder with its arguments; a write with the bytes that its lent buffer held, the number of a manner, and how many filter words
 pub data Call : Type 0 where
-  new-table : (separator : List ℕ) → Call
-  insert-value : (t : ℕ) (key value : List ℕ) → Call
-  insert-table : (t : ℕ) (key : List ℕ) (guest : ℕ) → Call
+  new_table : (separator : List ℕ) → Call
+  insert_value : (t : ℕ) (key value : List ℕ) → Call
+  insert_table : (t : ℕ) (key : List ℕ) (guest : ℕ) → Call
   item_count : (t : ℕ) → Call
   write : (t : ℕ) (buffer : List ℕ) (manner filter : ℕ) → Call
 
 -- on a memory a call answers some numbers, those of its struct in their order, and leaves a memory, and bytes in the buffer that it was lent besides
 pub data Does : Memory → Call → List ℕ → Memory → List ℕ → Type 0 where
-  new-table : (c : Met new-table-kinds.ps new-table-kinds.r new-table-reads.Post)
-      → Does (memory c.given.0.now c.given.1.0.now) (Call.new-table c.given.1.1.0.now)
+  new_table : (c : Met new-table-kinds.ps new-table-kinds.r new-table-reads.Post)
+      → Does (memory c.given.0.now c.given.1.0.now) (Call.new_table c.given.1.1.0.now)
       (c.answer.number ∷ c.answer.table ∷ []) (memory c.left.0.now c.given.1.0.now) []
-  insert-value : (c : Met insert-kinds.ps insert-kinds.r insert-reads.Post)
-      → Does (memory c.given.0.now c.given.1.0.now) (Call.insert-value c.given.1.1.0 c.given.1.1.1.0.now c.given.1.1.1.1.0.now)
+  insert_value : (c : Met insert-kinds.ps insert-kinds.r insert-reads.Post)
+      → Does (memory c.given.0.now c.given.1.0.now) (Call.insert_value c.given.1.1.0 c.given.1.1.1.0.now c.given.1.1.1.1.0.now)
       (c.answer.number ∷ c.answer.replaced ∷ c.answer.at ∷ []) (memory c.left.0.now c.left.1.0.now) []
-  insert-table : (c : Met insert-table-kinds.ps insert-table-kinds.r insert-table-reads.Post)
-      → Does (memory c.given.0.now c.given.1.0.now) (Call.insert-table c.given.1.1.0 c.given.1.1.1.0.now c.given.1.1.1.1.0)
+  insert_table : (c : Met insert-table-kinds.ps insert-table-kinds.r insert-table-reads.Post)
+      → Does (memory c.given.0.now c.given.1.0.now) (Call.insert_table c.given.1.1.0 c.given.1.1.1.0.now c.given.1.1.1.1.0)
       (c.answer.number ∷ c.answer.replaced ∷ c.answer.at ∷ []) (memory c.left.0.now c.left.1.0.now) []
   item_count : (c : Met item-count-kinds.ps item-count-kinds.r item-count-reads.Post)
       → Does (memory c.given.0.now c.given.1.0.now) (Call.item_count c.given.1.1.0)
@@ -59,9 +59,9 @@ pub data Starts : Memory → ℕ → Memory → Type 0 where
 
 -- the bytes that the buffer held which is lent besides; only a write is lent one
 unfoldable pub lent : Call → List ℕ
-lent (Call.new-table separator) = []
-lent (Call.insert-value t key value) = []
-lent (Call.insert-table t key guest) = []
+lent (Call.new_table separator) = []
+lent (Call.insert_value t key value) = []
+lent (Call.insert_table t key guest) = []
 lent (Call.item_count t) = []
 lent (Call.write t buffer manner filter) = buffer
 

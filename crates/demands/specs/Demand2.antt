@@ -3,7 +3,7 @@
 -- accepted insert under it put there, said over the calls and their answers; and so in every nested table, to the last level.
 use Rattle.std.specs.Prelude.{ℕ, zero, suc, ◌-◌, ◌≡◌, true, false, List, [], ◌∷◌, take}
 use Rattle.words.specs.Store.{part}
-use Rattle.text.specs.Utf8.{isUtf8}
+use Rattle.text.specs.Utf8.{is_utf8}
 use Rattle.model.specs.Table.{Content}
 use Rattle.layout.specs.Limits.{deepest}
 use Rattle.build_memory.specs.Memory.{Memory}
@@ -42,8 +42,8 @@ unfoldable pub Answers : ℕ → List Event → Memory → List ℕ → ℕ → 
 Answers manner events m file zero t start end = ⊥
 Answers manner events m file (suc d) t start end =
     Opens m t file start end
-    × ((key : List ℕ) → isUtf8 key ≡ true → Tells manner (λ u from to. Answers manner events m file d u from to) file start end key (held t key events))
-    × ((key : List ℕ) → isUtf8 key ≡ false → Both manner file start end key 8)
+    × ((key : List ℕ) → is_utf8 key ≡ true → Tells manner (λ u from to. Answers manner events m file d u from to) file start end key (held t key events))
+    × ((key : List ℕ) → is_utf8 key ≡ false → Both manner file start end key 8)
 
 abbrev pub Demand2 : Type 0
 Demand2 =

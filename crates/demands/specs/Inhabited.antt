@@ -2,7 +2,7 @@
 -- write which succeeds.
 use Rattle.std.specs.Prelude.{ℕ, ◌-◌, ◌≤◌, ◌≡◌, List, [], ◌∷◌, length, take}
 use Rattle.words.specs.Store.{part}
-use Rattle.build_memory.specs.Memory.{Memory, leastWords}
+use Rattle.build_memory.specs.Memory.{Memory, least_words}
 use Rattle.answers.specs.declared.reading.GvdbOpened.{GvdbOpened}
 use Rattle.answers.specs.declared.reading.GvdbPlace.{GvdbPlace}
 use Rattle.answers.specs.declared.reading.GvdbKey.{GvdbKey}
@@ -20,16 +20,16 @@ pub record EveryCallAnswers : Type 0 where
   pub checks : (file : List ℕ) (start end manner : ℕ) → (r : GvdbCheck) × Checking file start end manner r
 
 -- "a/b"
-abbrev pub workedKey : List ℕ
-workedKey = 97 ∷ 47 ∷ 98 ∷ []
+abbrev pub worked_key : List ℕ
+worked_key = 97 ∷ 47 ∷ 98 ∷ []
 
 -- a table with separator "/", then "a/b" with 07; the latest first
-abbrev pub workedEvents : List Event
-workedEvents = event (Call.insert-value 0 workedKey (7 ∷ [])) (0 ∷ 0 ∷ 0 ∷ []) ∷ event (Call.new-table (47 ∷ [])) (0 ∷ 0 ∷ []) ∷ []
+abbrev pub worked_events : List Event
+worked_events = event (Call.insert_value 0 worked_key (7 ∷ [])) (0 ∷ 0 ∷ 0 ∷ []) ∷ event (Call.new_table (47 ∷ [])) (0 ∷ 0 ∷ []) ∷ []
 
 -- a write then answers 24, 88, 104, and "a/b" looks up 07
 abbrev pub WorkedHistory : Type 0
 WorkedHistory =
-    (start : Memory) (buffer : List ℕ) → leastWords ≤ length start.words → length start.arena ≡ 8 → 104 ≤ length buffer
-    → (m : Memory) × (left : List ℕ) × History 8 workedEvents m × Does m (Call.write 0 buffer 0 0) (0 ∷ 24 ∷ 88 ∷ 104 ∷ []) m left
-    × ((r : GvdbPlace) → Getting (take 104 left) 24 88 workedKey 0 r → (r.number ≡ 0) × (part (take 104 left) r.start (r.end - r.start) ≡ 7 ∷ []))
+    (start : Memory) (buffer : List ℕ) → least_words ≤ length start.words → length start.arena ≡ 8 → 104 ≤ length buffer
+    → (m : Memory) × (left : List ℕ) × History 8 worked_events m × Does m (Call.write 0 buffer 0 0) (0 ∷ 24 ∷ 88 ∷ 104 ∷ []) m left
+    × ((r : GvdbPlace) → Getting (take 104 left) 24 88 worked_key 0 r → (r.number ≡ 0) × (part (take 104 left) r.start (r.end - r.start) ≡ 7 ∷ []))

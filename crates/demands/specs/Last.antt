@@ -2,10 +2,10 @@
 -- a container, where an accepted insert went along it; else nothing.
 use Rattle.std.specs.Prelude.{ℕ, Bool, false, ◌&&◌, ◌||◌, List, [], ◌∷◌, eqb, get_or}
 use Rattle.words.specs.Choice.{pick}
-use Rattle.key_order.specs.Compare.{sameBytes}
+use Rattle.key_order.specs.Compare.{same_bytes}
 use Rattle.key_order.specs.Prefix.{prefixes}
 use Rattle.model.specs.Table.{Content}
-use Rattle.model.specs.Builder.{noSeparator, separatorOf}
+use Rattle.model.specs.Builder.{no_separator, separator_of}
 use Rattle.demands.specs.Calls.{Call, Event, accepted}
 
 pub data Held : Type 0 where
@@ -21,39 +21,39 @@ or_else (Held.holds content) other = Held.holds content
 
 -- the call is an insert under key k of table t, and what it puts there
 unfoldable pub puts : Call → ℕ → List ℕ → Held
-puts (Call.new-table separator) t k = Held.nothing
-puts (Call.insert-value u key value) t k = pick (eqb u t && sameBytes key k) (Held.holds (Content.bytes value)) Held.nothing
-puts (Call.insert-table u key guest) t k = pick (eqb u t && sameBytes key k) (Held.holds (Content.nested guest)) Held.nothing
+puts (Call.new_table separator) t k = Held.nothing
+puts (Call.insert_value u key value) t k = pick (eqb u t && same_bytes key k) (Held.holds (Content.bytes value)) Held.nothing
+puts (Call.insert_table u key guest) t k = pick (eqb u t && same_bytes key k) (Held.holds (Content.nested guest)) Held.nothing
 puts (Call.item_count u) t k = Held.nothing
 puts (Call.write u buffer manner filter) t k = Held.nothing
 
 -- k is one of some keys
 unfoldable pub among : List (List ℕ) → List ℕ → Bool
 among [] k = false
-among (key ∷ keys) k = sameBytes key k || among keys k
+among (key ∷ keys) k = same_bytes key k || among keys k
 
 -- the call is an insert into table t, and k one of the prefixes of its key that end at a separator, or the key itself
 unfoldable pub passes : ℕ → Call → ℕ → List ℕ → Bool
-passes separator (Call.new-table s) t k = false
-passes separator (Call.insert-value u key value) t k = eqb u t && among (prefixes separator key) k
-passes separator (Call.insert-table u key guest) t k = eqb u t && among (prefixes separator key) k
+passes separator (Call.new_table s) t k = false
+passes separator (Call.insert_value u key value) t k = eqb u t && among (prefixes separator key) k
+passes separator (Call.insert_table u key guest) t k = eqb u t && among (prefixes separator key) k
 passes separator (Call.item_count u) t k = false
 passes separator (Call.write u buffer manner filter) t k = false
 
 -- ---- over a history, the latest event first
 
 -- the separator of table t, as the call that made it said: what it answered, 0 and the table's number
-unfoldable pub madeBy : Call → List ℕ → ℕ → ℕ → ℕ
-madeBy (Call.new-table separator) said t before = pick (accepted said && eqb (get_or said 1 0) t) (separatorOf separator) before
-madeBy (Call.insert-value u key value) said t before = before
-madeBy (Call.insert-table u key guest) said t before = before
-madeBy (Call.item_count u) said t before = before
-madeBy (Call.write u buffer manner filter) said t before = before
+unfoldable pub made_by : Call → List ℕ → ℕ → ℕ → ℕ
+made_by (Call.new_table separator) said t before = pick (accepted said && eqb (get_or said 1 0) t) (separator_of separator) before
+made_by (Call.insert_value u key value) said t before = before
+made_by (Call.insert_table u key guest) said t before = before
+made_by (Call.item_count u) said t before = before
+made_by (Call.write u buffer manner filter) said t before = before
 
 module _ (t : ℕ) where
   unfoldable pub separator : List Event → ℕ
-  separator [] = noSeparator
-  separator (e ∷ earlier) = madeBy e.call e.said t (separator earlier)
+  separator [] = no_separator
+  separator (e ∷ earlier) = made_by e.call e.said t (separator earlier)
 
   module _ (k : List ℕ) where
     -- what the last accepted insert under key k put there

@@ -1,7 +1,7 @@
 -- Calls of the readers and of the check, as their contracts say what they do: the file, the pointer, and what else is given, the number of a manner last; then the answer.
 use Rattle.std.specs.Prelude.{ℕ, List}
-use Rattle.read_find.specs.Find.{Manner, mannerOf}
-use Rattle.answers.specs.Manner.{form_of, lookupOf}
+use Rattle.read_find.specs.Find.{Manner, manner_of}
+use Rattle.answers.specs.Manner.{form_of, lookup_of}
 use Rattle.answers.specs.declared.header.GvdbHeader.{GvdbHeader}
 use Rattle.answers.specs.declared.reading.GvdbOpened.{GvdbOpened}
 use Rattle.answers.specs.declared.reading.GvdbPlace.{GvdbPlace}
@@ -40,22 +40,22 @@ use Rattle.demands.specs.Calls.{Met}
 
 -- the manner that a number names
 abbrev pub read_by : ℕ → Manner
-read_by manner = mannerOf (record { form = form_of manner; lookup = lookupOf manner })
+read_by manner = manner_of (record { form = form_of manner; lookup = lookup_of manner })
 
 -- the number of the interface, and the least length of a builder's words: two calls without arguments
 pub data Abi : ℕ → Type 0 where
   abi : (c : Met abi-kinds.ps abi-kinds.r abi-reads.Post) → Abi c.answer
 
 pub data MemoryWords : ℕ → Type 0 where
-  memory-words : (c : Met memory-words-kinds.ps memory-words-kinds.r memory-words-reads.Post) → MemoryWords c.answer
+  memory_words : (c : Met memory-words-kinds.ps memory-words-kinds.r memory-words-reads.Post) → MemoryWords c.answer
 
 -- reading the header of a file
 pub data ReadingHeader : List ℕ → GvdbHeader → Type 0 where
-  reading-header : (c : Met read-header-kinds.ps read-header-kinds.r read-header-reads.Post) → ReadingHeader c.given.0.now c.answer
+  reading_header : (c : Met read-header-kinds.ps read-header-kinds.r read-header-reads.Post) → ReadingHeader c.given.0.now c.answer
 
 -- laying one into a lent target, by a byte order (0 is little, every other number big) and a root pointer: what the target held, the answer, and what it holds then
 pub data LayingHeader : List ℕ → ℕ → ℕ → ℕ → ℕ → List ℕ → Type 0 where
-  laying-header : (c : Met lay-header-kinds.ps lay-header-kinds.r lay-header-reads.Post)
+  laying_header : (c : Met lay-header-kinds.ps lay-header-kinds.r lay-header-reads.Post)
       → LayingHeader c.given.0.now c.given.1.0 c.given.1.1.0 c.given.1.1.1.0 c.answer c.left.0.now
 
 -- opening the table at a pointer of a file
@@ -67,12 +67,12 @@ pub data Getting : List ℕ → ℕ → ℕ → List ℕ → ℕ → GvdbPlace �
   getting : (c : Met get-kinds.ps get-kinds.r get-reads.Post) → Getting c.given.0.now c.given.1.0 c.given.1.1.0 c.given.1.1.1.0.now c.given.1.1.1.1.0 c.answer
 
 pub data GettingTable : List ℕ → ℕ → ℕ → List ℕ → ℕ → GvdbPlace → Type 0 where
-  getting-table : (c : Met get-table-kinds.ps get-table-kinds.r get-table-reads.Post)
+  getting_table : (c : Met get-table-kinds.ps get-table-kinds.r get-table-reads.Post)
       → GettingTable c.given.0.now c.given.1.0 c.given.1.1.0 c.given.1.1.1.0.now c.given.1.1.1.1.0 c.answer
 
 -- looking a key up in the owner's table, and in the district's under it: file and pointer of each, the key, then the number of a manner of each
 pub data GettingLayered : List ℕ → ℕ → ℕ → List ℕ → ℕ → ℕ → List ℕ → ℕ → ℕ → GvdbLayered → Type 0 where
-  getting-layered : (c : Met get-layered-kinds.ps get-layered-kinds.r get-layered-reads.Post)
+  getting_layered : (c : Met get-layered-kinds.ps get-layered-kinds.r get-layered-reads.Post)
       → GettingLayered c.given.0.now c.given.1.0 c.given.1.1.0 c.given.1.1.1.0.now c.given.1.1.1.1.0 c.given.1.1.1.1.1.0
       c.given.1.1.1.1.1.1.0.now c.given.1.1.1.1.1.1.1.0 c.given.1.1.1.1.1.1.1.1.0 c.answer
 
@@ -83,11 +83,11 @@ pub data Listing : List ℕ → ℕ → ℕ → ℕ → List ℕ → GvdbKey →
 
 -- listing the first value at or after a position
 pub data ListingValue : List ℕ → ℕ → ℕ → ℕ → GvdbValue → Type 0 where
-  listing-value : (c : Met next-value-kinds.ps next-value-kinds.r next-value-reads.Post) → ListingValue c.given.0.now c.given.1.0 c.given.1.1.0 c.given.1.1.1.0 c.answer
+  listing_value : (c : Met next-value-kinds.ps next-value-kinds.r next-value-reads.Post) → ListingValue c.given.0.now c.given.1.0 c.given.1.1.0 c.given.1.1.1.0 c.answer
 
 -- listing the child at a position of the container of a key
 pub data ListingChild : List ℕ → ℕ → ℕ → List ℕ → ℕ → ℕ → GvdbChild → Type 0 where
-  listing-child : (c : Met next-child-kinds.ps next-child-kinds.r next-child-reads.Post)
+  listing_child : (c : Met next-child-kinds.ps next-child-kinds.r next-child-reads.Post)
       → ListingChild c.given.0.now c.given.1.0 c.given.1.1.0 c.given.1.1.1.0.now c.given.1.1.1.1.0 c.given.1.1.1.1.1.0 c.answer
 
 -- judging a text

@@ -6,22 +6,22 @@ use Rattle.file_header.specs.declared.header.HeaderLaid.{HeaderLaid}
 use Rattle.layout.specs.Refusal.{number}
 
 -- a header: the byte order of the values, 0 little and 1 big; start and end of the root pointer; all 0 on a refusal
-unfoldable pub headedNumber : Headed → ℕ
-headedNumber (Headed.Root order start end) = 0
-headedNumber (Headed.Refused why) = number why
+unfoldable pub headed_number : Headed → ℕ
+headed_number (Headed.Root order start end) = 0
+headed_number (Headed.Refused why) = number why
 
-abbrev pub orderNumber : ByteOrder → ℕ
-orderNumber ByteOrder.Little = 0
-orderNumber ByteOrder.Big = 1
+abbrev pub order_number : ByteOrder → ℕ
+order_number ByteOrder.Little = 0
+order_number ByteOrder.Big = 1
 
-unfoldable pub headedOrder : Headed → ℕ
-headedOrder (Headed.Root order start end) = orderNumber order
-headedOrder (Headed.Refused why) = 0
+unfoldable pub headed_order : Headed → ℕ
+headed_order (Headed.Root order start end) = order_number order
+headed_order (Headed.Refused why) = 0
 
-unfoldable pub headedPointer : Headed → ℕ × ℕ
-headedPointer (Headed.Root order start end) = (start, end)
-headedPointer (Headed.Refused why) = (0, 0)
+unfoldable pub headed_pointer : Headed → ℕ × ℕ
+headed_pointer (Headed.Root order start end) = (start, end)
+headed_pointer (Headed.Refused why) = (0, 0)
 
-unfoldable pub headerLaidNumber : HeaderLaid → ℕ
-headerLaidNumber HeaderLaid.Laid = 0
-headerLaidNumber (HeaderLaid.Refused why) = number why
+unfoldable pub header_laid_number : HeaderLaid → ℕ
+header_laid_number HeaderLaid.Laid = 0
+header_laid_number (HeaderLaid.Refused why) = number why

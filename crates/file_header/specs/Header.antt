@@ -2,14 +2,14 @@
 -- four numbers of a header are little endian in both.
 use Rattle.std.specs.Prelude.{ℕ, ◌^◌, ◌≤◌, ◌<◌, ◌≡◌, ◌↔◌, Bool, true, List, [], ◌∷◌, ◌++◌, length, drop, ltb, eqb}
 use Rattle.words.specs.Choice.{pick}
-use Rattle.words.specs.Field.{littleEndian, spelled, wordAt, longAt}
+use Rattle.words.specs.Field.{little_endian, spelled, word_at, long_at}
 use Rattle.words.specs.Store.{put_at}
 use Rattle.layout.specs.declared.refusal.Refusal.TheVariants.{FileTooLong, HeaderTooShort, SignatureUnknown, VersionUnknown}
 use Rattle.file_header.specs.declared.header.ByteOrder.{ByteOrder}
 use Rattle.file_header.specs.declared.header.Headed.{Headed}
 use Rattle.file_header.specs.declared.header.HeaderLaid.{HeaderLaid}
-use Rattle.layout.specs.Limits.{longestFile}
-use Rattle.layout.specs.Sizes.{headerSize}
+use Rattle.layout.specs.Limits.{longest_file}
+use Rattle.layout.specs.Sizes.{header_size}
 
 -- bytes 0 to 7: "GVariant", and "raVGtnai" where values are big endian (each half reversed)
 unfoldable pub signature : ByteOrder → List ℕ
@@ -17,64 +17,64 @@ signature ByteOrder.Little = 0x47 ∷ 0x56 ∷ 0x61 ∷ 0x72 ∷ 0x69 ∷ 0x61 �
 signature ByteOrder.Big = 0x72 ∷ 0x61 ∷ 0x56 ∷ 0x47 ∷ 0x74 ∷ 0x6E ∷ 0x61 ∷ 0x69 ∷ []
 
 -- the signature, version 0, options 0, start and end of the root pointer
-unfoldable pub headerBytes : ByteOrder → ℕ → ℕ → List ℕ
-headerBytes order start end = signature order ++ (spelled 4 0 ++ (spelled 4 0 ++ (spelled 4 start ++ spelled 4 end)))
+unfoldable pub header_bytes : ByteOrder → ℕ → ℕ → List ℕ
+header_bytes order start end = signature order ++ (spelled 4 0 ++ (spelled 4 0 ++ (spelled 4 start ++ spelled 4 end)))
 
 -- ---- reading: 1, 16, 17, 19
 
-unfoldable pub hasSignature : List ℕ → ByteOrder → Bool
-hasSignature file order = eqb (longAt file 0) (littleEndian (signature order))
+unfoldable pub has_signature : List ℕ → ByteOrder → Bool
+has_signature file order = eqb (long_at file 0) (little_endian (signature order))
 
 -- 19 where the version is not 0; options are not looked at
 unfoldable pub versioned : List ℕ → ByteOrder → Headed
-versioned file order = pick (eqb (wordAt file 8) 0) (Headed.Root order (wordAt file 16) (wordAt file 20)) (Headed.Refused VersionUnknown)
+versioned file order = pick (eqb (word_at file 8) 0) (Headed.Root order (word_at file 16) (word_at file 20)) (Headed.Refused VersionUnknown)
 
-unfoldable pub readHeader : List ℕ → Headed
-readHeader file =
-    pick (ltb longestFile (length file)) (Headed.Refused FileTooLong)
-    (pick (ltb (length file) headerSize) (Headed.Refused HeaderTooShort)
-    (pick (hasSignature file ByteOrder.Little) (versioned file ByteOrder.Little)
-    (pick (hasSignature file ByteOrder.Big) (versioned file ByteOrder.Big)
+unfoldable pub read_header : List ℕ → Headed
+read_header file =
+    pick (ltb longest_file (length file)) (Headed.Refused FileTooLong)
+    (pick (ltb (length file) header_size) (Headed.Refused HeaderTooShort)
+    (pick (has_signature file ByteOrder.Little) (versioned file ByteOrder.Little)
+    (pick (has_signature file ByteOrder.Big) (versioned file ByteOrder.Big)
     (Headed.Refused SignatureUnknown))))
 
 -- ---- laying: 1, 16
 
-unfoldable pub headerLaid : ℕ → HeaderLaid
-headerLaid size =
-    pick (ltb longestFile size) (HeaderLaid.Refused FileTooLong)
-    (pick (ltb size headerSize) (HeaderLaid.Refused HeaderTooShort) HeaderLaid.Laid)
+unfoldable pub header_laid : ℕ → HeaderLaid
+header_laid size =
+    pick (ltb longest_file size) (HeaderLaid.Refused FileTooLong)
+    (pick (ltb size header_size) (HeaderLaid.Refused HeaderTooShort) HeaderLaid.Laid)
 
 -- a refusal leaves the target as it was
-unfoldable pub whenLaid : HeaderLaid → List ℕ → List ℕ → List ℕ
-whenLaid HeaderLaid.Laid laid target = laid
-whenLaid (HeaderLaid.Refused why) laid target = target
+unfoldable pub when_laid : HeaderLaid → List ℕ → List ℕ → List ℕ
+when_laid HeaderLaid.Laid laid target = laid
+when_laid (HeaderLaid.Refused why) laid target = target
 
-unfoldable pub withHeader : List ℕ → ByteOrder → ℕ → ℕ → List ℕ
-withHeader target order start end = whenLaid (headerLaid (length target)) (put_at target 0 (headerBytes order start end)) target
+unfoldable pub with_header : List ℕ → ByteOrder → ℕ → ℕ → List ℕ
+with_header target order start end = when_laid (header_laid (length target)) (put_at target 0 (header_bytes order start end)) target
 
 -- ---- the statements
 
 -- a header that reads: the file is long and short enough, and has the signature of an order, version 0 and this pointer
 pub record Reads (file : List ℕ) (order : ByteOrder) (start end : ℕ) : Type 0 where
-  pub short : length file ≤ longestFile
-  pub long : headerSize ≤ length file
-  pub signed : hasSignature file order ≡ true
-  pub version : wordAt file 8 ≡ 0
-  pub starts : wordAt file 16 ≡ start
-  pub ends : wordAt file 20 ≡ end
+  pub short : length file ≤ longest_file
+  pub long : header_size ≤ length file
+  pub signed : has_signature file order ≡ true
+  pub version : word_at file 8 ≡ 0
+  pub starts : word_at file 16 ≡ start
+  pub ends : word_at file 20 ≡ end
 
 -- reading succeeds exactly so
 abbrev pub ReadsExactly : Type 0
-ReadsExactly = (file : List ℕ) (order : ByteOrder) (start end : ℕ) → (readHeader file ≡ Headed.Root order start end) ↔ Reads file order start end
+ReadsExactly = (file : List ℕ) (order : ByteOrder) (start end : ℕ) → (read_header file ≡ Headed.Root order start end) ↔ Reads file order start end
 
 -- what a success laid is read: the same order and pointer
 abbrev pub LaidIsRead : Type 0
 LaidIsRead =
-    (target : List ℕ) (order : ByteOrder) (start end : ℕ) → headerLaid (length target) ≡ HeaderLaid.Laid → start < 2 ^ 32 → end < 2 ^ 32
-    → readHeader (withHeader target order start end) ≡ Headed.Root order start end
+    (target : List ℕ) (order : ByteOrder) (start end : ℕ) → header_laid (length target) ≡ HeaderLaid.Laid → start < 2 ^ 32 → end < 2 ^ 32
+    → read_header (with_header target order start end) ≡ Headed.Root order start end
 
 -- laying keeps the target's length, and every byte from 24 on
 abbrev pub LaidElsewhere : Type 0
 LaidElsewhere =
     (target : List ℕ) (order : ByteOrder) (start end : ℕ)
-    → (length (withHeader target order start end) ≡ length target) × (drop headerSize (withHeader target order start end) ≡ drop headerSize target)
+    → (length (with_header target order start end) ≡ length target) × (drop header_size (with_header target order start end) ≡ drop header_size target)

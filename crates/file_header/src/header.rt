@@ -2,8 +2,8 @@
 ghost use Rattle.std.specs.Prelude.{◌≡◌, ◌++◌, ◌≤◌, length};
 ghost use Rattle.words.specs.Field.{spelled};
 ghost use Rattle.words.specs.Store.{put_at};
-ghost use Rattle.layout.specs.Sizes.{headerSize};
-ghost use Rattle.file_header.specs.Header.{signature, versioned, readHeader, headerLaid, withHeader};
+ghost use Rattle.layout.specs.Sizes.{header_size};
+ghost use Rattle.file_header.specs.Header.{signature, versioned, read_header, header_laid, with_header};
 
 use layout::limits::LONGEST_FILE;
 use layout::refusal::Refusal;
@@ -41,7 +41,7 @@ pub enum HeaderLaid {
 
 // A header whose signature is known: 19, or the root pointer.
 fn versioned_header(file: &[u8], order: ByteOrder) -> Headed
-    requires { headerSize ≤ length file.now }
+    requires { header_size ≤ length file.now }
     ensures { result ≡ versioned file.now order }
 {
     if word_at(file, 8) != 0 {
@@ -54,7 +54,7 @@ fn versioned_header(file: &[u8], order: ByteOrder) -> Headed
 
 // gvdb-rs: Header::try_from_bytes. The header of a file: 1, 16, 17, 19, or what it says.
 pub fn read_header(file: &[u8]) -> Headed
-    ensures { result ≡ readHeader file.now }
+    ensures { result ≡ read_header file.now }
 {
     if LONGEST_FILE < file.len() {
         return Headed::Refused(Refusal::FileTooLong);
@@ -74,7 +74,7 @@ pub fn read_header(file: &[u8]) -> Headed
 
 // Lays the signature of an order.
 fn lay_signature(target: &mut [u8], order: ByteOrder)
-    requires { headerSize ≤ length target.old }
+    requires { header_size ≤ length target.old }
     ensures { target.new ≡ put_at target.old 0 (signature order) }
 {
     match order {
@@ -91,7 +91,7 @@ fn lay_signature(target: &mut [u8], order: ByteOrder)
 
 // Lays what stands behind the signature: version 0, options 0, the root pointer.
 fn lay_root(target: &mut [u8], start: u32, end: u32)
-    requires { headerSize ≤ length target.old }
+    requires { header_size ≤ length target.old }
     ensures { target.new ≡ put_at target.old 8 (spelled 4 0 ++ (spelled 4 0 ++ (spelled 4 start ++ spelled 4 end))) }
 {
     put_word(target, 8, 0);
@@ -102,8 +102,8 @@ fn lay_root(target: &mut [u8], start: u32, end: u32)
 
 // gvdb-rs: Header::new. Lays the header of a file into its first 24 bytes: 1, 16. A refusal writes nothing.
 pub fn lay_header(target: &mut [u8], order: ByteOrder, start: u32, end: u32) -> HeaderLaid
-    ensures said { result ≡ headerLaid (length target.old) }
-    ensures wrote { target.new ≡ withHeader target.old order start end }
+    ensures said { result ≡ header_laid (length target.old) }
+    ensures wrote { target.new ≡ with_header target.old order start end }
 {
     if LONGEST_FILE < target.len() {
         return HeaderLaid::Refused(Refusal::FileTooLong);

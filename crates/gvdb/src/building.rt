@@ -1,11 +1,11 @@
 // Building tables over lent memory.
 ghost use Rattle.std.specs.Prelude.{◌≡◌};
-ghost use Rattle.build_memory.specs.Memory.{leastWords, memory, outcome, freshStart};
-ghost use Rattle.build_memory.specs.Answer.{startedNumber};
-ghost use Rattle.build_tables.specs.Table.{newTable, itemCount};
-ghost use Rattle.build_values.specs.Insert.{insertValue};
-ghost use Rattle.build_nested.specs.Nest.{insertTable};
-ghost use Rattle.answers_build.specs.Building.{told, addedAnswer, countedAnswer, insertedAnswer};
+ghost use Rattle.build_memory.specs.Memory.{least_words, memory, outcome, fresh_start};
+ghost use Rattle.build_memory.specs.Answer.{started_number};
+ghost use Rattle.build_tables.specs.Table.{new_table, item_count};
+ghost use Rattle.build_values.specs.Insert.{insert_value};
+ghost use Rattle.build_nested.specs.Nest.{insert_table};
+ghost use Rattle.answers_build.specs.Building.{told, added_answer, counted_answer, inserted_answer};
 
 use answers_build::building::{
     GvdbCount, GvdbInserted, GvdbTable, added_of, counted_of, inserted_of, started_of,
@@ -14,7 +14,7 @@ use answers_build::building::{
 // The least length of the builder's words.
 #[unsafe(no_mangle)]
 pub extern "C" fn gvdb_memory_words() -> usize
-    ensures { result ≡ leastWords }
+    ensures { result ≡ least_words }
 {
     build_memory::fresh::memory_words()
 }
@@ -22,7 +22,7 @@ pub extern "C" fn gvdb_memory_words() -> usize
 // An empty builder, whatever the memory held.
 #[unsafe(no_mangle)]
 pub extern "C" fn gvdb_fresh(words: &mut [usize], arena: &[u8]) -> u32
-    ensures { outcome result (memory words.new arena.now) ≡ told startedNumber (freshStart words.old arena.now) }
+    ensures { outcome result (memory words.new arena.now) ≡ told started_number (fresh_start words.old arena.now) }
 {
     started_of(build_memory::fresh::fresh(words, arena))
 }
@@ -31,7 +31,7 @@ pub extern "C" fn gvdb_fresh(words: &mut [usize], arena: &[u8]) -> u32
 // A new, empty table with the separator.
 #[unsafe(no_mangle)]
 pub extern "C" fn gvdb_new_table(words: &mut [usize], arena: &[u8], separator: &[u8]) -> GvdbTable
-    ensures { outcome result (memory words.new arena.now) ≡ told addedAnswer (newTable words.old arena.now separator.now) }
+    ensures { outcome result (memory words.new arena.now) ≡ told added_answer (new_table words.old arena.now separator.now) }
 {
     added_of(build_tables::add::new_table(words, arena, separator))
 }
@@ -46,7 +46,7 @@ pub extern "C" fn gvdb_insert(
     key: &[u8],
     value: &[u8],
 ) -> GvdbInserted
-    ensures { outcome result (memory words.new arena.new) ≡ told insertedAnswer (insertValue words.old arena.old table key.now value.now) }
+    ensures { outcome result (memory words.new arena.new) ≡ told inserted_answer (insert_value words.old arena.old table key.now value.now) }
 {
     inserted_of(build_values::insert::insert_value(words, arena, table, key, value))
 }
@@ -61,7 +61,7 @@ pub extern "C" fn gvdb_insert_table(
     key: &[u8],
     guest: u32,
 ) -> GvdbInserted
-    ensures { outcome result (memory words.new arena.new) ≡ told insertedAnswer (insertTable words.old arena.old table key.now guest) }
+    ensures { outcome result (memory words.new arena.new) ≡ told inserted_answer (insert_table words.old arena.old table key.now guest) }
 {
     inserted_of(build_nested::insert::insert_table(words, arena, table, key, guest))
 }
@@ -70,7 +70,7 @@ pub extern "C" fn gvdb_insert_table(
 // How many items a table has, containers included.
 #[unsafe(no_mangle)]
 pub extern "C" fn gvdb_item_count(words: &[usize], arena: &[u8], table: u32) -> GvdbCount
-    ensures { result ≡ countedAnswer (itemCount words.now arena.now table) }
+    ensures { result ≡ counted_answer (item_count words.now arena.now table) }
 {
     counted_of(build_tables::count::item_count(words, arena, table))
 }

@@ -1,8 +1,8 @@
 // The header of a file, and the number of this interface.
 ghost use Rattle.std.specs.Prelude.{◌≡◌, length};
-ghost use Rattle.file_header.specs.Answer.{headerLaidNumber};
-ghost use Rattle.file_header.specs.Header.{readHeader, headerLaid, withHeader};
-ghost use Rattle.answers.specs.Header.{abi, order_of, headedAnswer};
+ghost use Rattle.file_header.specs.Answer.{header_laid_number};
+ghost use Rattle.file_header.specs.Header.{read_header, header_laid, with_header};
+ghost use Rattle.answers.specs.Header.{abi, order_of, headed_answer};
 
 use answers::header::{GvdbHeader, headed_of, header_laid_of, order_of};
 
@@ -19,7 +19,7 @@ pub extern "C" fn gvdb_abi() -> u32
 
 #[unsafe(no_mangle)]
 pub extern "C" fn gvdb_read_header(file: &[u8]) -> GvdbHeader
-    ensures { result ≡ headedAnswer (readHeader file.now) }
+    ensures { result ≡ headed_answer (read_header file.now) }
 {
     headed_of(file_header::header::read_header(file))
 }
@@ -27,8 +27,8 @@ pub extern "C" fn gvdb_read_header(file: &[u8]) -> GvdbHeader
 // Lays a header into the first 24 bytes. A refusal writes nothing.
 #[unsafe(no_mangle)]
 pub extern "C" fn gvdb_lay_header(target: &mut [u8], big: u32, start: u32, end: u32) -> u32
-    ensures said { result ≡ headerLaidNumber (headerLaid (length target.old)) }
-    ensures wrote { target.new ≡ withHeader target.old (order_of big) start end }
+    ensures said { result ≡ header_laid_number (header_laid (length target.old)) }
+    ensures wrote { target.new ≡ with_header target.old (order_of big) start end }
 {
     let order = order_of(big);
     header_laid_of(file_header::header::lay_header(target, order, start, end))

@@ -1,14 +1,14 @@
 // Reading a table: opening, lookups, listings.
 ghost use Rattle.std.specs.Prelude.{◌≡◌, length};
-ghost use Rattle.text.specs.Utf8.{firstBad};
-ghost use Rattle.layout.specs.Table.{openTable};
-ghost use Rattle.read_find.specs.Find.{mannerOf};
-ghost use Rattle.read.specs.Lookup.{lookupValue, lookupTable};
-ghost use Rattle.read.specs.Layered.{layeredValue};
+ghost use Rattle.text.specs.Utf8.{first_bad};
+ghost use Rattle.layout.specs.Table.{open_table};
+ghost use Rattle.read_find.specs.Find.{manner_of};
+ghost use Rattle.read.specs.Lookup.{lookup_value, lookup_table};
+ghost use Rattle.read.specs.Layered.{layered_value};
 ghost use Rattle.read_listing.specs.Listing.{key_at, listed, written, value_at};
-ghost use Rattle.read_listing.specs.Children.{nextChild};
-ghost use Rattle.answers.specs.Manner.{mannerNamed};
-ghost use Rattle.answers.specs.Reading.{openedAnswer, lookedAnswer, layeredAnswer, listedAnswer, valuedAnswer, childedAnswer};
+ghost use Rattle.read_listing.specs.Children.{next_child};
+ghost use Rattle.answers.specs.Manner.{manner_named};
+ghost use Rattle.answers.specs.Reading.{opened_answer, looked_answer, layered_answer, listed_answer, valued_answer, childed_answer};
 
 use answers::manner::manner_of;
 use answers::reading::{
@@ -20,7 +20,7 @@ use read_listing::listing::Cursor;
 // Where the first sequence that RFC 3629 does not allow starts, or the length of a good text.
 #[unsafe(no_mangle)]
 pub extern "C" fn gvdb_first_bad(text: &[u8]) -> usize
-    ensures { result ≡ firstBad text.now }
+    ensures { result ≡ first_bad text.now }
 {
     text::utf8::first_bad(text)
 }
@@ -29,7 +29,7 @@ pub extern "C" fn gvdb_first_bad(text: &[u8]) -> usize
 // Opens the table at a pointer.
 #[unsafe(no_mangle)]
 pub extern "C" fn gvdb_open(file: &[u8], start: u32, end: u32) -> GvdbOpened
-    ensures { result ≡ openedAnswer (openTable file.now start end) }
+    ensures { result ≡ opened_answer (open_table file.now start end) }
 {
     opened_of(layout::table::open_table(file, start, end))
 }
@@ -38,7 +38,7 @@ pub extern "C" fn gvdb_open(file: &[u8], start: u32, end: u32) -> GvdbOpened
 // Looks up the value of a key.
 #[unsafe(no_mangle)]
 pub extern "C" fn gvdb_get(file: &[u8], start: u32, end: u32, key: &[u8], manner: u32) -> GvdbPlace
-    ensures { result ≡ lookedAnswer (lookupValue (mannerOf (mannerNamed manner)) file.now start end key.now) }
+    ensures { result ≡ looked_answer (lookup_value (manner_of (manner_named manner)) file.now start end key.now) }
 {
     let named = manner_of(manner);
     looked_of(read::lookup::lookup_value(file, start, end, key, named))
@@ -57,7 +57,7 @@ pub extern "C" fn gvdb_get_layered<'a, 'k>(
     omanner: u32,
     dmanner: u32,
 ) -> GvdbLayered
-    ensures { result ≡ layeredAnswer (layeredValue (mannerOf (mannerNamed omanner)) (mannerOf (mannerNamed dmanner)) owner.now ostart oend district.now dstart dend key.now) }
+    ensures { result ≡ layered_answer (layered_value (manner_of (manner_named omanner)) (manner_of (manner_named dmanner)) owner.now ostart oend district.now dstart dend key.now) }
 {
     let above = manner_of(omanner);
     let below = manner_of(dmanner);
@@ -76,7 +76,7 @@ pub extern "C" fn gvdb_get_table(
     key: &[u8],
     manner: u32,
 ) -> GvdbPlace
-    ensures { result ≡ lookedAnswer (lookupTable (mannerOf (mannerNamed manner)) file.now start end key.now) }
+    ensures { result ≡ looked_answer (lookup_table (manner_of (manner_named manner)) file.now start end key.now) }
 {
     let named = manner_of(manner);
     looked_of(read::lookup::lookup_table(file, start, end, key, named))
@@ -92,7 +92,7 @@ pub extern "C" fn gvdb_next_key(
     position: usize,
     out: &mut [u8],
 ) -> GvdbKey
-    ensures said { result ≡ listedAnswer (listed (key_at file.now start end position) (length out.old) position) }
+    ensures said { result ≡ listed_answer (listed (key_at file.now start end position) (length out.old) position) }
     ensures wrote { out.new ≡ written (key_at file.now start end position) out.old }
 {
     let cursor = Cursor { at: position };
@@ -103,7 +103,7 @@ pub extern "C" fn gvdb_next_key(
 // The first value at or after a position.
 #[unsafe(no_mangle)]
 pub extern "C" fn gvdb_next_value(file: &[u8], start: u32, end: u32, position: usize) -> GvdbValue
-    ensures { result ≡ valuedAnswer (value_at file.now start end position) }
+    ensures { result ≡ valued_answer (value_at file.now start end position) }
 {
     let cursor = Cursor { at: position };
     valued_of(cursor.next_value(file, start, end))
@@ -119,7 +119,7 @@ pub extern "C" fn gvdb_next_child(
     position: usize,
     manner: u32,
 ) -> GvdbChild
-    ensures { result ≡ childedAnswer (nextChild (mannerOf (mannerNamed manner)) file.now start end key.now position) }
+    ensures { result ≡ childed_answer (next_child (manner_of (manner_named manner)) file.now start end key.now position) }
 {
     let cursor = Cursor { at: position };
     let named = manner_of(manner);

@@ -1,9 +1,9 @@
 // Writing an image.
 ghost use Rattle.std.specs.Prelude.{◌≡◌, length};
-ghost use Rattle.key_hash.specs.Hash.{ruleOf};
-ghost use Rattle.write.specs.Write.{writeAnswer, imageAfter};
+ghost use Rattle.key_hash.specs.Hash.{rule_of};
+ghost use Rattle.write.specs.Write.{write_answer, image_after};
 ghost use Rattle.answers.specs.Manner.{form_of};
-ghost use Rattle.answers_build.specs.Writing.{writtenAnswer};
+ghost use Rattle.answers_build.specs.Writing.{written_answer};
 
 use answers::manner::form_of;
 use answers_build::writing::{GvdbImage, written_of};
@@ -20,9 +20,9 @@ pub extern "C" fn gvdb_write(
     manner: u32,
     filter: u32,
 ) -> GvdbImage
-    ensures said { result ≡ writtenAnswer (writeAnswer (ruleOf (form_of manner)) filter words.old arena.now table (length image.old)) }
+    ensures said { result ≡ written_answer (write_answer (rule_of (form_of manner)) filter words.old arena.now table (length image.old)) }
     ensures kept { words.new ≡ words.old }
-    ensures wrote { image.new ≡ imageAfter (ruleOf (form_of manner)) filter words.old arena.now table image.old }
+    ensures wrote { image.new ≡ image_after (rule_of (form_of manner)) filter words.old arena.now table image.old }
 {
     let form = form_of(manner);
     written_of(write::write::write(words, arena, table, image, form, filter))

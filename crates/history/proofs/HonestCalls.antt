@@ -10,55 +10,55 @@ use lib.Dec.{eqb, ltb, leb}
 use lib.ListN.{length}
 use Rattle.words.specs.Choice.{pick}
 use Rattle.words.specs.Store.{put_at}
-use Rattle.words.proofs.ChoiceLaws.{pick-with}
-use Rattle.words.proofs.StoreLaws.{length-put, get-put, get-before, get_after}
-use Rattle.text.specs.Utf8.{firstBad, isUtf8}
+use Rattle.words.proofs.ChoiceLaws.{pick_with}
+use Rattle.words.proofs.StoreLaws.{length-put, get_put, get_before, get_after}
+use Rattle.text.specs.Utf8.{first_bad, is_utf8}
 use Rattle.model.specs.declared.Inserted.{Inserted}
 use Rattle.model.specs.declared.Added.{Added}
-use Rattle.layout.specs.Limits.{longestKey, mostTables}
-use Rattle.model.specs.Builder.{separatorOf}
-use Rattle.layout.specs.Kind.{valueKind}
-use Rattle.build_memory.specs.Memory.{word, leastWords, table_at, tableTotal, itemTotal, tableSeparator, tablePlaced, tableHeight, valid, freshWords, Memory, Outcome}
+use Rattle.layout.specs.Limits.{longest_key, most_tables}
+use Rattle.model.specs.Builder.{separator_of}
+use Rattle.layout.specs.Kind.{value_kind}
+use Rattle.build_memory.specs.Memory.{word, least_words, table_at, table_total, item_total, table_separator, table_placed, table_height, valid, fresh_words, Memory, Outcome}
 use Rattle.build_memory.specs.Item.{Stored, stored}
-use Rattle.build_tables.specs.Table.{freeStanding, addTable, newTable}
-use Rattle.build_tables.proofs.TableLaws.{free-standing-facts}
-use Rattle.build_values.specs.Insert.{keyed, insertAtKey, insertValue}
+use Rattle.build_tables.specs.Table.{free_standing, add_table, new_table}
+use Rattle.build_tables.proofs.TableLaws.{free_standing_facts}
+use Rattle.build_values.specs.Insert.{keyed, insert_at_key, insert_value}
 use Rattle.history.specs.Items.{Item, item_of, Table, table_of}
 use Rattle.history.specs.Consistent.{Consistent}
 use Rattle.layout.specs.declared.refusal.Refusal.TheVariants.{MemoryBroken, TableUnknown, KeyNotUtf8, KeyTooLong}
 use Rattle.history.specs.Honest.{Honest}
 use Rattle.history.proofs.TidyTables as low
-use Rattle.history.proofs.Consistent.{consistent-grow, consistent-none}
+use Rattle.history.proofs.Consistent.{consistent_grow, consistent_none}
 use Rattle.history.proofs.GoodContainers.{Lows}
-use Rattle.history.proofs.GoodInsert.{accepted, After, after-not, after-where, walked-after}
+use Rattle.history.proofs.GoodInsert.{accepted, After, after_not, after_where, walked_after}
 
 -- ---- the tables that the words say
-pub table_same : (ws w : List ℕ) (t : ℕ) → tableSeparator w t ≡ tableSeparator ws t → tablePlaced w t ≡ tablePlaced ws t → tableHeight w t ≡ tableHeight ws t
+pub table_same : (ws w : List ℕ) (t : ℕ) → table_separator w t ≡ table_separator ws t → table_placed w t ≡ table_placed ws t → table_height w t ≡ table_height ws t
     → table_of w t ≡ table_of ws t
 unfolding table_of
 table_same ws w t a b c = cc
 
-pub lows-table : (ws w : List ℕ) → Lows ws w → (t : ℕ) → t < mostTables → table_of w t ≡ table_of ws t
-lows-table ws w l t h =
+pub lows_table : (ws w : List ℕ) → Lows ws w → (t : ℕ) → t < most_tables → table_of w t ≡ table_of ws t
+lows_table ws w l t h =
     let at : (f : ℕ) → f < 3 → word w (table_at t + f) ≡ word ws (table_at t + f) =
     λ f u. l (table_at t + f) (omega arith) (λ (e : table_at t + f ≡ 3). omega arith) (λ (e : table_at t + f ≡ 4). omega arith) in
     table_same ws w t (at 0 (omega arith)) (at 1 (omega arith)) (at 2 (omega arith))
 
-pub sep-same : (ws : List ℕ) (t : ℕ) → (table_of ws t).sep ≡ tableSeparator ws t
+pub sep_same : (ws : List ℕ) (t : ℕ) → (table_of ws t).sep ≡ table_separator ws t
 unfolding table_of
-sep-same ws t = refl
+sep_same ws t = refl
 
-pub placed-word : (ws : List ℕ) (t : ℕ) → (table_of ws t).placed ≡ tablePlaced ws t
+pub placed_word : (ws : List ℕ) (t : ℕ) → (table_of ws t).placed ≡ table_placed ws t
 unfolding table_of
-placed-word ws t = refl
+placed_word ws t = refl
 
-pub height-word : (ws : List ℕ) (t : ℕ) → (table_of ws t).height ≡ tableHeight ws t
+pub height-word : (ws : List ℕ) (t : ℕ) → (table_of ws t).height ≡ table_height ws t
 unfolding table_of
 height-word ws t = refl
 
 -- ---- what a call leaves is honest
-pub after-honest : (ws ar : List ℕ) (t : ℕ) (k : List ℕ) (c : Stored) (o : Outcome Inserted) → Honest ws ar → After (table_of ws) ws ar t k c o → Honest o.after.words o.after.arena
-after-honest ws ar t k c o honest after = by_answer (accepted o.answer) refl
+pub after_honest : (ws ar : List ℕ) (t : ℕ) (k : List ℕ) (c : Stored) (o : Outcome Inserted) → Honest ws ar → After (table_of ws) ws ar t k c o → Honest o.after.words o.after.arena
+after_honest ws ar t k c o honest after = by_answer (accepted o.answer) refl
   where
     by_answer : (q : Bool) → accepted o.answer ≡ q → Honest o.after.words o.after.arena
     by_answer true e =
@@ -66,147 +66,147 @@ after-honest ws ar t k c o honest after = by_answer (accepted o.answer) refl
         let few = good.consistent.tables in
         record {
           tidy = good.tidy;
-          consistent = consistent-grow (tableTotal o.after.words) (tableTotal o.after.words) (itemTotal o.after.words) (table_of ws) (table_of o.after.words) (item_of o.after.words o.after.arena)
-              good.consistent (omega arith) few (λ t l. lows-table ws o.after.words after.lows t (omega arith)) (λ t l u. absurd (omega arith)) (λ t l u e. omega arith);
+          consistent = consistent_grow (table_total o.after.words) (table_total o.after.words) (item_total o.after.words) (table_of ws) (table_of o.after.words) (item_of o.after.words o.after.arena)
+              good.consistent (omega arith) few (λ t l. lows_table ws o.after.words after.lows t (omega arith)) (λ t l u. absurd (omega arith)) (λ t l u e. omega arith);
         }
     by_answer false e = subst (λ (m : Memory). Honest m.words m.arena) (sym (after.same e)) honest
 
 -- 8 and 20, before what comes next
-pub keyed-after : (g : ℕ → Table) (ws ar : List ℕ) (t : ℕ) (k : List ℕ) (c : Stored) (o : Outcome Inserted)
-    → (isUtf8 k ≡ true → length k ≤ longestKey → After g ws ar t k c o) → After g ws ar t k c (keyed ws ar k o)
+pub keyed_after : (g : ℕ → Table) (ws ar : List ℕ) (t : ℕ) (k : List ℕ) (c : Stored) (o : Outcome Inserted)
+    → (is_utf8 k ≡ true → length k ≤ longest_key → After g ws ar t k c o) → After g ws ar t k c (keyed ws ar k o)
 unfolding keyed
-keyed-after g ws ar t k c o f =
-    after-where g ws ar t k c (isUtf8 k) (KeyNotUtf8 (firstBad k)) _ (λ text. after-not g ws ar t k c (ltb longestKey (length k)) KeyTooLong o (λ short. f text (ltb-false longestKey (length k) short)))
+keyed_after g ws ar t k c o f =
+    after_where g ws ar t k c (is_utf8 k) (KeyNotUtf8 (first_bad k)) _ (λ text. after_not g ws ar t k c (ltb longest_key (length k)) KeyTooLong o (λ short. f text (ltb-false longest_key (length k) short)))
 
 module _ (ws ar : List ℕ) (honest : Honest ws ar) (t : ℕ) (k v : List ℕ) where
   abbrev c : Stored
-  c = stored valueKind v 0
+  c = stored value_kind v 0
 
-  pub value_after : After (table_of ws) ws ar t k c (insertValue ws ar t k v)
-  unfolding insertValue insertAtKey
+  pub value_after : After (table_of ws) ws ar t k c (insert_value ws ar t k v)
+  unfolding insert_value insert_at_key
   value_after =
-      after-where (table_of ws) ws ar t k c (valid ws (length ar)) MemoryBroken _ (λ a.
-      after-where (table_of ws) ws ar t k c (freeStanding ws t) TableUnknown _ (λ b.
-      keyed-after (table_of ws) ws ar t k c _ (λ text short.
-      let free = free-standing-facts ws t b in
-      walked-after (table_of ws) ws ar t k 64 (sep-same ws t)
-      (λ p. let z : ◌≡◌ {A = ℕ} 1 0 = sym p ∙ placed-word ws t ∙ free.1 in omega arith)
+      after_where (table_of ws) ws ar t k c (valid ws (length ar)) MemoryBroken _ (λ a.
+      after_where (table_of ws) ws ar t k c (free_standing ws t) TableUnknown _ (λ b.
+      keyed_after (table_of ws) ws ar t k c _ (λ text short.
+      let free = free_standing_facts ws t b in
+      walked_after (table_of ws) ws ar t k 64 (sep_same ws t)
+      (λ p. let z : ◌≡◌ {A = ℕ} 1 0 = sym p ∙ placed_word ws t ∙ free.1 in omega arith)
       text short c honest free.0
       (record { kind = refl; guest = λ (z : ◌≡◌ {A = ℕ} 118 72). absurd (omega arith) })
       (λ i l x y. let g = (honest.consistent.guests i l x).0 in let few = honest.consistent.tables in omega arith) false)))
 
-  pub value-honest : Honest (insertValue ws ar t k v).after.words (insertValue ws ar t k v).after.arena
-  value-honest = after-honest ws ar t k c (insertValue ws ar t k v) honest value_after
+  pub value_honest : Honest (insert_value ws ar t k v).after.words (insert_value ws ar t k v).after.arena
+  value_honest = after_honest ws ar t k c (insert_value ws ar t k v) honest value_after
 
 -- ---- a new table
-module _ (ws ar : List ℕ) (sep : ℕ) (honest : Honest ws ar) (few : tableTotal ws < mostTables) (domain : sep < 256 → sep ≤ 127) where
+module _ (ws ar : List ℕ) (sep : ℕ) (honest : Honest ws ar) (few : table_total ws < most_tables) (domain : sep < 256 → sep ≤ 127) where
   abbrev row : List ℕ
   row = sep ∷ 0 ∷ 0 ∷ []
 
   abbrev first : List ℕ
-  first = put_at ws (table_at (tableTotal ws)) row
+  first = put_at ws (table_at (table_total ws)) row
 
   abbrev pub tabled : List ℕ
-  tabled = put_at first 2 ((tableTotal ws + 1) ∷ [])
+  tabled = put_at first 2 ((table_total ws + 1) ∷ [])
 
-  first-length : length first ≡ length ws
-  first-length = let s = honest.tidy.valid-memory in length-put ws (table_at (tableTotal ws)) row
+  first_length : length first ≡ length ws
+  first_length = let s = honest.tidy.valid-memory in length-put ws (table_at (table_total ws)) row
 
   -- a word before the new table, the count left aside
-  pub kept_low : (p : ℕ) → p < table_at (tableTotal ws) → (p ≡ 2 → ⊥) → word tabled p ≡ word ws p
-  kept_low p h ne = by_side (dec_lt p 2) ∙ (let s = honest.tidy.valid-memory in get-before ws (table_at (tableTotal ws)) row p h)
+  pub kept_low : (p : ℕ) → p < table_at (table_total ws) → (p ≡ 2 → ⊥) → word tabled p ≡ word ws p
+  kept_low p h ne = by_side (dec_lt p 2) ∙ (let s = honest.tidy.valid-memory in get_before ws (table_at (table_total ws)) row p h)
     where
       by_side : Dec (p < 2) → word tabled p ≡ word first p
-      by_side (yes l) = let s = honest.tidy.valid-memory in get-before first 2 ((tableTotal ws + 1) ∷ []) p l
-      by_side (no l) = let s = honest.tidy.valid-memory in get_after first 2 ((tableTotal ws + 1) ∷ []) p (omega arith)
+      by_side (yes l) = let s = honest.tidy.valid-memory in get_before first 2 ((table_total ws + 1) ∷ []) p l
+      by_side (no l) = let s = honest.tidy.valid-memory in get_after first 2 ((table_total ws + 1) ∷ []) p (omega arith)
 
   pub kept_high : (p : ℕ) → 264 ≤ p → word tabled p ≡ word ws p
   kept_high p h =
       let s = honest.tidy.valid-memory in
-      get_after first 2 ((tableTotal ws + 1) ∷ []) p (omega arith)
-      ∙ get_after ws (table_at (tableTotal ws)) row p (omega arith)
+      get_after first 2 ((table_total ws + 1) ∷ []) p (omega arith)
+      ∙ get_after ws (table_at (table_total ws)) row p (omega arith)
 
-  pub two : tableTotal tabled ≡ tableTotal ws + 1
-  two = let s = honest.tidy.valid-memory in get-put first 2 ((tableTotal ws + 1) ∷ []) 0 (omega (arith, first-length)) (omega arith)
+  pub two : table_total tabled ≡ table_total ws + 1
+  two = let s = honest.tidy.valid-memory in get_put first 2 ((table_total ws + 1) ∷ []) 0 (omega (arith, first_length)) (omega arith)
 
-  pub three : itemTotal tabled ≡ itemTotal ws
+  pub three : item_total tabled ≡ item_total ws
   three = kept_low 3 (omega arith) (λ (e : 3 ≡ 2). omega arith)
 
   pub size : length tabled ≡ length ws
-  size = let s = honest.tidy.valid-memory in length-put first 2 ((tableTotal ws + 1) ∷ []) ∙ first-length
+  size = let s = honest.tidy.valid-memory in length-put first 2 ((table_total ws + 1) ∷ []) ∙ first_length
 
-  pub loose : word tabled (table_at (tableTotal ws) + 1) ≡ 0
+  pub loose : word tabled (table_at (table_total ws) + 1) ≡ 0
   loose =
       let s = honest.tidy.valid-memory in
-      get_after first 2 ((tableTotal ws + 1) ∷ []) (table_at (tableTotal ws) + 1) (omega arith)
-      ∙ get-put ws (table_at (tableTotal ws)) row 1 (omega arith) (omega arith)
+      get_after first 2 ((table_total ws + 1) ∷ []) (table_at (table_total ws) + 1) (omega arith)
+      ∙ get_put ws (table_at (table_total ws)) row 1 (omega arith) (omega arith)
 
-  pub mark : word tabled (table_at (tableTotal ws) + 0) ≡ sep
+  pub mark : word tabled (table_at (table_total ws) + 0) ≡ sep
   mark =
       let s = honest.tidy.valid-memory in
-      get_after first 2 ((tableTotal ws + 1) ∷ []) (table_at (tableTotal ws) + 0) (omega arith)
-      ∙ get-put ws (table_at (tableTotal ws)) row 0 (omega arith) (omega arith)
+      get_after first 2 ((table_total ws + 1) ∷ []) (table_at (table_total ws) + 0) (omega arith)
+      ∙ get_put ws (table_at (table_total ws)) row 0 (omega arith) (omega arith)
 
-  pub same-table : (t : ℕ) → t < tableTotal ws → table_of tabled t ≡ table_of ws t
-  same-table t l =
+  pub same_table : (t : ℕ) → t < table_total ws → table_of tabled t ≡ table_of ws t
+  same_table t l =
       table_same ws tabled t (kept_low (table_at t + 0) (omega arith) (λ (e : table_at t + 0 ≡ 2). omega arith))
       (kept_low (table_at t + 1) (omega arith) (λ (e : table_at t + 1 ≡ 2). omega arith)) (kept_low (table_at t + 2) (omega arith) (λ (e : table_at t + 2 ≡ 2). omega arith))
 
-  tabled-honest : Honest tabled ar
-  tabled-honest =
+  tabled_honest : Honest tabled ar
+  tabled_honest =
       let w0 = kept_low 0 (omega arith) (λ (e : 0 ≡ 2). omega arith) in
       let w1 = kept_low 1 (omega arith) (λ (e : 1 ≡ 2). omega arith) in
       let w4 = kept_low 4 (omega arith) (λ (e : 4 ≡ 2). omega arith) in
-      let w2 : tableTotal tabled ≤ mostTables = omega (arith, two) in
+      let w2 : table_total tabled ≤ most_tables = omega (arith, two) in
       record {
-        tidy = low.low-tidy ws tabled ar honest.tidy size w0 w1 w2 three w4 kept_high;
+        tidy = low.low_tidy ws tabled ar honest.tidy size w0 w1 w2 three w4 kept_high;
         consistent =
-            subst (λ (f : ℕ → Item). Consistent (tableTotal tabled) (itemTotal tabled) (table_of tabled) f) (sym (low.low-items ws tabled ar honest.tidy size w0 w1 w2 three w4 kept_high))
-            (subst (λ (n : ℕ). Consistent (tableTotal tabled) n (table_of tabled) (item_of ws ar)) (sym three)
-            (consistent-grow (tableTotal ws) (tableTotal tabled) (itemTotal ws) (table_of ws) (table_of tabled) (item_of ws ar) honest.consistent (omega (arith, two)) w2 same-table
-            (λ t l u. let z : t ≡ tableTotal ws = omega (arith, two) in ap (λ (x : ℕ). (table_of tabled x).placed) z ∙ placed-word tabled (tableTotal ws) ∙ loose)
+            subst (λ (f : ℕ → Item). Consistent (table_total tabled) (item_total tabled) (table_of tabled) f) (sym (low.low_items ws tabled ar honest.tidy size w0 w1 w2 three w4 kept_high))
+            (subst (λ (n : ℕ). Consistent (table_total tabled) n (table_of tabled) (item_of ws ar)) (sym three)
+            (consistent_grow (table_total ws) (table_total tabled) (item_total ws) (table_of ws) (table_of tabled) (item_of ws ar) honest.consistent (omega (arith, two)) w2 same_table
+            (λ t l u. let z : t ≡ table_total ws = omega (arith, two) in ap (λ (x : ℕ). (table_of tabled x).placed) z ∙ placed_word tabled (table_total ws) ∙ loose)
             (λ t l u e.
-            let z : t ≡ tableTotal ws = omega (arith, two) in
-            let y : (table_of tabled t).sep ≡ sep = ap (λ (x : ℕ). (table_of tabled x).sep) z ∙ sep-same tabled (tableTotal ws) ∙ mark in
+            let z : t ≡ table_total ws = omega (arith, two) in
+            let y : (table_of tabled t).sep ≡ sep = ap (λ (x : ℕ). (table_of tabled x).sep) z ∙ sep_same tabled (table_total ws) ∙ mark in
             let b = domain (omega arith) in
             omega arith)));
       }
 
-pub sep-domain : (s : List ℕ) → separatorOf s < 256 → separatorOf s ≤ 127
-unfolding separatorOf pick
-sep-domain [] h = let z : 256 < 256 = h in absurd (omega arith)
-sep-domain (b ∷ []) h = by-test (leb b 127) refl
+pub sep_domain : (s : List ℕ) → separator_of s < 256 → separator_of s ≤ 127
+unfolding separator_of pick
+sep_domain [] h = let z : 256 < 256 = h in absurd (omega arith)
+sep_domain (b ∷ []) h = by_test (leb b 127) refl
   where
-    by-test : (q : Bool) → leb b 127 ≡ q → pick q b 0 ≤ 127
-    by-test true e = leb-true b 127 e
-    by-test false e = omega arith
-sep-domain (b ∷ c ∷ more) h = omega arith
+    by_test : (q : Bool) → leb b 127 ≡ q → pick q b 0 ≤ 127
+    by_test true e = leb-true b 127 e
+    by_test false e = omega arith
+sep_domain (b ∷ c ∷ more) h = omega arith
 
 -- a row of refusals of a new table
 record Stays (o : Outcome Added) : Type 0 where
   pub honest : Honest o.after.words o.after.arena
 
 stays_by : (b : Bool) (o o' : Outcome Added) → (b ≡ true → Stays o) → (b ≡ false → Stays o') → Stays (pick b o o')
-stays_by b o o' f g = pick-with Stays b o o' f g
+stays_by b o o' f g = pick_with Stays b o o' f g
 
-table_stays : (ws ar separator : List ℕ) → Honest ws ar → Stays (newTable ws ar separator)
-unfolding newTable addTable
+table_stays : (ws ar separator : List ℕ) → Honest ws ar → Stays (new_table ws ar separator)
+unfolding new_table add_table
 table_stays ws ar separator honest =
     stays_by (valid ws (length ar)) _ _
-    (λ a. stays_by (eqb (separatorOf separator) 0) _ _ (λ b. record { honest = honest })
-    (λ b. stays_by (leb mostTables (tableTotal ws)) _ _ (λ c. record { honest = honest })
-    (λ c. record { honest = tabled-honest ws ar (separatorOf separator) honest (leb-false mostTables (tableTotal ws) c) (sep-domain separator) })))
+    (λ a. stays_by (eqb (separator_of separator) 0) _ _ (λ b. record { honest = honest })
+    (λ b. stays_by (leb most_tables (table_total ws)) _ _ (λ c. record { honest = honest })
+    (λ c. record { honest = tabled_honest ws ar (separator_of separator) honest (leb-false most_tables (table_total ws) c) (sep_domain separator) })))
     (λ a. record { honest = honest })
 
-pub table-honest : (ws ar separator : List ℕ) → Honest ws ar → Honest (newTable ws ar separator).after.words (newTable ws ar separator).after.arena
-table-honest ws ar separator h = (table_stays ws ar separator h).honest
+pub table_honest : (ws ar separator : List ℕ) → Honest ws ar → Honest (new_table ws ar separator).after.words (new_table ws ar separator).after.arena
+table_honest ws ar separator h = (table_stays ws ar separator h).honest
 
 -- ---- the fresh start
-pub fresh-honest : (ws ar : List ℕ) → leastWords ≤ length ws → Honest (freshWords ws (length ar)) ar
-fresh-honest ws ar long =
-    let w = freshWords ws (length ar) in
+pub fresh_honest : (ws ar : List ℕ) → least_words ≤ length ws → Honest (fresh_words ws (length ar)) ar
+fresh_honest ws ar long =
+    let w = fresh_words ws (length ar) in
     record {
-      tidy = low.fresh-tidy ws ar long;
-      consistent = subst (λ (n : ℕ). Consistent (tableTotal w) n (table_of w) (item_of w ar)) (sym (low.fresh-three ws ar long))
-          (subst (λ (n : ℕ). Consistent n 0 (table_of w) (item_of w ar)) (sym (low.fresh-two ws ar long)) (consistent-none (table_of w) (item_of w ar)));
+      tidy = low.fresh_tidy ws ar long;
+      consistent = subst (λ (n : ℕ). Consistent (table_total w) n (table_of w) (item_of w ar)) (sym (low.fresh-three ws ar long))
+          (subst (λ (n : ℕ). Consistent n 0 (table_of w) (item_of w ar)) (sym (low.fresh-two ws ar long)) (consistent_none (table_of w) (item_of w ar)));
     }

@@ -14,36 +14,36 @@ use lib.Seq.{set_at, set-append_left}
 use Rattle.words.specs.Choice.{pick}
 use Rattle.layout.specs.Item.{no_item}
 use Rattle.model.specs.Table.{Content, Entry, entry_at}
-use Rattle.layout.specs.Limits.{mostItems, mostTables}
+use Rattle.layout.specs.Limits.{most_items, most_tables}
 use Rattle.model.specs.Builder.{Standing, Builder}
 use Rattle.model.specs.Walk.{entry}
-use Rattle.layout.specs.Kind.{valueKind, tableKind}
-use Rattle.build_memory.specs.Memory.{tableTotal, itemTotal, roomUsed, itemTable, itemParent, key_of, Memory, memory}
-use Rattle.build_memory.specs.Item.{Stored, makeItem, replaceItem}
-use Rattle.build_memory.specs.Meaning.{contentOf, entry_of, standingOf, listed, meaning}
-use Rattle.build_memory.proofs.MadeLaws.{made-arena}
+use Rattle.layout.specs.Kind.{value_kind, table_kind}
+use Rattle.build_memory.specs.Memory.{table_total, item_total, room_used, item_table, item_parent, key_of, Memory, memory}
+use Rattle.build_memory.specs.Item.{Stored, make_item, replace_item}
+use Rattle.build_memory.specs.Meaning.{content_of, entry_of, standing_of, listed, meaning}
+use Rattle.build_memory.proofs.MadeLaws.{made_arena}
 use Rattle.build_memory.proofs.MeaningLaws.{length-listed, listed_at}
 use Rattle.history.specs.Items.{Item, item, item_of, Table, table_of}
 use Rattle.history.specs.Tidy.{Tidy}
 use Rattle.history.proofs.TidyMade as made
 use Rattle.history.proofs.TidyReplaced as old
-use Rattle.history.proofs.GoodContainers.{Lows, lows-two}
-use Rattle.history.proofs.HonestCalls.{lows-table}
+use Rattle.history.proofs.GoodContainers.{Lows, lows_two}
+use Rattle.history.proofs.HonestCalls.{lows_table}
 
 -- ---- lists by index
 
 module _ {A : Type 0} where
-  pub listed-cong : (f g : ℕ → A) (n : ℕ) → ((i : ℕ) → i < n → f i ≡ g i) → listed f n ≡ listed g n
+  pub listed_cong : (f g : ℕ → A) (n : ℕ) → ((i : ℕ) → i < n → f i ≡ g i) → listed f n ≡ listed g n
   unfolding listed
-  listed-cong f g zero h = refl
-  listed-cong f g (suc n) h =
-      ap (λ (l : List A). l ++ (f n ∷ [])) (listed-cong f g n (λ i l. h i (omega arith))) ∙ ap (λ (x : A). listed g n ++ (x ∷ [])) (h n (omega arith))
+  listed_cong f g zero h = refl
+  listed_cong f g (suc n) h =
+      ap (λ (l : List A). l ++ (f n ∷ [])) (listed_cong f g n (λ i l. h i (omega arith))) ∙ ap (λ (x : A). listed g n ++ (x ∷ [])) (h n (omega arith))
 
   -- one more at the end
   pub listed_more : (f g : ℕ → A) (n : ℕ) (x : A) → ((i : ℕ) → i < n → g i ≡ f i) → g n ≡ x → listed g (n + 1) ≡ listed f n ++ (x ∷ [])
   unfolding listed
   listed_more f g n x h e =
-      ap (listed g) (add-one n) ∙ ap (λ (l : List A). l ++ (g n ∷ [])) (listed-cong g f n h) ∙ ap (λ (y : A). listed f n ++ (y ∷ [])) e
+      ap (listed g) (add-one n) ∙ ap (λ (l : List A). l ++ (g n ∷ [])) (listed_cong g f n h) ∙ ap (λ (y : A). listed f n ++ (y ∷ [])) e
 
   -- one set
   pub listed-set : (f g : ℕ → A) (n o : ℕ) (x : A) → o < n → ((i : ℕ) → i < n → (i ≡ o → ⊥) → g i ≡ f i) → g o ≡ x → listed g n ≡ set (listed f n) o x
@@ -54,7 +54,7 @@ module _ {A : Type 0} where
       by_field : (q : Bool) → eqb o n ≡ q → (o < n → listed g n ≡ set (listed f n) o x) → listed g n ++ (g n ∷ []) ≡ set (listed f n ++ (f n ∷ [])) o x
       by_field true q ih =
           let z = eqb-true o n q in
-          ap (λ (l : List A). l ++ (g n ∷ [])) (listed-cong g f n (λ i u. h i (omega arith) (λ (y : i ≡ o). omega arith)))
+          ap (λ (l : List A). l ++ (g n ∷ [])) (listed_cong g f n (λ i u. h i (omega arith) (λ (y : i ≡ o). omega arith)))
           ∙ ap (λ (y : A). listed f n ++ (y ∷ [])) (ap g (sym z) ∙ e)
           ∙ sym (set_at (listed f n) (f n) [] x o (length-listed f n ∙ sym z))
       by_field false q ih =
@@ -65,26 +65,26 @@ module _ {A : Type 0} where
 
 -- ---- an entry from an item, a standing from a table
 
-unfoldable pub contentFrom : ℕ → List ℕ → ℕ → Content
-contentFrom kind value guest = pick (eqb kind valueKind) (Content.bytes value) (pick (eqb kind tableKind) (Content.nested guest) Content.container)
+unfoldable pub content_from : ℕ → List ℕ → ℕ → Content
+content_from kind value guest = pick (eqb kind value_kind) (Content.bytes value) (pick (eqb kind table_kind) (Content.nested guest) Content.container)
 
 -- a parent that is an index plus 1, or 0, as the item above
 unfoldable pub above_of : ℕ → ℕ
 above_of parent = pick (eqb parent 0) no_item (parent - 1)
 
-unfoldable pub entryFrom : Item → Entry
-entryFrom x = entry x.table x.key (contentFrom x.kind x.value x.guest) (above_of x.parent)
+unfoldable pub entry_from : Item → Entry
+entry_from x = entry x.table x.key (content_from x.kind x.value x.guest) (above_of x.parent)
 
-unfoldable pub standingFrom : Table → Standing
-standingFrom x = record { separator = x.sep; placed = not (eqb x.placed 0) }
+unfoldable pub standing_from : Table → Standing
+standing_from x = record { separator = x.sep; placed = not (eqb x.placed 0) }
 
-pub entry-is : (ws ar : List ℕ) (i : ℕ) → entry_of ws ar i ≡ entryFrom (item_of ws ar i)
-unfolding entry_of contentOf entryFrom item_of contentFrom above_of
-entry-is ws ar i = refl
+pub entry_is : (ws ar : List ℕ) (i : ℕ) → entry_of ws ar i ≡ entry_from (item_of ws ar i)
+unfolding entry_of content_of entry_from item_of content_from above_of
+entry_is ws ar i = refl
 
-pub standing-is : (ws : List ℕ) (t : ℕ) → standingOf ws t ≡ standingFrom (table_of ws t)
-unfolding standingOf standingFrom table_of
-standing-is ws t = refl
+pub standing_is : (ws : List ℕ) (t : ℕ) → standing_of ws t ≡ standing_from (table_of ws t)
+unfolding standing_of standing_from table_of
+standing_is ws t = refl
 
 -- ---- the parts of what memory means
 
@@ -92,71 +92,71 @@ abbrev pub builder : ℕ → ℕ → List Standing → List Entry → Builder
 builder room used tables items = record { room = room; used = used; tables = tables; items = items }
 
 abbrev pub items_of : List ℕ → List ℕ → List Entry
-items_of ws ar = listed (entry_of ws ar) (itemTotal ws)
+items_of ws ar = listed (entry_of ws ar) (item_total ws)
 
 abbrev pub tables_of : List ℕ → List Standing
-tables_of ws = listed (standingOf ws) (tableTotal ws)
+tables_of ws = listed (standing_of ws) (table_total ws)
 
-pub builder-same : {r r' u u' : ℕ} {T T' : List Standing} {I I' : List Entry} → r ≡ r' → u ≡ u' → T ≡ T' → I ≡ I' → builder r u T I ≡ builder r' u' T' I'
-builder-same a b c d = cc
+pub builder_same : {r r' u u' : ℕ} {T T' : List Standing} {I I' : List Entry} → r ≡ r' → u ≡ u' → T ≡ T' → I ≡ I' → builder r u T I ≡ builder r' u' T' I'
+builder_same a b c d = cc
 
-pub items-count : (ws ar : List ℕ) → length (items_of ws ar) ≡ itemTotal ws
-items-count ws ar = length-listed (entry_of ws ar) (itemTotal ws)
+pub items_count : (ws ar : List ℕ) → length (items_of ws ar) ≡ item_total ws
+items_count ws ar = length-listed (entry_of ws ar) (item_total ws)
 
-pub item-at : (ws ar : List ℕ) (i : ℕ) → i < itemTotal ws → entry_at (items_of ws ar) i ≡ entryFrom (item_of ws ar i)
+pub item_at_lem : (ws ar : List ℕ) (i : ℕ) → i < item_total ws → entry_at (items_of ws ar) i ≡ entry_from (item_of ws ar i)
 unfolding entry_at
-item-at ws ar i h = listed_at (entry_of ws ar) _ (itemTotal ws) i h ∙ entry-is ws ar i
+item_at_lem ws ar i h = listed_at (entry_of ws ar) _ (item_total ws) i h ∙ entry_is ws ar i
 
-pub tables-count : (ws : List ℕ) → length (tables_of ws) ≡ tableTotal ws
-tables-count ws = length-listed (standingOf ws) (tableTotal ws)
+pub tables_count : (ws : List ℕ) → length (tables_of ws) ≡ table_total ws
+tables_count ws = length-listed (standing_of ws) (table_total ws)
 
 -- tables that are told the same
-pub tables-same : (ws w : List ℕ) → Lows ws w → tableTotal ws ≤ mostTables → tables_of w ≡ tables_of ws
-tables-same ws w l few =
-    ap (listed (standingOf w)) (lows-two ws w l)
-    ∙ listed-cong (standingOf w) (standingOf ws) (tableTotal ws) (λ i u. standing-is w i ∙ ap standingFrom (lows-table ws w l i (omega arith)) ∙ sym (standing-is ws i))
+pub tables_same : (ws w : List ℕ) → Lows ws w → table_total ws ≤ most_tables → tables_of w ≡ tables_of ws
+tables_same ws w l few =
+    ap (listed (standing_of w)) (lows_two ws w l)
+    ∙ listed_cong (standing_of w) (standing_of ws) (table_total ws) (λ i u. standing_is w i ∙ ap standing_from (lows_table ws w l i (omega arith)) ∙ sym (standing_is ws i))
 
 -- ---- an item made
 
-module _ (ws ar : List ℕ) (t parent : ℕ) (k : List ℕ) (c : Stored) (tidy : Tidy ws ar) (few : itemTotal ws < mostItems)
-    (room : roomUsed ws + length k + length c.value ≤ length ar) where
+module _ (ws ar : List ℕ) (t parent : ℕ) (k : List ℕ) (c : Stored) (tidy : Tidy ws ar) (few : item_total ws < most_items)
+    (room : room_used ws + length k + length c.value ≤ length ar) where
   abbrev m : Memory
-  m = makeItem (memory ws ar) t parent k c
+  m = make_item (memory ws ar) t parent k c
 
-  pub items-made : items_of m.words m.arena ≡ items_of ws ar ++ (entryFrom (item t k parent c.kind c.value c.guest) ∷ [])
-  items-made =
-      ap (listed (entry_of m.words m.arena)) (made.made-three ws ar t parent k c tidy few room)
-      ∙ listed_more (entry_of ws ar) (entry_of m.words m.arena) (itemTotal ws) (entryFrom (item t k parent c.kind c.value c.guest))
-      (λ i l. entry-is m.words m.arena i ∙ ap entryFrom (made.other_item ws ar t parent k c tidy few room i l) ∙ sym (entry-is ws ar i))
-      (entry-is m.words m.arena (itemTotal ws) ∙ ap entryFrom (made.its-item ws ar t parent k c tidy few room))
+  pub items_made : items_of m.words m.arena ≡ items_of ws ar ++ (entry_from (item t k parent c.kind c.value c.guest) ∷ [])
+  items_made =
+      ap (listed (entry_of m.words m.arena)) (made.made_three ws ar t parent k c tidy few room)
+      ∙ listed_more (entry_of ws ar) (entry_of m.words m.arena) (item_total ws) (entry_from (item t k parent c.kind c.value c.guest))
+      (λ i l. entry_is m.words m.arena i ∙ ap entry_from (made.other_item ws ar t parent k c tidy few room i l) ∙ sym (entry_is ws ar i))
+      (entry_is m.words m.arena (item_total ws) ∙ ap entry_from (made.its_item ws ar t parent k c tidy few room))
 
-  pub meaning-made : meaning m.words m.arena
-      ≡ builder (length ar) (roomUsed ws + length k + length c.value) (meaning ws ar).tables
-      ((meaning ws ar).items ++ (entryFrom (item t k parent c.kind c.value c.guest) ∷ []))
+  pub meaning_made : meaning m.words m.arena
+      ≡ builder (length ar) (room_used ws + length k + length c.value) (meaning ws ar).tables
+      ((meaning ws ar).items ++ (entry_from (item t k parent c.kind c.value c.guest) ∷ []))
   unfolding meaning
-  meaning-made =
-      builder-same (made-arena ws ar t parent k c) (made.made-four ws ar t parent k c tidy few room)
-      (tables-same ws m.words (made.made-table-word ws ar t parent k c tidy few room) tidy.valid-memory.tables) items-made
+  meaning_made =
+      builder_same (made_arena ws ar t parent k c) (made.made_four ws ar t parent k c tidy few room)
+      (tables_same ws m.words (made.made_table-word ws ar t parent k c tidy few room) tidy.valid-memory.tables) items_made
 
 -- ---- an item written again
 
-module _ (ws ar : List ℕ) (i : ℕ) (c : Stored) (tidy : Tidy ws ar) (there : i < itemTotal ws) (room : roomUsed ws + length c.value ≤ length ar) where
+module _ (ws ar : List ℕ) (i : ℕ) (c : Stored) (tidy : Tidy ws ar) (there : i < item_total ws) (room : room_used ws + length c.value ≤ length ar) where
   abbrev n : Memory
-  n = replaceItem (memory ws ar) i c
+  n = replace_item (memory ws ar) i c
 
   abbrev again : Entry
-  again = entryFrom (item (itemTable ws i) (key_of ws ar i) (itemParent ws i) c.kind c.value c.guest)
+  again = entry_from (item (item_table ws i) (key_of ws ar i) (item_parent ws i) c.kind c.value c.guest)
 
-  pub items-replaced : items_of n.words n.arena ≡ set (items_of ws ar) i again
-  items-replaced =
-      ap (listed (entry_of n.words n.arena)) (old.old-three ws ar i c tidy there room)
-      ∙ listed-set (entry_of ws ar) (entry_of n.words n.arena) (itemTotal ws) i again there
-      (λ j l ne. entry-is n.words n.arena j ∙ ap entryFrom (old.else-item ws ar i c tidy there room j l ne) ∙ sym (entry-is ws ar j))
-      (entry-is n.words n.arena i ∙ ap entryFrom (old.old-item ws ar i c tidy there room))
+  pub items_replaced : items_of n.words n.arena ≡ set (items_of ws ar) i again
+  items_replaced =
+      ap (listed (entry_of n.words n.arena)) (old.old_three ws ar i c tidy there room)
+      ∙ listed-set (entry_of ws ar) (entry_of n.words n.arena) (item_total ws) i again there
+      (λ j l ne. entry_is n.words n.arena j ∙ ap entry_from (old.else_item ws ar i c tidy there room j l ne) ∙ sym (entry_is ws ar j))
+      (entry_is n.words n.arena i ∙ ap entry_from (old.old_item ws ar i c tidy there room))
 
-  pub meaning-replaced : meaning n.words n.arena
-      ≡ builder (length ar) (roomUsed ws + length c.value) (meaning ws ar).tables (set (meaning ws ar).items i again)
+  pub meaning_replaced : meaning n.words n.arena
+      ≡ builder (length ar) (room_used ws + length c.value) (meaning ws ar).tables (set (meaning ws ar).items i again)
   unfolding meaning
-  meaning-replaced =
-      builder-same (old.old-arena ws ar i c tidy there room) (old.old-four ws ar i c tidy there room)
-      (tables-same ws n.words (old.old-table-word ws ar i c tidy there room) tidy.valid-memory.tables) items-replaced
+  meaning_replaced =
+      builder_same (old.old_arena ws ar i c tidy there room) (old.old_four ws ar i c tidy there room)
+      (tables_same ws n.words (old.old_table-word ws ar i c tidy there room) tidy.valid-memory.tables) items_replaced

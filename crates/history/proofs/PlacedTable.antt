@@ -6,27 +6,27 @@ use native.Mathlib.Decide.{dec_lt}
 use mathlib.Core.Path.{◌≡◌, sym, ap, ◌∙◌}
 use mathlib.Core.List.{List, [], ◌∷◌}
 use lib.ListN.{length}
-use Rattle.words.proofs.StoreLaws.{length-put, get-put, get-before, get_after}
-use Rattle.build_memory.specs.Memory.{word, table_at, tablePlaced, tableHeight}
-use Rattle.build_nested.specs.Nest.{placeTable}
+use Rattle.words.proofs.StoreLaws.{length-put, get_put, get_before, get_after}
+use Rattle.build_memory.specs.Memory.{word, table_at, table_placed, table_height}
+use Rattle.build_nested.specs.Nest.{place_table}
 
 module _ (w : List ℕ) (G h : ℕ) where
   abbrev done : List ℕ
-  done = placeTable w G h
+  done = place_table w G h
 
   abbrev row : List ℕ
   row = 1 ∷ h ∷ []
 
   pub size : length done ≡ length w
-  unfolding placeTable
+  unfolding place_table
   size = length-put w (table_at G + 1) row
 
   pub before : (p : ℕ) → p < table_at G + 1 → word done p ≡ word w p
-  unfolding placeTable
-  before p l = get-before w (table_at G + 1) row p l
+  unfolding place_table
+  before p l = get_before w (table_at G + 1) row p l
 
   pub behind : (p : ℕ) → table_at G + 3 ≤ p → word done p ≡ word w p
-  unfolding placeTable
+  unfolding place_table
   behind p l = get_after w (table_at G + 1) row p (omega arith)
 
   -- the words of another table
@@ -38,10 +38,10 @@ module _ (w : List ℕ) (G h : ℕ) where
       by_side (no u) = behind (table_at x + f) (omega arith)
 
   module _ (bound : table_at G + 3 ≤ length w) where
-    pub mark : tablePlaced done G ≡ 1
-    unfolding placeTable
-    mark = ap (word done) (sym (add-zero (table_at G + 1))) ∙ get-put w (table_at G + 1) row 0 (omega arith) (omega arith)
+    pub mark : table_placed done G ≡ 1
+    unfolding place_table
+    mark = ap (word done) (sym (add-zero (table_at G + 1))) ∙ get_put w (table_at G + 1) row 0 (omega arith) (omega arith)
 
-    pub height : tableHeight done G ≡ h
-    unfolding placeTable
-    height = (let e : table_at G + 2 ≡ table_at G + 1 + 1 = omega arith in ap (word done) e) ∙ get-put w (table_at G + 1) row 1 (omega arith) (omega arith)
+    pub height : table_height done G ≡ h
+    unfolding place_table
+    height = (let e : table_at G + 2 ≡ table_at G + 1 + 1 = omega arith in ap (word done) e) ∙ get_put w (table_at G + 1) row 1 (omega arith) (omega arith)

@@ -1,7 +1,7 @@
 -- What the words say of an item and of a table, whole.
 use Rattle.std.specs.Prelude.{ℕ, List}
 use Rattle.words.specs.Store.{part}
-use Rattle.build_memory.specs.Memory.{tableSeparator, tablePlaced, tableHeight, itemTable, itemParent, itemKind, valueStart, valueSize, itemGuest, key_of}
+use Rattle.build_memory.specs.Memory.{table_separator, table_placed, table_height, item_table, item_parent, item_kind, value_start, value_size, item_guest, key_of}
 
 -- parent: the index of its container plus 1, or 0; guest: the table held, where the kind says that one is
 pub record Item : Type 0 where
@@ -22,7 +22,7 @@ item t key parent kind value guest = record { table = t; key = key; parent = par
 
 unfoldable pub item_of : List ℕ → List ℕ → ℕ → Item
 item_of ws ar i =
-    item (itemTable ws i) (key_of ws ar i) (itemParent ws i) (itemKind ws i) (part ar (valueStart ws i) (valueSize ws i)) (itemGuest ws i)
+    item (item_table ws i) (key_of ws ar i) (item_parent ws i) (item_kind ws i) (part ar (value_start ws i) (value_size ws i)) (item_guest ws i)
 
 unfoldable pub table_of : List ℕ → ℕ → Table
-table_of ws t = record { sep = tableSeparator ws t; placed = tablePlaced ws t; height = tableHeight ws t }
+table_of ws t = record { sep = table_separator ws t; placed = table_placed ws t; height = table_height ws t }

@@ -2,8 +2,8 @@
 use Rattle.std.specs.Prelude.{ℕ, ◌+◌, ◌*◌, ◌^◌, ◌≤◌, ◌<◌, ◌≡◌, length}
 use Rattle.layout.specs.declared.table.Table.{Table}
 use Rattle.layout.specs.declared.item.Item.{Item}
-use Rattle.layout.specs.Sizes.{chunkSize}
-use Rattle.image.specs.Plan.{Plan, place, valueStart}
+use Rattle.layout.specs.Sizes.{chunk_size}
+use Rattle.image.specs.Plan.{Plan, place, value_start}
 
 -- every word fits its field, and a value pointer covers no more than was laid
 pub record PlanFits (p : Plan) : Type 0 where
@@ -15,19 +15,19 @@ pub record PlanFits (p : Plan) : Type 0 where
   pub covered : (k at : ℕ) → k < p.count → p.covers k ≤ length (p.value k at)
 
 -- the table that opens where a plan of so many filter words and items is laid at `at`
-unfoldable pub openedAs : ℕ → ℕ → ℕ → Table
-openedAs at filter count = record { start = at; blooms = filter; buckets = count; items = at + (8 + 4 * filter + 4 * count); count = count }
+unfoldable pub opened_as : ℕ → ℕ → ℕ → Table
+opened_as at filter count = record { start = at; blooms = filter; buckets = count; items = at + (8 + 4 * filter + 4 * count); count = count }
 
 -- the item that reads at index k there
-unfoldable pub laidItem : Plan → ℕ → ℕ → Item
-laidItem p at k = record {
+unfoldable pub laid_item : Plan → ℕ → ℕ → Item
+laid_item p at k = record {
   hash = p.hash k;
   parent = p.parent k;
-  key = place p (at + chunkSize p.filter p.count) k;
+  key = place p (at + chunk_size p.filter p.count) k;
   size = length (p.fragment k);
   kind = p.kind k;
-  from = valueStart p k (place p (at + chunkSize p.filter p.count) k);
-  to = valueStart p k (place p (at + chunkSize p.filter p.count) k) + p.covers k;
+  from = value_start p k (place p (at + chunk_size p.filter p.count) k);
+  to = value_start p k (place p (at + chunk_size p.filter p.count) k) + p.covers k;
 }
 
 -- two plans that agree at every index

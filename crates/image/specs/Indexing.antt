@@ -3,7 +3,7 @@ use Rattle.std.specs.Prelude.{ℕ, zero, suc, ◌≤◌, ◌<◌, ◌≡◌, fal
 use Rattle.words.specs.Choice.{pick}
 use Rattle.key_order.specs.Order.{precedes}
 use Rattle.model.specs.Table.{Rows, Has}
-use Rattle.image.specs.Index.{bucketOf, runsBelow}
+use Rattle.image.specs.Index.{bucket_of, runs_below}
 
 -- a list of the numbers below n, each once; `place` says where each stands
 pub record Each (n : ℕ) (l : List ℕ) : Type 0 where
@@ -24,19 +24,19 @@ pub record Indexing (members l : List ℕ) : Type 0 where
 -- a rank of bucket b, below k
 pub record InRun (hashes : List ℕ) (b k x : ℕ) : Type 0 where
   pub below : x < k
-  pub same : bucketOf hashes x ≡ b
+  pub same : bucket_of hashes x ≡ b
 
 -- the rank at index k: its bucket is one before d, and k lies in the run of its bucket
 pub record InBucket (hashes : List ℕ) (d k x : ℕ) : Type 0 where
   pub below : x < length hashes
-  pub bucket-below : bucketOf hashes x < d
-  pub from : length (runsBelow hashes (bucketOf hashes x)) ≤ k
-  pub to : k < length (runsBelow hashes (suc (bucketOf hashes x)))
+  pub bucket_below : bucket_of hashes x < d
+  pub from : length (runs_below hashes (bucket_of hashes x)) ≤ k
+  pub to : k < length (runs_below hashes (suc (bucket_of hashes x)))
 
 -- how many of the ranks below k are of a bucket before b
-unfoldable pub ranksBefore : List ℕ → ℕ → ℕ → ℕ
-ranksBefore hashes b zero = 0
-ranksBefore hashes b (suc k) = pick (ltb (bucketOf hashes k) b) (suc (ranksBefore hashes b k)) (ranksBefore hashes b k)
+unfoldable pub ranks_before : List ℕ → ℕ → ℕ → ℕ
+ranks_before hashes b zero = 0
+ranks_before hashes b (suc k) = pick (ltb (bucket_of hashes k) b) (suc (ranks_before hashes b k)) (ranks_before hashes b k)
 
 -- no item has a key before the key of an item in front of it
 unfoldable pub Ascending : Rows → List ℕ → Type 0

@@ -9,4 +9,4 @@ Holds l at bytes = part l at (length bytes) ≡ bytes
 -- `bytes` laid at `at`, and the end of them
 pub record Laid (before after : List ℕ) (at : ℕ) (bytes : List ℕ) (end : ℕ) : Type 0 where
   pub end_is : end ≡ at + length bytes
-  pub image-is : after ≡ put_at before at bytes
+  pub image_is : after ≡ put_at before at bytes

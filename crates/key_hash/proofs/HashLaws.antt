@@ -3,125 +3,125 @@ use Rattle.std.proofs.Common.{◌≡◌, ℕ, ◌+◌, ◌-◌, ◌*◌, ◌/◌
 use native.Mathlib.Nat.{le-pred_of_lt, mod-add-mod, add-mod-mod, add-mul-mod_self_left}
 use Rattle.words.specs.Choice.{pick}
 use Rattle.key_hash.specs.declared.hash.Form.{Form}
-use Rattle.key_hash.specs.Hash.{hashStep, hashFrom, hashBy, plain, signed, ruleOf}
-use Rattle.words.proofs.ChoiceLaws.{lt-or-ge}
+use Rattle.key_hash.specs.Hash.{hash_step, hash_from, hash_by, plain, signed, rule_of}
+use Rattle.words.proofs.ChoiceLaws.{lt_or_ge}
 
 -- a remainder may be taken of a factor, and of summands, first
-mod-step : (h n : ℕ) → (h % 2 ^ 32 * 33 + n) % 2 ^ 32 ≡ (h * 33 + n) % 2 ^ 32
-mod-step h n =
+mod_step : (h n : ℕ) → (h % 2 ^ 32 * 33 + n) % 2 ^ 32 ≡ (h * 33 + n) % 2 ^ 32
+mod_step h n =
     let spread : h * 33 + n ≡ (h % 2 ^ 32 * 33 + n) + 2 ^ 32 * (h / 2 ^ 32 * 33) = omega arith in
     sym (ap (λ (m : ℕ). m % 2 ^ 32) spread ∙ add-mul-mod_self_left (h % 2 ^ 32 * 33 + n) (2 ^ 32) (h / 2 ^ 32 * 33))
 
-pub mod-sum : (h a b c d : ℕ)
+pub mod_sum : (h a b c d : ℕ)
     → (h % 2 ^ 32 + ((a % 2 ^ 32 + b % 2 ^ 32) % 2 ^ 32 + (c % 2 ^ 32 + d) % 2 ^ 32) % 2 ^ 32) % 2 ^ 32 ≡ (h + (a + b + (c + d))) % 2 ^ 32
-mod-sum h a b c d = simp (mod-add-mod, add-mod-mod)
+mod_sum h a b c d = simp (mod-add-mod, add-mod-mod)
 
 module _ (rule : ℕ → ℕ) where
   -- one turn of the loop, and its end
-  pub hash-turn : (key : List ℕ) (i h : ℕ) → i < length key
-      → hashFrom rule h (drop i key) ≡ hashFrom rule (hashStep rule h (get_or key i 0)) (drop (i + 1) key)
-  unfolding hashFrom
-  hash-turn key i h below = rw (add-one, drop-cons key i 0)
+  pub hash_turn : (key : List ℕ) (i h : ℕ) → i < length key
+      → hash_from rule h (drop i key) ≡ hash_from rule (hash_step rule h (get_or key i 0)) (drop (i + 1) key)
+  unfolding hash_from
+  hash_turn key i h below = rw (add-one, drop-cons key i 0)
 
   -- a turn by what its byte counts
-  hash-turn-by : (key : List ℕ) (i h n : ℕ) {a : ℕ} → a ≡ rule (get_or key i 0) → i < length key → n ≡ i + 1
-      → hashFrom rule h (drop i key) ≡ hashFrom rule (hashStep plain h a) (drop n key)
-  hash-turn-by key i h n {a} e below next =
-      hash-turn key i h below ∙ ap (λ (m : ℕ). hashFrom rule ((h * 33 + m) % 2 ^ 32) (drop (i + 1) key)) (sym e)
-      ∙ ap (λ (m : ℕ). hashFrom rule (hashStep plain h a) (drop m key)) (sym next)
+  hash_turn_by : (key : List ℕ) (i h n : ℕ) {a : ℕ} → a ≡ rule (get_or key i 0) → i < length key → n ≡ i + 1
+      → hash_from rule h (drop i key) ≡ hash_from rule (hash_step plain h a) (drop n key)
+  hash_turn_by key i h n {a} e below next =
+      hash_turn key i h below ∙ ap (λ (m : ℕ). hash_from rule ((h * 33 + m) % 2 ^ 32) (drop (i + 1) key)) (sym e)
+      ∙ ap (λ (m : ℕ). hash_from rule (hash_step plain h a) (drop m key)) (sym next)
 
-  pub hash-end : (key : List ℕ) (i h : ℕ) → length key ≤ i → hashFrom rule h (drop i key) ≡ h
-  unfolding hashFrom
-  hash-end key i h past = rw (drop_of_length-le key past)
+  pub hash_end : (key : List ℕ) (i h : ℕ) → length key ≤ i → hash_from rule h (drop i key) ≡ h
+  unfolding hash_from
+  hash_end key i h past = rw (drop_of_length-le key past)
 
   -- no byte more, one, two and three
   module _ (key : List ℕ) (h : ℕ) where
-    pub tail_none : length key ≡ 0 → h ≡ hashFrom rule h key
-    tail_none n = sym (hash-end key 0 h (omega arith))
+    pub tail_none : length key ≡ 0 → h ≡ hash_from rule h key
+    tail_none n = sym (hash_end key 0 h (omega arith))
 
-    module _ {a : ℕ} (first : a ≡ hashStep rule h (get_or key 0 0)) where
-      pub tail-one : length key ≡ 1 → a ≡ hashFrom rule h key
-      tail-one n = first ∙ sym (hash-turn key 0 h (omega arith) ∙ hash-end key 1 _ (omega arith))
+    module _ {a : ℕ} (first : a ≡ hash_step rule h (get_or key 0 0)) where
+      pub tail-one : length key ≡ 1 → a ≡ hash_from rule h key
+      tail-one n = first ∙ sym (hash_turn key 0 h (omega arith) ∙ hash_end key 1 _ (omega arith))
 
-      module _ {b : ℕ} (second : b ≡ hashStep rule a (get_or key 1 0)) where
-        both_told : b ≡ hashStep rule (hashStep rule h (get_or key 0 0)) (get_or key 1 0)
-        both_told = second ∙ ap (λ (v : ℕ). hashStep rule v (get_or key 1 0)) first
+      module _ {b : ℕ} (second : b ≡ hash_step rule a (get_or key 1 0)) where
+        both_told : b ≡ hash_step rule (hash_step rule h (get_or key 0 0)) (get_or key 1 0)
+        both_told = second ∙ ap (λ (v : ℕ). hash_step rule v (get_or key 1 0)) first
 
-        pub tail-two : length key ≡ 2 → b ≡ hashFrom rule h key
-        tail-two n = both_told ∙ sym (hash-turn key 0 h (omega arith) ∙ hash-turn key 1 _ (omega arith) ∙ hash-end key 2 _ (omega arith))
+        pub tail-two : length key ≡ 2 → b ≡ hash_from rule h key
+        tail-two n = both_told ∙ sym (hash_turn key 0 h (omega arith) ∙ hash_turn key 1 _ (omega arith) ∙ hash_end key 2 _ (omega arith))
 
-        pub tail-three : {c : ℕ} → c ≡ hashStep rule b (get_or key 2 0) → length key ≡ 3 → c ≡ hashFrom rule h key
+        pub tail-three : {c : ℕ} → c ≡ hash_step rule b (get_or key 2 0) → length key ≡ 3 → c ≡ hash_from rule h key
         tail-three third n =
-            third ∙ ap (λ (v : ℕ). hashStep rule v (get_or key 2 0)) both_told
-            ∙ sym (hash-turn key 0 h (omega arith) ∙ hash-turn key 1 _ (omega arith) ∙ hash-turn key 2 _ (omega arith) ∙ hash-end key 3 _ (omega arith))
+            third ∙ ap (λ (v : ℕ). hash_step rule v (get_or key 2 0)) both_told
+            ∙ sym (hash_turn key 0 h (omega arith) ∙ hash_turn key 1 _ (omega arith) ∙ hash_turn key 2 _ (omega arith) ∙ hash_end key 3 _ (omega arith))
 
   -- a stride is four steps: times 33^4, and what the four bytes count by their powers of 33
-  pub four-steps : (h a b c d : ℕ)
-      → hashFrom rule h (a ∷ b ∷ c ∷ d ∷ []) ≡ (h * 1185921 + (rule a * 35937 + rule b * 1089 + (rule c * 33 + rule d))) % 2 ^ 32
-  unfolding hashFrom
-  four-steps h a b c d =
+  pub four_steps : (h a b c d : ℕ)
+      → hash_from rule h (a ∷ b ∷ c ∷ d ∷ []) ≡ (h * 1185921 + (rule a * 35937 + rule b * 1089 + (rule c * 33 + rule d))) % 2 ^ 32
+  unfolding hash_from
+  four_steps h a b c d =
       let one = h * 33 + rule a in
       let two = one * 33 + rule b in
       let three = two * 33 + rule c in
       let all : three * 33 + rule d ≡ h * 1185921 + (rule a * 35937 + rule b * 1089 + (rule c * 33 + rule d)) = omega arith in
-      ap (λ (n : ℕ). ((n * 33 + rule c) % 2 ^ 32 * 33 + rule d) % 2 ^ 32) (mod-step one (rule b))
-      ∙ ap (λ (n : ℕ). (n * 33 + rule d) % 2 ^ 32) (mod-step two (rule c))
-      ∙ mod-step three (rule d)
+      ap (λ (n : ℕ). ((n * 33 + rule c) % 2 ^ 32 * 33 + rule d) % 2 ^ 32) (mod_step one (rule b))
+      ∙ ap (λ (n : ℕ). (n * 33 + rule d) % 2 ^ 32) (mod_step two (rule c))
+      ∙ mod_step three (rule d)
       ∙ ap (λ (n : ℕ). n % 2 ^ 32) all
 
   -- a turn of the loop that takes four bytes, by what they count
-  pub hash-stride : (key : List ℕ) (i h : ℕ) {a b c d v : ℕ} → i + 4 ≤ length key
+  pub hash_stride : (key : List ℕ) (i h : ℕ) {a b c d v : ℕ} → i + 4 ≤ length key
       → a ≡ rule (get_or key i 0) → b ≡ rule (get_or key (i + 1) 0) → c ≡ rule (get_or key (i + 2) 0) → d ≡ rule (get_or key (i + 3) 0)
-      → v ≡ hashFrom plain h (a ∷ b ∷ c ∷ d ∷ []) → hashFrom rule h (drop i key) ≡ hashFrom rule v (drop (i + 4) key)
-  unfolding hashFrom
-  hash-stride key i h {a} {b} {c} {d} fits ea eb ec ed told =
-      let one = hashStep plain h a in
-      let two = hashStep plain one b in
-      let three = hashStep plain two c in
-      hash-turn-by key i h (i + 1) ea (omega arith) (omega arith)
-      ∙ hash-turn-by key (i + 1) one (i + 2) eb (omega arith) (omega arith)
-      ∙ hash-turn-by key (i + 2) two (i + 3) ec (omega arith) (omega arith)
-      ∙ hash-turn-by key (i + 3) three (i + 4) ed (omega arith) (omega arith)
-      ∙ ap (λ (n : ℕ). hashFrom rule n (drop (i + 4) key)) (sym told)
+      → v ≡ hash_from plain h (a ∷ b ∷ c ∷ d ∷ []) → hash_from rule h (drop i key) ≡ hash_from rule v (drop (i + 4) key)
+  unfolding hash_from
+  hash_stride key i h {a} {b} {c} {d} fits ea eb ec ed told =
+      let one = hash_step plain h a in
+      let two = hash_step plain one b in
+      let three = hash_step plain two c in
+      hash_turn_by key i h (i + 1) ea (omega arith) (omega arith)
+      ∙ hash_turn_by key (i + 1) one (i + 2) eb (omega arith) (omega arith)
+      ∙ hash_turn_by key (i + 2) two (i + 3) ec (omega arith) (omega arith)
+      ∙ hash_turn_by key (i + 3) three (i + 4) ed (omega arith) (omega arith)
+      ∙ ap (λ (n : ℕ). hash_from rule n (drop (i + 4) key)) (sym told)
 
   -- the hash of two parts joined goes on from the first part's
-  pub hash-from-append : (a b : List ℕ) (h : ℕ) → hashFrom rule h (a ++ b) ≡ hashFrom rule (hashFrom rule h a) b
-  unfolding hashFrom
-  hash-from-append [] b h = refl
-  hash-from-append (x ∷ a) b h = hash-from-append a b (hashStep rule h x)
+  pub hash_from-append : (a b : List ℕ) (h : ℕ) → hash_from rule h (a ++ b) ≡ hash_from rule (hash_from rule h a) b
+  unfolding hash_from
+  hash_from-append [] b h = refl
+  hash_from-append (x ∷ a) b h = hash_from-append a b (hash_step rule h x)
 
-  pub hash-append : (a b : List ℕ) → hashBy rule (a ++ b) ≡ hashFrom rule (hashBy rule a) b
-  unfolding hashBy
-  hash-append a b = hash-from-append a b 5381
+  pub hash-append : (a b : List ℕ) → hash_by rule (a ++ b) ≡ hash_from rule (hash_by rule a) b
+  unfolding hash_by
+  hash-append a b = hash_from-append a b 5381
 
   -- no bytes hash to the start; the hash of a longer start of a key goes on from that of a shorter one, and so does the hash of the key
-  pub hash-none : (key : List ℕ) → hashBy rule (take 0 key) ≡ 5381
-  unfolding hashBy hashFrom
+  pub hash-none : (key : List ℕ) → hash_by rule (take 0 key) ≡ 5381
+  unfolding hash_by hash_from
   hash-none key = refl
 
-  module _ (key : List ℕ) (at h : ℕ) (is : h ≡ hashBy rule (take at key)) where
-    pub hash-further : (e : ℕ) → at ≤ e → hashFrom rule h (take (e - at) (drop at key)) ≡ hashBy rule (take e key)
-    hash-further e up =
+  module _ (key : List ℕ) (at h : ℕ) (is : h ≡ hash_by rule (take at key)) where
+    pub hash_further : (e : ℕ) → at ≤ e → hash_from rule h (take (e - at) (drop at key)) ≡ hash_by rule (take e key)
+    hash_further e up =
         let q : at + (e - at) ≡ e = omega arith in
-        ap (λ (n : ℕ). hashFrom rule n (take (e - at) (drop at key))) is ∙ sym (hash-append (take at key) (take (e - at) (drop at key)))
-        ∙ ap (hashBy rule) (sym (take-add at (e - at) key)) ∙ ap (λ (n : ℕ). hashBy rule (take n key)) q
+        ap (λ (n : ℕ). hash_from rule n (take (e - at) (drop at key))) is ∙ sym (hash-append (take at key) (take (e - at) (drop at key)))
+        ∙ ap (hash_by rule) (sym (take-add at (e - at) key)) ∙ ap (λ (n : ℕ). hash_by rule (take n key)) q
 
-    pub hash-whole : at ≤ length key → hashFrom rule h (take (length key - at) (drop at key)) ≡ hashBy rule key
-    hash-whole up = hash-further (length key) up ∙ ap (hashBy rule) (take_all (length key) key (omega arith))
+    pub hash_whole : at ≤ length key → hash_from rule h (take (length key - at) (drop at key)) ≡ hash_by rule key
+    hash_whole up = hash_further (length key) up ∙ ap (hash_by rule) (take_all (length key) key (omega arith))
 
   -- a hash is a number of 32 bits
-  pub hash-from-below : (a : List ℕ) (h : ℕ) → h < 2 ^ 32 → hashFrom rule h a < 2 ^ 32
-  unfolding hashFrom
-  hash-from-below [] h small = small
-  hash-from-below (x ∷ a) h small = hash-from-below a (hashStep rule h x) (omega arith)
+  pub hash_from_below : (a : List ℕ) (h : ℕ) → h < 2 ^ 32 → hash_from rule h a < 2 ^ 32
+  unfolding hash_from
+  hash_from_below [] h small = small
+  hash_from_below (x ∷ a) h small = hash_from_below a (hash_step rule h x) (omega arith)
 
-  pub hash-below : (a : List ℕ) → hashBy rule a < 2 ^ 32
-  unfolding hashBy
-  hash-below a = hash-from-below a 5381 (omega arith)
+  pub hash_below : (a : List ℕ) → hash_by rule a < 2 ^ 32
+  unfolding hash_by
+  hash_below a = hash_from_below a 5381 (omega arith)
 
 -- a product of two numbers of 32 bits has 64
-pub product-fits : {a b : ℕ} → a < 2 ^ 32 → b < 2 ^ 32 → a * b < 2 ^ 64
-product-fits {a} {b} ha hb = omega (arith, mul-le-mul (le-pred_of_lt ha) (le-pred_of_lt hb))
+pub product_fits : {a b : ℕ} → a < 2 ^ 32 → b < 2 ^ 32 → a * b < 2 ^ 64
+product_fits {a} {b} ha hb = omega (arith, mul-le-mul (le-pred_of_lt ha) (le-pred_of_lt hb))
 
 -- what a byte counts under the signed rule, below 128 and from 128 on
 pub signed_low : (b : ℕ) → b < 128 → signed b ≡ b
@@ -132,12 +132,12 @@ pub signed_high : (b : ℕ) → 128 ≤ b → signed b ≡ b + 4294967040
 unfolding signed pick
 signed_high b l = simp (le-ltb b 128 l)
 
-pub counts-plain : {form : Form} (b : ℕ) {wide : ℕ} → form ≡ Form.Plain → wide ≡ b → wide ≡ ruleOf form b
-counts-plain b e w = w ∙ sym (ap (λ (f : Form). ruleOf f b) e)
+pub counts_plain : {form : Form} (b : ℕ) {wide : ℕ} → form ≡ Form.Plain → wide ≡ b → wide ≡ rule_of form b
+counts_plain b e w = w ∙ sym (ap (λ (f : Form). rule_of f b) e)
 
 -- the code of the signed rule: 128 more, modulo 256, and 128 less
-pub counts-signed : {form : Form} (b : ℕ) {wide r : ℕ} → form ≡ Form.Signed → wide ≡ b → wide < 256 → r ≡ ((wide + 128) % 256 + 4294967168) % 2 ^ 32 → r ≡ ruleOf form b
-counts-signed b {wide} {r} e w l told = on (lt-or-ge b 128) ∙ sym (ap (λ (f : Form). ruleOf f b) e)
+pub counts_signed : {form : Form} (b : ℕ) {wide r : ℕ} → form ≡ Form.Signed → wide ≡ b → wide < 256 → r ≡ ((wide + 128) % 256 + 4294967168) % 2 ^ 32 → r ≡ rule_of form b
+counts_signed b {wide} {r} e w l told = on (lt_or_ge b 128) ∙ sym (ap (λ (f : Form). rule_of f b) e)
   where
     on : (b < 128) ⊎ (128 ≤ b) → r ≡ signed b
     on (inl below) = let s = signed_low b below in omega (arith, told, w, l, s)
@@ -148,10 +148,10 @@ pub signed_is : (b : ℕ) → (b < 128 → signed b ≡ b) × (128 ≤ b → b <
 signed_is b = (signed_low b, λ l h. let e = signed_high b l in (omega (arith, e), omega (arith, e, h)))
 
 -- 'é' is C3 A9: its two hashes
-pub accent-plain : hashBy plain (0xC3 ∷ 0xA9 ∷ []) ≡ 5866513
-unfolding hashBy hashFrom
-accent-plain = refl
+pub accent_plain : hash_by plain (0xC3 ∷ 0xA9 ∷ []) ≡ 5866513
+unfolding hash_by hash_from
+accent_plain = refl
 
-pub accent-signed : hashBy signed (0xC3 ∷ 0xA9 ∷ []) ≡ 5857809
-unfolding hashBy hashFrom signed pick
-accent-signed = refl
+pub accent_signed : hash_by signed (0xC3 ∷ 0xA9 ∷ []) ≡ 5857809
+unfolding hash_by hash_from signed pick
+accent_signed = refl

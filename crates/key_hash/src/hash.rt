@@ -1,6 +1,6 @@
 // The hash of a key: start 5381, for each byte times 33 plus what the byte counts, modulo 2^32.
 ghost use Rattle.std.specs.Prelude.{◌≡◌, ◌*◌, ◌%◌, ◌^◌, ◌<◌, [], ◌∷◌, length};
-ghost use Rattle.key_hash.specs.Hash.{hashStep, hashFrom, hashBy, plain, ruleOf, hashOf};
+ghost use Rattle.key_hash.specs.Hash.{hash_step, hash_from, hash_by, plain, rule_of, hash_of};
 
 use words::wide::byte_word;
 
@@ -24,7 +24,7 @@ pub fn wrapping_mul(a: u32, b: u32) -> u32
 
 // What a byte counts under a form, as a number of 32 bits: the signed one turns the two halves of 256 round and takes 128 off, which is one instruction.
 pub fn byte_counts(b: u8, form: Form) -> u32
-    ensures { (result ≡ ruleOf form b) × (result < 2 ^ 32) }
+    ensures { (result ≡ rule_of form b) × (result < 2 ^ 32) }
 {
     let wide = byte_word(b);
     match form {
@@ -35,7 +35,7 @@ pub fn byte_counts(b: u8, form: Form) -> u32
 
 // The hash after four bytes more, by what they count: times 33 four times, at once.
 fn hash_four(value: u32, a: u32, b: u32, c: u32, d: u32) -> u32
-    ensures { result ≡ hashFrom plain value (a ∷ b ∷ c ∷ d ∷ []) }
+    ensures { result ≡ hash_from plain value (a ∷ b ∷ c ∷ d ∷ []) }
 {
     let scaled = wrapping_mul(value, 1_185_921);
     let ab = std::num::wrapping_add_u32(wrapping_mul(a, 35_937), wrapping_mul(b, 1_089));
@@ -45,7 +45,7 @@ fn hash_four(value: u32, a: u32, b: u32, c: u32, d: u32) -> u32
 
 // The hash after one byte more, under a form.
 fn hash_byte(value: u32, b: u8, form: Form) -> u32
-    ensures { result ≡ hashStep (ruleOf form) value b }
+    ensures { result ≡ hash_step (rule_of form) value b }
 {
     let scaled = wrapping_mul(value, 33);
     std::num::wrapping_add_u32(scaled, byte_counts(b, form))
@@ -54,7 +54,7 @@ fn hash_byte(value: u32, b: u8, form: Form) -> u32
 // The hash after at most three bytes more, which is what strides of four leave.
 fn hash_tail(value: u32, bytes: &[u8], form: Form) -> u32
     requires { length bytes.now < 4 }
-    ensures { result ≡ hashFrom (ruleOf form) value bytes.now }
+    ensures { result ≡ hash_from (rule_of form) value bytes.now }
 {
     if bytes.len() == 0 {
         return value;
@@ -72,7 +72,7 @@ fn hash_tail(value: u32, bytes: &[u8], form: Form) -> u32
 
 // The hash of bytes under a form, going on from the hash of what stands before them: four bytes at a time and then what is left.
 pub fn hash_on(start: u32, bytes: &[u8], form: Form) -> u32
-    ensures { result ≡ hashFrom (ruleOf form) start bytes.now }
+    ensures { result ≡ hash_from (rule_of form) start bytes.now }
 {
     let strides = bytes.len() / 4 * 4;
     let mut value = start;
@@ -91,7 +91,7 @@ pub fn hash_on(start: u32, bytes: &[u8], form: Form) -> u32
 // gvdb-rs: djb_hash.
 // The hash of a key.
 pub fn djb_hash(key: &[u8]) -> u32
-    ensures { result ≡ hashOf key.now }
+    ensures { result ≡ hash_of key.now }
 {
     hash_on(HASH_START, key, Form::Plain)
 }
@@ -99,7 +99,7 @@ pub fn djb_hash(key: &[u8]) -> u32
 // The hash of a key under a form, which is asked for once: handed on to `hash_on`, it would be tested again for each of the last bytes. It has one caller, so the
 // compiler takes it into a lookup.
 pub fn hash_key(key: &[u8], form: Form) -> u32
-    ensures { result ≡ hashBy (ruleOf form) key.now }
+    ensures { result ≡ hash_by (rule_of form) key.now }
 {
     match form {
         Form::Plain => djb_hash(key),

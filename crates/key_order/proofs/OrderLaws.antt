@@ -12,42 +12,42 @@ use lib.Dec.{ltb, eqb}
 use borrow.Author.Tests.{ltb-true, ltb-false, eqb-true, lt-ltb, le-ltb, eq-eqb, ne_eqb}
 use Rattle.key_order.specs.Order.{precedes}
 
-absurd-test : true ≡ false → ⊥
-absurd-test e = let z : ◌≡◌ {A = ℕ} 0 1 = cc in omega arith
+absurd_test : true ≡ false → ⊥
+absurd_test e = let z : ◌≡◌ {A = ℕ} 0 1 = cc in omega arith
 
 -- ---- one byte each
 
 module _ (x y : ℕ) (a b : List ℕ) where
-  pub less-head : x < y → precedes (x ∷ a) (y ∷ b) ≡ true
+  pub less_head : x < y → precedes (x ∷ a) (y ∷ b) ≡ true
   unfolding precedes
-  less-head h = rw (lt-ltb x y h)
+  less_head h = rw (lt-ltb x y h)
 
-  pub more-head : y < x → precedes (x ∷ a) (y ∷ b) ≡ false
+  pub more_head : y < x → precedes (x ∷ a) (y ∷ b) ≡ false
   unfolding precedes
-  more-head h = rw (le-ltb x y (omega arith), ne_eqb x y (omega arith))
+  more_head h = rw (le-ltb x y (omega arith), ne_eqb x y (omega arith))
 
   pub same_head : x ≡ y → precedes (x ∷ a) (y ∷ b) ≡ precedes a b
   unfolding precedes
   same_head e = rw (le-ltb x y (omega arith), eq-eqb x y e)
 
   -- what the order of two texts says of their first bytes
-  pub head-cases : precedes (x ∷ a) (y ∷ b) ≡ true → (x < y) ⊎ ((x ≡ y) × (precedes a b ≡ true))
+  pub head_cases : precedes (x ∷ a) (y ∷ b) ≡ true → (x < y) ⊎ ((x ≡ y) × (precedes a b ≡ true))
   unfolding precedes
-  head-cases e = first (ltb x y) refl e
+  head_cases e = first (ltb x y) refl e
     where
       second : (u : Bool) → eqb x y ≡ u → (u && precedes a b) ≡ true → (x < y) ⊎ ((x ≡ y) × (precedes a b ≡ true))
       second true t e = inr (eqb-true x y t, e)
-      second false t e = absurd (absurd-test (sym e))
+      second false t e = absurd (absurd_test (sym e))
 
       first : (u : Bool) → ltb x y ≡ u → (u || (eqb x y && precedes a b)) ≡ true → (x < y) ⊎ ((x ≡ y) × (precedes a b ≡ true))
       first true t e = inl (ltb-true x y t)
       first false t e = second (eqb x y) refl e
 
-  pub head-not : precedes (x ∷ a) (y ∷ b) ≡ false → y ≤ x
-  head-not e = go (ltb x y) refl
+  pub head_not : precedes (x ∷ a) (y ∷ b) ≡ false → y ≤ x
+  head_not e = go (ltb x y) refl
     where
       go : (u : Bool) → ltb x y ≡ u → y ≤ x
-      go true t = absurd (absurd-test (sym (less-head (ltb-true x y t)) ∙ e))
+      go true t = absurd (absurd_test (sym (less_head (ltb-true x y t)) ∙ e))
       go false t = ltb-false x y t
 
 -- ---- the three laws
@@ -59,28 +59,28 @@ irreflexive (x ∷ a) = same_head x x a a refl ∙ irreflexive a
 
 join : (x y z : ℕ) (a b c : List ℕ) → (precedes a b ≡ true → precedes b c ≡ true → precedes a c ≡ true)
     → (x < y) ⊎ ((x ≡ y) × (precedes a b ≡ true)) → (y < z) ⊎ ((y ≡ z) × (precedes b c ≡ true)) → precedes (x ∷ a) (z ∷ c) ≡ true
-join x y z a b c rest (inl p) (inl q) = less-head x z a c (omega arith)
-join x y z a b c rest (inl p) (inr q) = less-head x z a c (omega arith)
-join x y z a b c rest (inr p) (inl q) = less-head x z a c (omega arith)
+join x y z a b c rest (inl p) (inl q) = less_head x z a c (omega arith)
+join x y z a b c rest (inl p) (inr q) = less_head x z a c (omega arith)
+join x y z a b c rest (inr p) (inl q) = less_head x z a c (omega arith)
 join x y z a b c rest (inr p) (inr q) = same_head x z a c (omega arith) ∙ rest p.1 q.1
 
 pub transitive : (a b c : List ℕ) → precedes a b ≡ true → precedes b c ≡ true → precedes a c ≡ true
 unfolding precedes
-transitive [] [] c p q = absurd (absurd-test (sym p))
+transitive [] [] c p q = absurd (absurd_test (sym p))
 transitive [] (y ∷ b) [] p q = q
 transitive [] (y ∷ b) (z ∷ c) p q = refl
-transitive (x ∷ a) [] c p q = absurd (absurd-test (sym p))
-transitive (x ∷ a) (y ∷ b) [] p q = absurd (absurd-test (sym q))
-transitive (x ∷ a) (y ∷ b) (z ∷ c) p q = join x y z a b c (transitive a b c) (head-cases x y a b p) (head-cases y z b c q)
+transitive (x ∷ a) [] c p q = absurd (absurd_test (sym p))
+transitive (x ∷ a) (y ∷ b) [] p q = absurd (absurd_test (sym q))
+transitive (x ∷ a) (y ∷ b) (z ∷ c) p q = join x y z a b c (transitive a b c) (head_cases x y a b p) (head_cases y z b c q)
 
 pub total : (a b : List ℕ) → precedes a b ≡ false → precedes b a ≡ false → a ≡ b
 unfolding precedes
 total [] [] p q = refl
-total [] (y ∷ b) p q = absurd (absurd-test p)
-total (x ∷ a) [] p q = absurd (absurd-test q)
+total [] (y ∷ b) p q = absurd (absurd_test p)
+total (x ∷ a) [] p q = absurd (absurd_test q)
 total (x ∷ a) (y ∷ b) p q =
-    let ge : y ≤ x = head-not x y a b p in
-    let le : x ≤ y = head-not y x b a q in
+    let ge : y ≤ x = head_not x y a b p in
+    let le : x ≤ y = head_not y x b a q in
     let e : x ≡ y = omega arith in
     cc (total a b (sym (same_head x y a b e) ∙ p) (sym (same_head y x b a (sym e)) ∙ q))
 
@@ -89,14 +89,14 @@ pub asymmetric : (a b : List ℕ) → precedes a b ≡ true → precedes b a ≡
 asymmetric a b p = go (precedes b a) refl
   where
     go : (t : Bool) → precedes b a ≡ t → precedes b a ≡ false
-    go true q = absurd (absurd-test (sym (transitive a b a p q) ∙ irreflexive a))
+    go true q = absurd (absurd_test (sym (transitive a b a p q) ∙ irreflexive a))
     go false q = q
 
 -- a text comes before the longer ones that start with it
-pub prefix-precedes : (a : List ℕ) (x : ℕ) (b : List ℕ) → precedes a (a ++ x ∷ b) ≡ true
+pub prefix_precedes : (a : List ℕ) (x : ℕ) (b : List ℕ) → precedes a (a ++ x ∷ b) ≡ true
 unfolding precedes
-prefix-precedes [] x b = refl
-prefix-precedes (y ∷ a) x b = same_head y y a (a ++ x ∷ b) refl ∙ prefix-precedes a x b
+prefix_precedes [] x b = refl
+prefix_precedes (y ∷ a) x b = same_head y y a (a ++ x ∷ b) refl ∙ prefix_precedes a x b
 
 -- a front that both have decides nothing
 pub front_same : (i : ℕ) (a b : List ℕ) → i ≤ length a → i ≤ length b → take i a ≡ take i b → precedes a b ≡ precedes (drop i a) (drop i b)
@@ -114,24 +114,24 @@ module _ (a b : List ℕ) (i : ℕ) where
   turn ha hb = rw (add-one, drop-cons a i 0, drop-cons b i 0)
 
   module _ (ha : i < length a) (hb : i < length b) where
-    pub turn-less : get_or a i 0 < get_or b i 0 → precedes (drop i a) (drop i b) ≡ true
-    turn-less h = turn ha hb ∙ less-head _ _ _ _ h
+    pub turn_less : get_or a i 0 < get_or b i 0 → precedes (drop i a) (drop i b) ≡ true
+    turn_less h = turn ha hb ∙ less_head _ _ _ _ h
 
     pub turn_more : get_or b i 0 < get_or a i 0 → precedes (drop i a) (drop i b) ≡ false
-    turn_more h = turn ha hb ∙ more-head _ _ _ _ h
+    turn_more h = turn ha hb ∙ more_head _ _ _ _ h
 
-    pub turn-same : get_or a i 0 ≡ get_or b i 0 → precedes (drop i a) (drop i b) ≡ precedes (drop (i + 1) a) (drop (i + 1) b)
-    turn-same e = turn ha hb ∙ same_head _ _ _ _ e
+    pub turn_same : get_or a i 0 ≡ get_or b i 0 → precedes (drop i a) (drop i b) ≡ precedes (drop (i + 1) a) (drop (i + 1) b)
+    turn_same e = turn ha hb ∙ same_head _ _ _ _ e
 
   -- b has ended
-  pub end-right : i < length a → length b ≤ i → precedes (drop i a) (drop i b) ≡ false
+  pub end_right : i < length a → length b ≤ i → precedes (drop i a) (drop i b) ≡ false
   unfolding precedes
-  end-right ha hb = rw (drop-cons a i 0, drop_of_length-le b hb)
+  end_right ha hb = rw (drop-cons a i 0, drop_of_length-le b hb)
 
   -- a has ended
-  pub end-left : length a ≡ i → i ≤ length b → precedes (drop i a) (drop i b) ≡ ltb (length a) (length b)
+  pub end_left : length a ≡ i → i ≤ length b → precedes (drop i a) (drop i b) ≡ ltb (length a) (length b)
   unfolding precedes
-  end-left ha hb = go (ltb (length a) (length b)) refl
+  end_left ha hb = go (ltb (length a) (length b)) refl
     where
       go : (t : Bool) → ltb (length a) (length b) ≡ t → precedes (drop i a) (drop i b) ≡ t
       go true e =

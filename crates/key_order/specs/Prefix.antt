@@ -4,23 +4,23 @@ use Rattle.std.specs.Prelude.{ℕ, suc, List, [], ◌∷◌, map, take, drop, eq
 use Rattle.words.specs.Choice.{pick}
 
 -- where those prefixes end that reach into `rest`, which starts at index `at` of the key
-unfoldable pub endsFrom : ℕ → ℕ → List ℕ → List ℕ
-endsFrom sep at [] = at ∷ []
-endsFrom sep at (x ∷ []) = suc at ∷ []
-endsFrom sep at (x ∷ y ∷ rest) =
-    pick (eqb x sep) (suc at ∷ endsFrom sep (suc at) (y ∷ rest)) (endsFrom sep (suc at) (y ∷ rest))
+unfoldable pub ends_from : ℕ → ℕ → List ℕ → List ℕ
+ends_from sep at [] = at ∷ []
+ends_from sep at (x ∷ []) = suc at ∷ []
+ends_from sep at (x ∷ y ∷ rest) =
+    pick (eqb x sep) (suc at ∷ ends_from sep (suc at) (y ∷ rest)) (ends_from sep (suc at) (y ∷ rest))
 
 -- the prefixes, shortest first; of the empty key only itself
 unfoldable pub prefixes : ℕ → List ℕ → List (List ℕ)
-prefixes sep key = map (λ (n : ℕ). take n key) (endsFrom sep 0 key)
+prefixes sep key = map (λ (n : ℕ). take n key) (ends_from sep 0 key)
 
 -- the ends past index `from`, and the first of them
-unfoldable pub endsPast : ℕ → List ℕ → ℕ → List ℕ
-endsPast sep key from = endsFrom sep from (drop from key)
+unfoldable pub ends_past : ℕ → List ℕ → ℕ → List ℕ
+ends_past sep key from = ends_from sep from (drop from key)
 
 unfoldable pub next_from : ℕ → ℕ → List ℕ → ℕ
 next_from sep at [] = at
 next_from sep at (x ∷ rest) = pick (eqb x sep) (suc at) (next_from sep (suc at) rest)
 
-unfoldable pub nextEnd : ℕ → List ℕ → ℕ → ℕ
-nextEnd sep key from = next_from sep from (drop from key)
+unfoldable pub next_end : ℕ → List ℕ → ℕ → ℕ
+next_end sep key from = next_from sep from (drop from key)

@@ -1,14 +1,14 @@
 // Equality of byte slices. Eight bytes, four or two are compared as one number. The last stretch ends where the slices end, so it may
 // start in bytes that were compared before: no byte is left over.
 ghost use Rattle.std.specs.Prelude.{◌≡◌, ◌≤◌, ◌<◌, length};
-ghost use Rattle.key_order.specs.Compare.{sameBytes, ends_at};
+ghost use Rattle.key_order.specs.Compare.{same_bytes, ends_at};
 
 use words::field::{half_at, long_at, word_at};
 
 // Whether two slices of one length, eight bytes or more, hold the same bytes.
 fn same_long(a: &[u8], b: &[u8]) -> bool
     requires { (length a.now ≡ length b.now) × (8 ≤ length a.now) }
-    ensures { result ≡ sameBytes a.now b.now }
+    ensures { result ≡ same_bytes a.now b.now }
 {
     let last = a.len() - 8;
     let mut i = 0;
@@ -24,7 +24,7 @@ fn same_long(a: &[u8], b: &[u8]) -> bool
 // The same, of four to eight.
 fn same_words(a: &[u8], b: &[u8]) -> bool
     requires { (length a.now ≡ length b.now) × (4 ≤ length a.now) × (length a.now ≤ 8) }
-    ensures { result ≡ sameBytes a.now b.now }
+    ensures { result ≡ same_bytes a.now b.now }
 {
     let last = a.len() - 4;
     (word_at(a, 0) == word_at(b, 0)) & (word_at(a, last) == word_at(b, last))
@@ -33,7 +33,7 @@ fn same_words(a: &[u8], b: &[u8]) -> bool
 // The same, of two to four.
 fn same_halves(a: &[u8], b: &[u8]) -> bool
     requires { (length a.now ≡ length b.now) × (2 ≤ length a.now) × (length a.now ≤ 4) }
-    ensures { result ≡ sameBytes a.now b.now }
+    ensures { result ≡ same_bytes a.now b.now }
 {
     let last = a.len() - 2;
     (half_at(a, 0) == half_at(b, 0)) & (half_at(a, last) == half_at(b, last))
@@ -42,7 +42,7 @@ fn same_halves(a: &[u8], b: &[u8]) -> bool
 // The same, of less than four.
 fn same_few(a: &[u8], b: &[u8]) -> bool
     requires { (length a.now ≡ length b.now) × (length a.now < 4) }
-    ensures { result ≡ sameBytes a.now b.now }
+    ensures { result ≡ same_bytes a.now b.now }
 {
     if 2 <= a.len() {
         return same_halves(a, b);
@@ -55,7 +55,7 @@ fn same_few(a: &[u8], b: &[u8]) -> bool
 
 // Whether two slices hold the same bytes.
 pub fn same_bytes(a: &[u8], b: &[u8]) -> bool
-    ensures { result ≡ sameBytes a.now b.now }
+    ensures { result ≡ same_bytes a.now b.now }
 {
     if a.len() != b.len() {
         return false;

@@ -7,100 +7,100 @@ use native.Mathlib.Omega.{arith}
 use lib.ListN.{length, get_or}
 use Rattle.words.specs.Choice.{pick}
 use Rattle.words.specs.Store.{zeros}
-use Rattle.key_hash.specs.Hash.{plain, signed, hashBy}
-use Rattle.text.specs.Ascii.{isAscii}
-use Rattle.text.proofs.AsciiLaws.{ascii-hash}
+use Rattle.key_hash.specs.Hash.{plain, signed, hash_by}
+use Rattle.text.specs.Ascii.{is_ascii}
+use Rattle.text.proofs.AsciiLaws.{ascii_hash}
 use Rattle.layout.specs.Item.{no_item}
-use Rattle.layout.specs.Kind.{kindByte}
+use Rattle.layout.specs.Kind.{kind_byte}
 use Rattle.layout.specs.Limits.{deepest}
-use Rattle.layout.specs.Sizes.{headerSize}
-use Rattle.model.specs.Table.{Content, Rows, State, Has, isChild, fragmentAt, kind_of}
-use Rattle.image.specs.Index.{keyOrder, hashesOf, bucketStart, byBucket, byIndex, item_of, indexIn, laidIndex}
+use Rattle.layout.specs.Sizes.{header_size}
+use Rattle.model.specs.Table.{Content, Rows, State, Has, is_child, fragment_at, kind_of}
+use Rattle.image.specs.Index.{key_order, hashes_of, bucket_start, by_bucket, by_index, item_of, index_in, laid_index}
 use Rattle.image.specs.Plan.{word}
-use Rattle.image.specs.Image.{align_of, childrenOf, parentIndex, childWords, value_of, coversOf, plan_of, tableBytes, image_of}
+use Rattle.image.specs.Image.{align_of, children_of, parent_index, child_words, value_of, covers_of, plan_of, table_bytes, image_of}
 use Rattle.image.specs.Fits.{SamePlan}
 use Rattle.image.specs.WellFormed.{WellFormed, Writable}
-use Rattle.image.proofs.TimesLaws.{times-here, times-cons}
-use Rattle.image.proofs.OrderLaws.{times-order}
-use Rattle.image.proofs.IndexLaws.{item-within}
-use Rattle.image.proofs.SameLaws.{plan-same}
+use Rattle.image.proofs.TimesLaws.{times_here, times_cons}
+use Rattle.image.proofs.OrderLaws.{times_order}
+use Rattle.image.proofs.IndexLaws.{item_within}
+use Rattle.image.proofs.SameLaws.{plan_same}
 use Rattle.laid.specs.Forms.{AsciiBelow, AsciiImage}
 
 map_same : (f g : ℕ → ℕ) (l : List ℕ) → ((x : ℕ) → Has l x → f x ≡ g x) → map f l ≡ map g l
 map_same f g [] same = refl
 map_same f g (x ∷ l) same =
-    let head : f x ≡ g x = same x (omega (arith, times-here x x l refl)) in
-    let rest : map f l ≡ map g l = map_same f g l (λ y h. same y (omega (arith, times-cons y x l))) in
+    let head : f x ≡ g x = same x (omega (arith, times_here x x l refl)) in
+    let rest : map f l ≡ map g l = map_same f g l (λ y h. same y (omega (arith, times_cons y x l))) in
     cc
 
-module _ (table : Rows) (low : (i : ℕ) → Has table.members i → isAscii (table.key i) ≡ true) where
-  hashes-alike : hashesOf signed table ≡ hashesOf plain table
-  unfolding hashesOf
-  hashes-alike =
-      map_same (λ (i : ℕ). hashBy signed (table.key i)) (λ (i : ℕ). hashBy plain (table.key i)) (keyOrder table)
-      (λ x h. ascii-hash (table.key x) (low x (rw (times-order table x) at h)))
+module _ (table : Rows) (low : (i : ℕ) → Has table.members i → is_ascii (table.key i) ≡ true) where
+  hashes_alike : hashes_of signed table ≡ hashes_of plain table
+  unfolding hashes_of
+  hashes_alike =
+      map_same (λ (i : ℕ). hash_by signed (table.key i)) (λ (i : ℕ). hash_by plain (table.key i)) (key_order table)
+      (λ x h. ascii_hash (table.key x) (low x (rw (times_order table x) at h)))
 
-  index-alike : byIndex signed table ≡ byIndex plain table
-  unfolding byIndex
-  index-alike = ap (λ (l : List ℕ). map (λ (place : ℕ). get_or (keyOrder table) place 0) (byBucket l)) hashes-alike
+  index_alike : by_index signed table ≡ by_index plain table
+  unfolding by_index
+  index_alike = ap (λ (l : List ℕ). map (λ (place : ℕ). get_or (key_order table) place 0) (by_bucket l)) hashes_alike
 
-  item-alike : (k : ℕ) → item_of signed table k ≡ item_of plain table k
+  item_alike : (k : ℕ) → item_of signed table k ≡ item_of plain table k
   unfolding item_of
-  item-alike k = ap (λ (l : List ℕ). get_or l k 0) index-alike
+  item_alike k = ap (λ (l : List ℕ). get_or l k 0) index_alike
 
-  laid-alike : (i : ℕ) → laidIndex signed table i ≡ laidIndex plain table i
-  unfolding laidIndex
-  laid-alike i = ap (λ (l : List ℕ). indexIn l i) index-alike
+  laid_alike : (i : ℕ) → laid_index signed table i ≡ laid_index plain table i
+  unfolding laid_index
+  laid_alike i = ap (λ (l : List ℕ). index_in l i) index_alike
 
-  parent-alike : (i : ℕ) → parentIndex signed table i ≡ parentIndex plain table i
-  unfolding parentIndex
-  parent-alike i = ap (λ (n : ℕ). pick (isChild table i) n no_item) (laid-alike (table.above i))
+  parent_alike : (i : ℕ) → parent_index signed table i ≡ parent_index plain table i
+  unfolding parent_index
+  parent_alike i = ap (λ (n : ℕ). pick (is_child table i) n no_item) (laid_alike (table.above i))
 
-  words-alike : (l : List ℕ) → childWords signed table l ≡ childWords plain table l
-  unfolding childWords
-  words-alike [] = refl
-  words-alike (c ∷ l) = ap (λ (n : ℕ). word n ++ childWords signed table l) (laid-alike c) ∙ ap (λ (m : List ℕ). word (laidIndex plain table c) ++ m) (words-alike l)
+  words_alike : (l : List ℕ) → child_words signed table l ≡ child_words plain table l
+  unfolding child_words
+  words_alike [] = refl
+  words_alike (c ∷ l) = ap (λ (n : ℕ). word n ++ child_words signed table l) (laid_alike c) ∙ ap (λ (m : List ℕ). word (laid_index plain table c) ++ m) (words_alike l)
 
   module _ (filter : ℕ) (f g : ℕ → ℕ → List ℕ) (state : State) where
-    value-alike : (i : ℕ) (c : Content) (at : ℕ) → ((u : ℕ) → c ≡ Content.nested u → f u at ≡ g u at) → value_of signed filter f state table i c at ≡ value_of plain filter g state table i c at
+    value_alike : (i : ℕ) (c : Content) (at : ℕ) → ((u : ℕ) → c ≡ Content.nested u → f u at ≡ g u at) → value_of signed filter f state table i c at ≡ value_of plain filter g state table i c at
     unfolding value_of
-    value-alike i (Content.bytes value) at inner = refl
-    value-alike i (Content.nested u) at inner = inner u refl
-    value-alike i Content.container at inner = words-alike (childrenOf table i)
+    value_alike i (Content.bytes value) at inner = refl
+    value_alike i (Content.nested u) at inner = inner u refl
+    value_alike i Content.container at inner = words_alike (children_of table i)
 
-    covers-alike : (i : ℕ) (c : Content) → coversOf signed filter f state table i c ≡ coversOf plain filter g state table i c
-    unfolding coversOf
-    covers-alike i (Content.bytes value) = refl
-    covers-alike i (Content.nested u) = refl
-    covers-alike i Content.container = refl
+    covers_alike : (i : ℕ) (c : Content) → covers_of signed filter f state table i c ≡ covers_of plain filter g state table i c
+    unfolding covers_of
+    covers_alike i (Content.bytes value) = refl
+    covers_alike i (Content.nested u) = refl
+    covers_alike i Content.container = refl
 
-    plan-alike : WellFormed table → ((i u at : ℕ) → Has table.members i → table.content i ≡ Content.nested u → f u at ≡ g u at)
+    plan_alike : WellFormed table → ((i u at : ℕ) → Has table.members i → table.content i ≡ Content.nested u → f u at ≡ g u at)
         → SamePlan (plan_of signed filter f state table) (plan_of plain filter g state table)
     unfolding plan_of
-    plan-alike well inner = record {
+    plan_alike well inner = record {
       count = refl;
       filter = refl;
-      first = λ b l. ap (λ (h : List ℕ). bucketStart h b) hashes-alike;
-      hash = λ k l. ap (λ (i : ℕ). hashBy signed (table.key i)) (item-alike k) ∙ ascii-hash (table.key (item_of plain table k)) (low (item_of plain table k) (item-within plain table well.once k l));
-      parent = λ k l. ap (parentIndex signed table) (item-alike k) ∙ parent-alike (item_of plain table k);
-      fragment = λ k l. ap (fragmentAt table) (item-alike k);
-      kind = λ k l. ap (λ (i : ℕ). kindByte (kind_of (table.content i))) (item-alike k);
-      align = λ k l. ap (λ (i : ℕ). align_of (table.content i)) (item-alike k);
-      value = λ k at l. ap (λ (i : ℕ). value_of signed filter f state table i (table.content i) at) (item-alike k)
-          ∙ value-alike (item_of plain table k) (table.content (item_of plain table k)) at (λ u e. inner (item_of plain table k) u at (item-within plain table well.once k l) e);
-      covers = λ k l. ap (λ (i : ℕ). coversOf signed filter f state table i (table.content i)) (item-alike k)
-          ∙ covers-alike (item_of plain table k) (table.content (item_of plain table k));
+      first = λ b l. ap (λ (h : List ℕ). bucket_start h b) hashes_alike;
+      hash = λ k l. ap (λ (i : ℕ). hash_by signed (table.key i)) (item_alike k) ∙ ascii_hash (table.key (item_of plain table k)) (low (item_of plain table k) (item_within plain table well.once k l));
+      parent = λ k l. ap (parent_index signed table) (item_alike k) ∙ parent_alike (item_of plain table k);
+      fragment = λ k l. ap (fragment_at table) (item_alike k);
+      kind = λ k l. ap (λ (i : ℕ). kind_byte (kind_of (table.content i))) (item_alike k);
+      align = λ k l. ap (λ (i : ℕ). align_of (table.content i)) (item_alike k);
+      value = λ k at l. ap (λ (i : ℕ). value_of signed filter f state table i (table.content i) at) (item_alike k)
+          ∙ value_alike (item_of plain table k) (table.content (item_of plain table k)) at (λ u e. inner (item_of plain table k) u at (item_within plain table well.once k l) e);
+      covers = λ k l. ap (λ (i : ℕ). covers_of signed filter f state table i (table.content i)) (item_alike k)
+          ∙ covers_alike (item_of plain table k) (table.content (item_of plain table k));
     }
 
-tables-alike : (filter : ℕ) (state : State) (d t at : ℕ) → Writable state d t → AsciiBelow state d t → tableBytes signed filter state d t at ≡ tableBytes plain filter state d t at
-unfolding tableBytes Writable AsciiBelow
-tables-alike filter state zero t at good low = refl
-tables-alike filter state (suc d) t at good low =
-    let f : ℕ → ℕ → List ℕ = λ u start. tableBytes signed filter state d u start in
-    let g : ℕ → ℕ → List ℕ = λ u start. tableBytes plain filter state d u start in
-    plan-same (plan_of signed filter f state (state t)) (plan_of plain filter g state (state t))
-    (plan-alike (state t) low.0 filter f g state good.0 (λ i u start has is. tables-alike filter state d u start (good.1 i u has is) (low.1 i u has is))) at
+tables_alike : (filter : ℕ) (state : State) (d t at : ℕ) → Writable state d t → AsciiBelow state d t → table_bytes signed filter state d t at ≡ table_bytes plain filter state d t at
+unfolding table_bytes Writable AsciiBelow
+tables_alike filter state zero t at good low = refl
+tables_alike filter state (suc d) t at good low =
+    let f : ℕ → ℕ → List ℕ = λ u start. table_bytes signed filter state d u start in
+    let g : ℕ → ℕ → List ℕ = λ u start. table_bytes plain filter state d u start in
+    plan_same (plan_of signed filter f state (state t)) (plan_of plain filter g state (state t))
+    (plan_alike (state t) low.0 filter f g state good.0 (λ i u start has is. tables_alike filter state d u start (good.1 i u has is) (low.1 i u has is))) at
 
-pub ascii-image : AsciiImage
+pub ascii_image : AsciiImage
 unfolding image_of
-ascii-image filter state t good low = ap (λ (bytes : List ℕ). zeros headerSize ++ bytes) (tables-alike filter state deepest t headerSize good low)
+ascii_image filter state t good low = ap (λ (bytes : List ℕ). zeros header_size ++ bytes) (tables_alike filter state deepest t header_size good low)

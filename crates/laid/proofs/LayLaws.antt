@@ -3,17 +3,17 @@ use Prim.Native.Nat.{ℕ, ◌+◌, ◌/◌, ◌^◌, ◌<◌}
 use native.Mathlib.Omega.{arith}
 use mathlib.Core.Path.{◌≡◌, refl}
 use mathlib.Core.Logic.{◌⊎◌, inl, inr}
-use Rattle.words.specs.Bits.{bloomShift}
+use Rattle.words.specs.Bits.{bloom_shift}
 use Rattle.read_find.specs.declared.manner.Lookup.{Lookup}
 use Rattle.read_find.specs.Find.{shift_of}
-use Rattle.check_table.specs.Strict.{mannerBy}
+use Rattle.check_table.specs.Strict.{manner_by}
 use Rattle.image.specs.Plan.{first_word}
 use Rattle.laid.specs.Back.{Lay}
 
-pub shift-agrees : (lookup : Lookup) (filter : ℕ) → filter < 2 ^ 27 → (shift_of lookup (first_word filter) ≡ 0) ⊎ (shift_of lookup (first_word filter) ≡ 5)
-unfolding shift_of bloomShift
-shift-agrees Lookup.Rust filter few = inl refl
-shift-agrees Lookup.Strict filter few = inr (omega arith)
+pub shift_agrees : (lookup : Lookup) (filter : ℕ) → filter < 2 ^ 27 → (shift_of lookup (first_word filter) ≡ 0) ⊎ (shift_of lookup (first_word filter) ≡ 5)
+unfolding shift_of bloom_shift
+shift_agrees Lookup.Rust filter few = inl refl
+shift_agrees Lookup.Strict filter few = inr (omega arith)
 
-abbrev pub layOf : (rule : ℕ → ℕ) (lookup : Lookup) (filter : ℕ) → filter < 2 ^ 27 → Lay
-layOf rule lookup filter few = record { manner = mannerBy rule lookup; filter = filter; few = few; shifts = shift-agrees lookup filter few }
+abbrev pub lay_of : (rule : ℕ → ℕ) (lookup : Lookup) (filter : ℕ) → filter < 2 ^ 27 → Lay
+lay_of rule lookup filter few = record { manner = manner_by rule lookup; filter = filter; few = few; shifts = shift_agrees lookup filter few }

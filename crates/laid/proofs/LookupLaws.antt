@@ -8,18 +8,18 @@ use Rattle.words.specs.Choice.{pick}
 use Rattle.layout.specs.declared.table.Table.{Table}
 use Rattle.layout.specs.declared.table.Opened.{Opened}
 use Rattle.layout.specs.declared.item.Item.{Item}
-use Rattle.layout.specs.Table.{openTable}
-use Rattle.layout.proofs.AnswerLaws.{pointer-inside-is}
+use Rattle.layout.specs.Table.{open_table}
+use Rattle.layout.proofs.AnswerLaws.{pointer_inside_is}
 use Rattle.read.specs.declared.lookup.Looked.{Looked}
-use Rattle.read.specs.Lookup.{at_pointer, atNested, value_of, nestedOf}
+use Rattle.read.specs.Lookup.{at_pointer, at_nested, value_of, nested_of}
 
 module _ (file : List ℕ) (item : Item) where
   -- a value whose pointer lies in the file, at a multiple of 8
-  pub value-of : item.kind ≡ 118 → item.from ≤ item.to → item.from % 8 ≡ 0 → item.to ≤ length file → value_of file item ≡ Looked.Pointer item.from item.to
+  pub value_of_lem : item.kind ≡ 118 → item.from ≤ item.to → item.from % 8 ≡ 0 → item.to ≤ length file → value_of file item ≡ Looked.Pointer item.from item.to
   unfolding value_of at_pointer pick
-  value-of kind ordered even inside = rw (eq-eqb item.kind 118 kind, pointer-inside-is (length file) item.from item.to 8 ordered even inside)
+  value_of_lem kind ordered even inside = rw (eq-eqb item.kind 118 kind, pointer_inside_is (length file) item.from item.to 8 ordered even inside)
 
   -- a nested table that opens
-  pub nested-of : (t : Table) → item.kind ≡ 72 → openTable file item.from item.to ≡ Opened.Table t → nestedOf file item ≡ Looked.Pointer item.from item.to
-  unfolding nestedOf atNested pick
-  nested-of t kind opens = rw (eq-eqb item.kind 72 kind, opens)
+  pub nested_of_lem : (t : Table) → item.kind ≡ 72 → open_table file item.from item.to ≡ Opened.Table t → nested_of file item ≡ Looked.Pointer item.from item.to
+  unfolding nested_of at_nested pick
+  nested_of_lem t kind opens = rw (eq-eqb item.kind 72 kind, opens)

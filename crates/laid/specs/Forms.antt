@@ -1,7 +1,7 @@
 -- An image whose keys are all of ASCII bytes is the same in both forms: what could be laid before keeps every byte.
 use Rattle.std.specs.Prelude.{ℕ, zero, suc, ◌≡◌, true}
 use Rattle.key_hash.specs.Hash.{plain, signed}
-use Rattle.text.specs.Ascii.{isAscii}
+use Rattle.text.specs.Ascii.{is_ascii}
 use Rattle.layout.specs.Limits.{deepest}
 use Rattle.model.specs.Table.{Content, State, Has}
 use Rattle.image.specs.Image.{image_of}
@@ -11,7 +11,7 @@ use Rattle.image.specs.WellFormed.{Writable}
 unfoldable pub AsciiBelow : State → ℕ → ℕ → Type 0
 AsciiBelow state zero t = Unit
 AsciiBelow state (suc d) t =
-    ((i : ℕ) → Has (state t).members i → isAscii ((state t).key i) ≡ true)
+    ((i : ℕ) → Has (state t).members i → is_ascii ((state t).key i) ≡ true)
     × ((i u : ℕ) → Has (state t).members i → (state t).content i ≡ Content.nested u → AsciiBelow state d u)
 
 -- the statement

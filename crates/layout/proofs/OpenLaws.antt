@@ -5,57 +5,57 @@ use mathlib.Core.List.{List}
 use native.Mathlib.Omega.{arith}
 use lib.ListN.{length}
 use borrow.Author.Tests.{ltb-false}
-use Rattle.words.proofs.ChoiceLaws.{pick-with}
+use Rattle.words.proofs.ChoiceLaws.{pick_with}
 use Rattle.layout.specs.declared.pointer.Pointed.{Pointed}
 use Rattle.layout.specs.declared.table.Table.{Table}
 use Rattle.layout.specs.declared.table.Opened.{Opened}
-use Rattle.layout.specs.Pointer.{openPointer}
-use Rattle.layout.specs.Table.{table_of, tableIn, whereInside, openTable, InFile}
+use Rattle.layout.specs.Pointer.{open_pointer}
+use Rattle.layout.specs.Table.{table_of, table_in, where_inside, open_table, InFile}
 
 unfoldable pub PointerFits : ℕ → ℕ → ℕ → Pointed → Type 0
 PointerFits size start end Pointed.Inside = (start ≤ end) × (end ≤ size)
 PointerFits size start end (Pointed.Refused why) = Unit
 
-pub pointer-fits : (size start end alignment : ℕ) → PointerFits size start end (openPointer size start end alignment)
-unfolding openPointer PointerFits
-pointer-fits size start end alignment =
+pub pointer_fits : (size start end alignment : ℕ) → PointerFits size start end (open_pointer size start end alignment)
+unfolding open_pointer PointerFits
+pointer_fits size start end alignment =
     let P = PointerFits size start end in
-    pick-with P _ _ _ (λ _. tt)
-    (λ ordered. pick-with P _ _ _
-    (λ _. pick-with P _ _ _ (λ _. tt) (λ inside. (ltb-false _ _ ordered, ltb-false _ _ inside)))
+    pick_with P _ _ _ (λ _. tt)
+    (λ ordered. pick_with P _ _ _
+    (λ _. pick_with P _ _ _ (λ _. tt) (λ inside. (ltb-false _ _ ordered, ltb-false _ _ inside)))
     (λ _. tt))
 
 -- a pointer that opens lies in the file
-pub pointer-inside : (size start end alignment : ℕ) → openPointer size start end alignment ≡ Pointed.Inside → (start ≤ end) × (end ≤ size)
+pub pointer_inside : (size start end alignment : ℕ) → open_pointer size start end alignment ≡ Pointed.Inside → (start ≤ end) × (end ≤ size)
 unfolding PointerFits
-pointer-inside size start end alignment e = subst (PointerFits size start end) e (pointer-fits size start end alignment)
+pointer_inside size start end alignment e = subst (PointerFits size start end) e (pointer_fits size start end alignment)
 
 unfoldable pub TableFits : List ℕ → Opened → Type 0
 TableFits file (Opened.Table t) = InFile file t
 TableFits file (Opened.Refused why) = Unit
 
-table-of-fits : (file : List ℕ) (start size blooms buckets : ℕ) → length file ≤ 16777216 → start + size ≤ length file → TableFits file (table_of start size blooms buckets)
+table_of_fits : (file : List ℕ) (start size blooms buckets : ℕ) → length file ≤ 16777216 → start + size ≤ length file → TableFits file (table_of start size blooms buckets)
 unfolding table_of TableFits
-table-of-fits file start size blooms buckets short fits =
-    pick-with (TableFits file) _ _ _ (λ _. tt)
-    (λ _. pick-with (TableFits file) _ _ _ (λ _. tt)
-    (λ room. pick-with (TableFits file) _ _ _
+table_of_fits file start size blooms buckets short fits =
+    pick_with (TableFits file) _ _ _ (λ _. tt)
+    (λ _. pick_with (TableFits file) _ _ _ (λ _. tt)
+    (λ room. pick_with (TableFits file) _ _ _
     (λ _. let l : 8 + 4 * blooms + 4 * buckets ≤ size = ltb-false _ _ room in record { short = short; head = omega arith; items = omega arith })
     (λ _. tt)))
 
-table-at-fits : (file : List ℕ) (start end : ℕ) (p : Pointed) → PointerFits (length file) start end p → length file ≤ 16777216
-    → TableFits file (whereInside p (tableIn file start end))
-unfolding tableIn TableFits PointerFits
-table-at-fits file start end Pointed.Inside inside short =
-    pick-with (TableFits file) _ _ _ (λ _. tt) (λ _. table-of-fits file start (end - start) _ _ short (omega arith))
-table-at-fits file start end (Pointed.Refused why) inside short = tt
+table_at_fits : (file : List ℕ) (start end : ℕ) (p : Pointed) → PointerFits (length file) start end p → length file ≤ 16777216
+    → TableFits file (where_inside p (table_in file start end))
+unfolding table_in TableFits PointerFits
+table_at_fits file start end Pointed.Inside inside short =
+    pick_with (TableFits file) _ _ _ (λ _. tt) (λ _. table_of_fits file start (end - start) _ _ short (omega arith))
+table_at_fits file start end (Pointed.Refused why) inside short = tt
 
-pub table_fits : (file : List ℕ) (start end : ℕ) → TableFits file (openTable file start end)
-unfolding openTable TableFits
+pub table_fits : (file : List ℕ) (start end : ℕ) → TableFits file (open_table file start end)
+unfolding open_table TableFits
 table_fits file start end =
-    pick-with (TableFits file) _ _ _ (λ _. tt) (λ short. table-at-fits file start end _ (pointer-fits _ _ _ _) (ltb-false _ _ short))
+    pick_with (TableFits file) _ _ _ (λ _. tt) (λ short. table_at_fits file start end _ (pointer_fits _ _ _ _) (ltb-false _ _ short))
 
 -- a table that opens lies in the file
-pub opened-in-file : (file : List ℕ) (start end : ℕ) {t : Table} → openTable file start end ≡ Opened.Table t → InFile file t
+pub opened_in_file : (file : List ℕ) (start end : ℕ) {t : Table} → open_table file start end ≡ Opened.Table t → InFile file t
 unfolding TableFits
-opened-in-file file start end e = subst (TableFits file) e (table_fits file start end)
+opened_in_file file start end e = subst (TableFits file) e (table_fits file start end)

@@ -6,7 +6,7 @@ use lib.Dec.{eqb}
 use Rattle.words.specs.Choice.{pick}
 use Rattle.layout.specs.declared.refusal.Refusal.{Refusal}
 use Rattle.layout.specs.declared.refusal.Refusal.TheVariants.{FileTooLong, PointerOutside, Misaligned, TableTooShort, BloomTooLong, BucketsTooLong, ItemsUneven, KeyNotUtf8, FragmentNotUtf8, ParentOutside, ParentsEndless, KeyNotFound, OtherKind, BufferTooShort, PastTheLast, HeaderTooShort, SignatureUnknown, ListBroken, VersionUnknown, KeyTooLong, NotContainer, TooManyItems, ArenaFull, TableUnknown, TableInItself, NestedTooDeep, TooManyTables, SeparatorOutside, MemoryBroken, EmptyKey, ImageTooLong, HeadsTooFew, TooManyFilterWords, ReportTooShort, CheckBroken}
-use Rattle.layout.specs.Refusal.{number, badAt}
+use Rattle.layout.specs.Refusal.{number, bad_at}
 
 -- the refusal of a number and an offset; the last where a number has none
 refusal : ℕ → ℕ → Refusal
@@ -47,7 +47,7 @@ refusal n at =
     pick (eqb n 34) ReportTooShort (
     CheckBroken))))))))))))))))))))))))))))))))))
 
-back : (why : Refusal) → refusal (number why) (badAt why) ≡ why
+back : (why : Refusal) → refusal (number why) (bad_at why) ≡ why
 unfolding pick refusal
 back FileTooLong = refl
 back PointerOutside = refl
@@ -85,10 +85,10 @@ back TooManyFilterWords = refl
 back ReportTooShort = refl
 back CheckBroken = refl
 
-pub refusal-by-numbers : (a b : Refusal) → number a ≡ number b → badAt a ≡ badAt b → a ≡ b
-refusal-by-numbers a b e f = sym (back a) ∙ ap (λ (n : ℕ). refusal n (badAt a)) e ∙ ap (refusal (number b)) f ∙ back b
+pub refusal_by_numbers : (a b : Refusal) → number a ≡ number b → bad_at a ≡ bad_at b → a ≡ b
+refusal_by_numbers a b e f = sym (back a) ∙ ap (λ (n : ℕ). refusal n (bad_at a)) e ∙ ap (refusal (number b)) f ∙ back b
 
 -- no refusal has the number 0: it would be the last one, whose number is 40
-pub refused-some : (why : Refusal) → number why ≡ 0 → ⊥
+pub refused_some : (why : Refusal) → number why ≡ 0 → ⊥
 unfolding refusal pick
-refused-some why e = let z : ◌≡◌ {A = ℕ} 0 40 = sym e ∙ ap number (sym (back why) ∙ ap (λ (n : ℕ). refusal n (badAt why)) e) in omega arith
+refused_some why e = let z : ◌≡◌ {A = ℕ} 0 40 = sym e ∙ ap number (sym (back why) ∙ ap (λ (n : ℕ). refusal n (bad_at why)) e) in omega arith

@@ -4,10 +4,10 @@ use Rattle.layout.specs.declared.pointer.Pointed.{Pointed}
 use Rattle.layout.specs.declared.table.Opened.{Opened}
 use Rattle.layout.specs.Refusal.{number}
 
-unfoldable pub pointedNumber : Pointed → ℕ
-pointedNumber Pointed.Inside = 0
-pointedNumber (Pointed.Refused why) = number why
+unfoldable pub pointed_number : Pointed → ℕ
+pointed_number Pointed.Inside = 0
+pointed_number (Pointed.Refused why) = number why
 
-unfoldable pub openedNumber : Opened → ℕ
-openedNumber (Opened.Table t) = 0
-openedNumber (Opened.Refused why) = number why
+unfoldable pub opened_number : Opened → ℕ
+opened_number (Opened.Table t) = 0
+opened_number (Opened.Refused why) = number why

@@ -2,20 +2,20 @@
 use Rattle.std.specs.Prelude.{ℕ, Bool, ◌||◌, eqb}
 use Rattle.layout.specs.declared.kind.Kind.{Kind}
 
-abbrev pub valueKind : ℕ
-valueKind = 118
+abbrev pub value_kind : ℕ
+value_kind = 118
 
-abbrev pub tableKind : ℕ
-tableKind = 72
+abbrev pub table_kind : ℕ
+table_kind = 72
 
-abbrev pub containerKind : ℕ
-containerKind = 76
+abbrev pub container_kind : ℕ
+container_kind = 76
 
-abbrev pub kindByte : Kind → ℕ
-kindByte Kind.Value = valueKind
-kindByte Kind.Table = tableKind
-kindByte Kind.Container = containerKind
+abbrev pub kind_byte : Kind → ℕ
+kind_byte Kind.Value = value_kind
+kind_byte Kind.Table = table_kind
+kind_byte Kind.Container = container_kind
 
 -- whether a byte is that of a kind
-abbrev pub kindKnown : ℕ → Bool
-kindKnown byte = eqb byte valueKind || (eqb byte tableKind || eqb byte containerKind)
+abbrev pub kind_known : ℕ → Bool
+kind_known byte = eqb byte value_kind || (eqb byte table_kind || eqb byte container_kind)

@@ -5,8 +5,8 @@ use Rattle.layout.specs.declared.refusal.Refusal.TheVariants.{PointerOutside, Mi
 use Rattle.layout.specs.declared.pointer.Pointed.{Pointed}
 
 -- 2 for start above end, then 3, then 2 for end past the file
-unfoldable pub openPointer : ℕ → ℕ → ℕ → ℕ → Pointed
-openPointer size start end alignment =
+unfoldable pub open_pointer : ℕ → ℕ → ℕ → ℕ → Pointed
+open_pointer size start end alignment =
     pick (ltb end start) (Pointed.Refused PointerOutside)
     (pick (eqb (start % alignment) 0)
     (pick (ltb size end) (Pointed.Refused PointerOutside) Pointed.Inside)

@@ -1,50 +1,50 @@
 -- Opening a table, from document 01, 'Layout of a table' and 'Order'.
 use Rattle.std.specs.Prelude.{ℕ, ◌+◌, ◌*◌, ◌-◌, ◌/◌, ◌%◌, ◌≤◌, List, length, ltb, eqb}
 use Rattle.words.specs.Choice.{pick}
-use Rattle.words.specs.Field.{wordAt}
-use Rattle.words.specs.Bits.{bloomCount}
+use Rattle.words.specs.Field.{word_at}
+use Rattle.words.specs.Bits.{bloom_count}
 use Rattle.layout.specs.declared.refusal.Refusal.TheVariants.{FileTooLong, TableTooShort, BloomTooLong, BucketsTooLong, ItemsUneven}
 use Rattle.layout.specs.declared.pointer.Pointed.{Pointed}
 use Rattle.layout.specs.declared.table.Table.{Table}
 use Rattle.layout.specs.declared.table.Opened.{Opened}
-use Rattle.layout.specs.Pointer.{openPointer}
-use Rattle.layout.specs.Limits.{longestFile}
-use Rattle.layout.specs.Sizes.{headSize, bucketSize, recordSize}
+use Rattle.layout.specs.Pointer.{open_pointer}
+use Rattle.layout.specs.Limits.{longest_file}
+use Rattle.layout.specs.Sizes.{head_size, bucket_size, record_size}
 
 -- a table of `size` bytes with so many bloom words and buckets: 5, 6, 7, or its parts
 unfoldable pub table_of : ℕ → ℕ → ℕ → ℕ → Opened
 table_of start size blooms buckets =
-    pick (ltb size (headSize + 4 * blooms)) (Opened.Refused BloomTooLong)
-    (pick (ltb size (headSize + 4 * blooms + bucketSize * buckets)) (Opened.Refused BucketsTooLong)
-    (pick (eqb ((size - (headSize + 4 * blooms + bucketSize * buckets)) % recordSize) 0)
+    pick (ltb size (head_size + 4 * blooms)) (Opened.Refused BloomTooLong)
+    (pick (ltb size (head_size + 4 * blooms + bucket_size * buckets)) (Opened.Refused BucketsTooLong)
+    (pick (eqb ((size - (head_size + 4 * blooms + bucket_size * buckets)) % record_size) 0)
     (Opened.Table (record {
       start = start;
       blooms = blooms;
       buckets = buckets;
-      items = start + (headSize + 4 * blooms + bucketSize * buckets);
-      count = (size - (headSize + 4 * blooms + bucketSize * buckets)) / recordSize;
+      items = start + (head_size + 4 * blooms + bucket_size * buckets);
+      count = (size - (head_size + 4 * blooms + bucket_size * buckets)) / record_size;
     }))
     (Opened.Refused ItemsUneven)))
 
 -- word 0: its low 27 bits are the number of bloom words; word 1: the number of buckets; 4 where they are missing
-unfoldable pub tableIn : List ℕ → ℕ → ℕ → Opened
-tableIn file start end =
-    pick (ltb (end - start) headSize) (Opened.Refused TableTooShort)
-    (table_of start (end - start) (bloomCount (wordAt file start)) (wordAt file (start + 4)))
+unfoldable pub table_in : List ℕ → ℕ → ℕ → Opened
+table_in file start end =
+    pick (ltb (end - start) head_size) (Opened.Refused TableTooShort)
+    (table_of start (end - start) (bloom_count (word_at file start)) (word_at file (start + 4)))
 
 -- a pointer's refusal is the table's
-abbrev pub whereInside : Pointed → Opened → Opened
-whereInside Pointed.Inside opened = opened
-whereInside (Pointed.Refused why) opened = Opened.Refused why
+abbrev pub where_inside : Pointed → Opened → Opened
+where_inside Pointed.Inside opened = opened
+where_inside (Pointed.Refused why) opened = Opened.Refused why
 
 -- opening is 1, the pointer's errors, 4, 5, 6, 7
-unfoldable pub openTable : List ℕ → ℕ → ℕ → Opened
-openTable file start end =
-    pick (ltb longestFile (length file)) (Opened.Refused FileTooLong)
-    (whereInside (openPointer (length file) start end 4) (tableIn file start end))
+unfoldable pub open_table : List ℕ → ℕ → ℕ → Opened
+open_table file start end =
+    pick (ltb longest_file (length file)) (Opened.Refused FileTooLong)
+    (where_inside (open_pointer (length file) start end 4) (table_in file start end))
 
 -- the table lies in the file, which is short: what every reader of a table needs
 pub record InFile (file : List ℕ) (t : Table) : Type 0 where
-  pub short : length file ≤ longestFile
-  pub head : t.start + headSize + 4 * t.blooms + bucketSize * t.buckets ≤ t.items
-  pub items : t.items + recordSize * t.count ≤ length file
+  pub short : length file ≤ longest_file
+  pub head : t.start + head_size + 4 * t.blooms + bucket_size * t.buckets ≤ t.items
+  pub items : t.items + record_size * t.count ≤ length file

@@ -1,7 +1,7 @@
 // An item of a table, read byte by byte into the format's widths.
 ghost use Rattle.std.specs.Prelude.{◌≡◌, ◌<◌, length};
-ghost use Rattle.words.specs.Align.{alignmentOf};
-ghost use Rattle.layout.specs.Pointer.{openPointer};
+ghost use Rattle.words.specs.Align.{alignment_of};
+ghost use Rattle.layout.specs.Pointer.{open_pointer};
 ghost use Rattle.layout.specs.Table.{InFile};
 ghost use Rattle.layout.specs.Item.{item_at};
 
@@ -65,7 +65,7 @@ pub fn item_at(file: &[u8], table: Table, index: usize) -> Item
 // gvdb-rs: value_ptr.
 // Whether an item's value pointer opens in the file.
 pub fn open_value(file: &[u8], item: Item, alignment: Alignment) -> Pointed
-    ensures { result ≡ openPointer (length file.now) item.from item.to (alignmentOf alignment) }
+    ensures { result ≡ open_pointer (length file.now) item.from item.to (alignment_of alignment) }
 {
     open_pointer(
         file.len(),

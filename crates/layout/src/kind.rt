@@ -1,6 +1,6 @@
 // The three kinds of an item, and the byte of each in a file.
 ghost use Rattle.std.specs.Prelude.{◌≡◌};
-ghost use Rattle.layout.specs.Kind.{kindByte, kindKnown};
+ghost use Rattle.layout.specs.Kind.{kind_byte, kind_known};
 
 // The bytes, and the same as words.
 pub const VALUE_BYTE: u8 = b'v';
@@ -25,7 +25,7 @@ pub enum Kind {
 // gvdb-rs: u8::from of a HashItemType.
 // The byte of a kind: 'v', 'H', 'L'.
 pub fn byte_of(kind: Kind) -> u8
-    ensures { result ≡ kindByte kind }
+    ensures { result ≡ kind_byte kind }
 {
     match kind {
         Kind::Value => VALUE_BYTE,
@@ -37,7 +37,7 @@ pub fn byte_of(kind: Kind) -> u8
 // gvdb-rs: HashItemType::try_from, HashItem::typ.
 // Whether a byte is that of a kind.
 pub fn kind_known(byte: u8) -> bool
-    ensures { result ≡ kindKnown byte }
+    ensures { result ≡ kind_known byte }
 {
     (byte == VALUE_BYTE) | ((byte == TABLE_BYTE) | (byte == CONTAINER_BYTE))
 }

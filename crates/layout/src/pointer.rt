@@ -1,7 +1,7 @@
 // A pointer: the bytes of a file from a start up to an end, the start a multiple of an alignment.
 ghost use Rattle.std.specs.Prelude.{◌≡◌};
-ghost use Rattle.words.specs.Align.{alignmentOf};
-ghost use Rattle.layout.specs.Pointer.{openPointer};
+ghost use Rattle.words.specs.Align.{alignment_of};
+ghost use Rattle.layout.specs.Pointer.{open_pointer};
 
 use crate::refusal::Refusal;
 use words::align::{Alignment, bytes_of};
@@ -16,7 +16,7 @@ pub enum Pointed {
 // gvdb-rs: Data::dereference, File::dereference.
 // Whether the pointer from start to end opens in a file of `size` bytes: 2 for a start above the end, then 3, then 2 for an end past the file.
 pub fn open_pointer(size: usize, start: usize, end: usize, alignment: Alignment) -> Pointed
-    ensures { result ≡ openPointer size start end (alignmentOf alignment) }
+    ensures { result ≡ open_pointer size start end (alignment_of alignment) }
 {
     let multiple = bytes_of(alignment);
     if end < start {

@@ -1,6 +1,6 @@
 // Why a call is refused: one variant for each number of document 01. A text that is not UTF-8 is refused with the offset at which it is bad.
 ghost use Rattle.std.specs.Prelude.{◌≡◌};
-ghost use Rattle.layout.specs.Refusal.{number, badAt};
+ghost use Rattle.layout.specs.Refusal.{number, bad_at};
 
 #[derive(Drop)]
 pub enum Refusal {
@@ -86,7 +86,7 @@ pub fn number_of(why: Refusal) -> u32
 
 // Where the text is bad, in the refusals that say so.
 pub fn bad_at(why: Refusal) -> usize
-    ensures { result ≡ badAt why }
+    ensures { result ≡ bad_at why }
 {
     match why {
         Refusal::KeyNotUtf8(at) => at,

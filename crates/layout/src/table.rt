@@ -1,6 +1,6 @@
 // A table and its opening.
 ghost use Rattle.std.specs.Prelude.{◌≡◌, ◌≤◌, length};
-ghost use Rattle.layout.specs.Table.{tableIn, openTable};
+ghost use Rattle.layout.specs.Table.{table_in, open_table};
 
 use crate::limits::LONGEST_FILE;
 use crate::pointer::{Pointed, open_pointer};
@@ -47,7 +47,7 @@ pub enum Opened {
 // The table that fills the bytes from start to end: 4, 5, 6, 7, or its parts.
 fn table_in(file: &[u8], start: usize, end: usize) -> Opened
     requires { (start ≤ end) × (end ≤ length file.now) }
-    ensures { result ≡ tableIn file.now start end }
+    ensures { result ≡ table_in file.now start end }
 {
     let size = end - start;
     if size < HEAD_SIZE {
@@ -79,7 +79,7 @@ fn table_in(file: &[u8], start: usize, end: usize) -> Opened
 // gvdb-rs: File::read_hash_table, and File::hash_table for the root pointer.
 // The table at the pointer from start to end: 1, the pointer's errors, 4, 5, 6, 7.
 pub fn open_table(file: &[u8], start: u32, end: u32) -> Opened
-    ensures { result ≡ openTable file.now start end }
+    ensures { result ≡ open_table file.now start end }
 {
     if LONGEST_FILE < file.len() {
         return Opened::Refused(Refusal::FileTooLong);

@@ -3,12 +3,12 @@ use Rattle.std.specs.Prelude.{ℕ, ◌≡◌, ◌↔◌, List, true}
 use Rattle.text.specs.Bad.{BadText}
 use Rattle.layout.specs.declared.refusal.Refusal.TheVariants.{KeyNotUtf8}
 use Rattle.model.specs.declared.Inserted.{Inserted}
-use Rattle.model.specs.Builder.{Builder, freeStanding, insertValue, insertTable}
+use Rattle.model.specs.Builder.{Builder, free_standing, insert_value, insert_table}
 
 -- the statement: 8 comes exactly where the tables are as they have to be and the given key is bad, with the offset at which it is
 abbrev pub EightAt : Type 0
 EightAt =
     (m : Builder) (t : ℕ) (key : List ℕ) (at : ℕ)
-    → ((value : List ℕ) → ((insertValue m t key value).answer ≡ Inserted.Refused (KeyNotUtf8 at)) ↔ ((freeStanding m t ≡ true) × BadText key at))
-    × ((guest : ℕ) → ((insertTable m t key guest).answer ≡ Inserted.Refused (KeyNotUtf8 at))
-    ↔ ((freeStanding m t ≡ true) × (freeStanding m guest ≡ true) × (t ≡ guest → ⊥) × BadText key at))
+    → ((value : List ℕ) → ((insert_value m t key value).answer ≡ Inserted.Refused (KeyNotUtf8 at)) ↔ ((free_standing m t ≡ true) × BadText key at))
+    × ((guest : ℕ) → ((insert_table m t key guest).answer ≡ Inserted.Refused (KeyNotUtf8 at))
+    ↔ ((free_standing m t ≡ true) × (free_standing m guest ≡ true) × (t ≡ guest → ⊥) × BadText key at))

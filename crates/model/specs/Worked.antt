@@ -1,71 +1,71 @@
 -- Inserts by hand: the definitions compute what document 01 says of "a/b" and of a container that is replaced.
 use Rattle.std.specs.Prelude.{ℕ, ◌≡◌, refl, false, List, [], ◌∷◌}
 use Rattle.words.specs.Choice.{pick}
-use Rattle.key_order.specs.Compare.{sameBytes}
-use Rattle.text.specs.Utf8.{between, tail, isTwo, startsThree, startsFour, first_of, sequenceLen, stepLen, oneMore, goodFrom, firstBad, isUtf8}
-use Rattle.key_order.specs.Prefix.{endsFrom, prefixes}
+use Rattle.key_order.specs.Compare.{same_bytes}
+use Rattle.text.specs.Utf8.{between, tail, is_two, starts_three, starts_four, first_of, sequence_len, step_len, one_more, good_from, first_bad, is_utf8}
+use Rattle.key_order.specs.Prefix.{ends_from, prefixes}
 use Rattle.layout.specs.declared.kind.Kind.{Kind}
 use Rattle.layout.specs.declared.refusal.Refusal.{Refusal}
 use Rattle.model.specs.declared.Inserted.{Inserted}
 use Rattle.layout.specs.Item.{no_item}
 use Rattle.model.specs.declared.Added.{Added}
 use Rattle.model.specs.Table.{Content, entry_at}
-use Rattle.model.specs.Walk.{entry, findKey, putKey, walk, keyRoom}
-use Rattle.model.specs.Builder.{Builder, Result, result, fresh, standingAt, freeStanding, separatorOf, newTable, news, usedAfter, counted, atWalked, put, keyed, insertValue}
+use Rattle.model.specs.Walk.{entry, find_key, put_key, walk, key_room}
+use Rattle.model.specs.Builder.{Builder, Result, result, fresh, standing_at, free_standing, separator_of, new_table, news, used_after, counted, at_walked, put, keyed, insert_value}
 
 -- a builder with an arena of 8 bytes and one table, whose separator is "/"
 unfoldable pub start : Builder
-start = (newTable (fresh 8) (47 ∷ [])).after
+start = (new_table (fresh 8) (47 ∷ [])).after
 
 -- "a/b" with 07 makes the container "a/" and then its child: room for two bytes, three and one
-pub made : insertValue start 0 (97 ∷ 47 ∷ 98 ∷ []) (7 ∷ [])
+pub made : insert_value start 0 (97 ∷ 47 ∷ 98 ∷ []) (7 ∷ [])
     ≡ result Inserted.New (record {
       room = 8;
       used = 6;
       tables = record { separator = 47; placed = false } ∷ [];
       items = entry 0 (97 ∷ 47 ∷ []) Content.container no_item ∷ entry 0 (97 ∷ 47 ∷ 98 ∷ []) (Content.bytes (7 ∷ [])) 0 ∷ [];
     })
-unfolding start fresh insertValue newTable separatorOf standingAt freeStanding keyed put atWalked counted news usedAfter keyRoom walk putKey findKey entry_at sameBytes prefixes endsFrom pick isUtf8 firstBad goodFrom oneMore stepLen sequenceLen first_of isTwo startsThree startsFour tail between
+unfolding start fresh insert_value new_table separator_of standing_at free_standing keyed put at_walked counted news used_after key_room walk put_key find_key entry_at same_bytes prefixes ends_from pick is_utf8 first_bad good_from one_more step_len sequence_len first_of is_two starts_three starts_four tail between
 made = refl
 
 -- the second insert under the key says what it replaced, makes no item, and its value alone needs room
-pub replaced : insertValue (insertValue start 0 (97 ∷ 47 ∷ 98 ∷ []) (7 ∷ [])).after 0 (97 ∷ 47 ∷ 98 ∷ []) (8 ∷ 9 ∷ [])
+pub replaced : insert_value (insert_value start 0 (97 ∷ 47 ∷ 98 ∷ []) (7 ∷ [])).after 0 (97 ∷ 47 ∷ 98 ∷ []) (8 ∷ 9 ∷ [])
     ≡ result (Inserted.Replaced Kind.Value) (record {
       room = 8;
       used = 8;
       tables = record { separator = 47; placed = false } ∷ [];
       items = entry 0 (97 ∷ 47 ∷ []) Content.container no_item ∷ entry 0 (97 ∷ 47 ∷ 98 ∷ []) (Content.bytes (8 ∷ 9 ∷ [])) 0 ∷ [];
     })
-unfolding start fresh insertValue newTable separatorOf standingAt freeStanding keyed put atWalked counted news usedAfter keyRoom walk putKey findKey entry_at sameBytes prefixes endsFrom pick isUtf8 firstBad goodFrom oneMore stepLen sequenceLen first_of isTwo startsThree startsFour tail between
+unfolding start fresh insert_value new_table separator_of standing_at free_standing keyed put at_walked counted news used_after key_room walk put_key find_key entry_at same_bytes prefixes ends_from pick is_utf8 first_bad good_from one_more step_len sequence_len first_of is_two starts_three starts_four tail between
 replaced = refl
 
 -- one byte more does not fit (23); and once the container is a value, inserts below it are refused (21)
-pub full : (insertValue start 0 (97 ∷ 47 ∷ 98 ∷ []) (1 ∷ 2 ∷ 3 ∷ 4 ∷ [])).answer ≡ Inserted.Refused Refusal.ArenaFull
-unfolding start fresh insertValue newTable separatorOf standingAt freeStanding keyed put atWalked counted news usedAfter keyRoom walk putKey findKey entry_at sameBytes prefixes endsFrom pick isUtf8 firstBad goodFrom oneMore stepLen sequenceLen first_of isTwo startsThree startsFour tail between
+pub full : (insert_value start 0 (97 ∷ 47 ∷ 98 ∷ []) (1 ∷ 2 ∷ 3 ∷ 4 ∷ [])).answer ≡ Inserted.Refused Refusal.ArenaFull
+unfolding start fresh insert_value new_table separator_of standing_at free_standing keyed put at_walked counted news used_after key_room walk put_key find_key entry_at same_bytes prefixes ends_from pick is_utf8 first_bad good_from one_more step_len sequence_len first_of is_two starts_three starts_four tail between
 full = refl
 
-pub below : (insertValue (insertValue (insertValue start 0 (97 ∷ 47 ∷ 98 ∷ []) []).after 0 (97 ∷ 47 ∷ []) []).after 0 (97 ∷ 47 ∷ 99 ∷ []) []
+pub below : (insert_value (insert_value (insert_value start 0 (97 ∷ 47 ∷ 98 ∷ []) []).after 0 (97 ∷ 47 ∷ []) []).after 0 (97 ∷ 47 ∷ 99 ∷ []) []
     ).answer ≡ Inserted.Refused Refusal.NotContainer
-unfolding start fresh insertValue newTable separatorOf standingAt freeStanding keyed put atWalked counted news usedAfter keyRoom walk putKey findKey entry_at sameBytes prefixes endsFrom pick isUtf8 firstBad goodFrom oneMore stepLen sequenceLen first_of isTwo startsThree startsFour tail between
+unfolding start fresh insert_value new_table separator_of standing_at free_standing keyed put at_walked counted news used_after key_room walk put_key find_key entry_at same_bytes prefixes ends_from pick is_utf8 first_bad good_from one_more step_len sequence_len first_of is_two starts_three starts_four tail between
 below = refl
 
 -- ---- separators: none, 1 and 127 are taken; 0, 128 and two bytes are refused (28)
 
 -- a builder's first table
-abbrev pub firstTable : List ℕ → Result Added
-firstTable separator = newTable (fresh 8) separator
+abbrev pub first_table : List ℕ → Result Added
+first_table separator = new_table (fresh 8) separator
 
-abbrev pub withTable : ℕ → Result Added
-withTable separator = result (Added.Table 0) (record { room = 8; used = 0; tables = record { separator = separator; placed = false } ∷ []; items = [] })
+abbrev pub with_table : ℕ → Result Added
+with_table separator = result (Added.Table 0) (record { room = 8; used = 0; tables = record { separator = separator; placed = false } ∷ []; items = [] })
 
-abbrev pub refusedTable : Result Added
-refusedTable = result (Added.Refused Refusal.SeparatorOutside) (fresh 8)
+abbrev pub refused_table : Result Added
+refused_table = result (Added.Refused Refusal.SeparatorOutside) (fresh 8)
 
 -- no byte is 256, so that no key is parted
-pub separators-taken : (firstTable [] ≡ withTable 256) × (firstTable (1 ∷ []) ≡ withTable 1) × (firstTable (127 ∷ []) ≡ withTable 127)
-unfolding newTable separatorOf pick
-separators-taken = (refl, refl, refl)
+pub separators_taken : (first_table [] ≡ with_table 256) × (first_table (1 ∷ []) ≡ with_table 1) × (first_table (127 ∷ []) ≡ with_table 127)
+unfolding new_table separator_of pick
+separators_taken = (refl, refl, refl)
 
-pub separators-refused : (firstTable (0 ∷ []) ≡ refusedTable) × (firstTable (128 ∷ []) ≡ refusedTable) × (firstTable (47 ∷ 47 ∷ []) ≡ refusedTable)
-unfolding newTable separatorOf pick
-separators-refused = (refl, refl, refl)
+pub separators_refused : (first_table (0 ∷ []) ≡ refused_table) × (first_table (128 ∷ []) ≡ refused_table) × (first_table (47 ∷ 47 ∷ []) ≡ refused_table)
+unfolding new_table separator_of pick
+separators_refused = (refl, refl, refl)

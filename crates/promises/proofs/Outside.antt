@@ -68,11 +68,11 @@ insert-table-unique κs a s t x y p q = outcomes p q
 pub item-count-unique : OneAnswer item-count-kinds.ps item-count-kinds.r item-count-reads.Post
 item-count-unique κs a s t x y p q = p ∙ sym q
 
-pub check-unique : OneAnswer check-kinds.ps check-kinds.r check-reads.Post
-check-unique κs a s t x y p q = p ∙ sym q
+pub check_unique : OneAnswer check-kinds.ps check-kinds.r check-reads.Post
+check_unique κs a s t x y p q = p ∙ sym q
 
-pub first-bad-unique : OneAnswer first-bad-kinds.ps first-bad-kinds.r first-bad-reads.Post
-first-bad-unique κs a s t x y p q = p ∙ sym q
+pub first_bad_unique : OneAnswer first-bad-kinds.ps first-bad-kinds.r first-bad-reads.Post
+first_bad_unique κs a s t x y p q = p ∙ sym q
 
 pub open-unique : OneAnswer open-kinds.ps open-kinds.r open-reads.Post
 open-unique κs a s t x y p q = p ∙ sym q
@@ -86,14 +86,14 @@ get-table-unique κs a s t x y p q = p ∙ sym q
 pub get-layered-unique : OneAnswer get-layered-kinds.ps get-layered-kinds.r get-layered-reads.Post
 get-layered-unique κs a s t x y p q = p ∙ sym q
 
-pub next-key-unique : One next-key-kinds.ps next-key-kinds.r next-key-reads.Post (λ κs s t x y. (s ≡ t) × (x.1.1.1.1.0.now ≡ y.1.1.1.1.0.now))
-next-key-unique κs a s t x y p q = (p.0 ∙ sym q.0, p.1 ∙ sym q.1)
+pub next_key_unique : One next-key-kinds.ps next-key-kinds.r next-key-reads.Post (λ κs s t x y. (s ≡ t) × (x.1.1.1.1.0.now ≡ y.1.1.1.1.0.now))
+next_key_unique κs a s t x y p q = (p.0 ∙ sym q.0, p.1 ∙ sym q.1)
 
-pub next-value-unique : OneAnswer next-value-kinds.ps next-value-kinds.r next-value-reads.Post
-next-value-unique κs a s t x y p q = p ∙ sym q
+pub next_value_unique : OneAnswer next-value-kinds.ps next-value-kinds.r next-value-reads.Post
+next_value_unique κs a s t x y p q = p ∙ sym q
 
-pub next-child-unique : OneAnswer next-child-kinds.ps next-child-kinds.r next-child-reads.Post
-next-child-unique κs a s t x y p q = p ∙ sym q
+pub next_child_unique : OneAnswer next-child-kinds.ps next-child-kinds.r next-child-reads.Post
+next_child_unique κs a s t x y p q = p ∙ sym q
 
 pub write-unique : One write-kinds.ps write-kinds.r write-reads.Post (λ κs s t x y. (s ≡ t) × (x.0.now ≡ y.0.now) × (x.1.1.1.0.now ≡ y.1.1.1.0.now))
 write-unique κs a s t x y p q = (p.0 ∙ sym q.0, p.1.0 ∙ sym q.1.0, p.1.1 ∙ sym q.1.1)

@@ -82,17 +82,17 @@ lookup-layered-unique κs a s t x y p q = p ∙ sym q
 pub key-size-unique : OneAnswer key-size-kinds.ps key-size-kinds.r key-size-reads.Post
 key-size-unique κs a s t x y p q = p ∙ sym q
 
-pub next-key-unique : One next-key-kinds.ps next-key-kinds.r next-key-reads.Post (λ κs s t x y. (s ≡ t) × (x.1.1.1.1.0.now ≡ y.1.1.1.1.0.now))
-next-key-unique κs a s t x y p q = (p.0 ∙ sym q.0, p.1 ∙ sym q.1)
+pub next_key_unique : One next-key-kinds.ps next-key-kinds.r next-key-reads.Post (λ κs s t x y. (s ≡ t) × (x.1.1.1.1.0.now ≡ y.1.1.1.1.0.now))
+next_key_unique κs a s t x y p q = (p.0 ∙ sym q.0, p.1 ∙ sym q.1)
 
-pub next-value-unique : OneAnswer next-value-kinds.ps next-value-kinds.r next-value-reads.Post
-next-value-unique κs a s t x y p q = p ∙ sym q
+pub next_value_unique : OneAnswer next-value-kinds.ps next-value-kinds.r next-value-reads.Post
+next_value_unique κs a s t x y p q = p ∙ sym q
 
 pub child-count-unique : OneAnswer child-count-kinds.ps child-count-kinds.r child-count-reads.Post
 child-count-unique κs a s t x y p q = p ∙ sym q
 
-pub next-child-unique : OneAnswer next-child-kinds.ps next-child-kinds.r next-child-reads.Post
-next-child-unique κs a s t x y p q = p ∙ sym q
+pub next_child_unique : OneAnswer next-child-kinds.ps next-child-kinds.r next-child-reads.Post
+next_child_unique κs a s t x y p q = p ∙ sym q
 
 -- ---- check_keys
 

@@ -125,8 +125,8 @@ same-bytes-unique κs a s t x y p q = p ∙ sym q
 pub less-unique : OneAnswer less-kinds.ps less-kinds.r less-reads.Post
 less-unique κs a s t x y p q = p ∙ sym q
 
-pub first-bad-unique : OneAnswer first-bad-kinds.ps first-bad-kinds.r first-bad-reads.Post
-first-bad-unique κs a s t x y p q = p ∙ sym q
+pub first_bad_unique : OneAnswer first-bad-kinds.ps first-bad-kinds.r first-bad-reads.Post
+first_bad_unique κs a s t x y p q = p ∙ sym q
 
 pub is-utf8-unique : OneAnswer is-utf8-kinds.ps is-utf8-kinds.r is-utf8-reads.Post
 is-utf8-unique κs a s t x y p q = p ∙ sym q

@@ -6,37 +6,37 @@ use Rattle.read.specs.declared.lookup.Looked.{Looked}
 use Rattle.read.specs.declared.layered.Source.{Source}
 use Rattle.read.specs.declared.layered.Layered.{Layered}
 use Rattle.read_find.specs.Find.{Manner}
-use Rattle.read.specs.Lookup.{lookupValue}
-use Rattle.read.specs.Answer.{lookedNumber}
+use Rattle.read.specs.Lookup.{lookup_value}
+use Rattle.read.specs.Answer.{looked_number}
 
 -- an answer, with the mark of the table that gave it
 abbrev pub marked : Looked → Source → Layered
 marked looked from = record { looked = looked; from = from }
 
 -- from what the owner's table and the district's answer, each alone
-unfoldable pub layeredOf : Looked → Looked → Layered
-layeredOf own under = pick (eqb (lookedNumber own) 12) (marked under Source.District) (marked own Source.Owner)
+unfoldable pub layered_of : Looked → Looked → Layered
+layered_of own under = pick (eqb (looked_number own) 12) (marked under Source.District) (marked own Source.Owner)
 
-unfoldable pub layeredValue : Manner → Manner → List ℕ → ℕ → ℕ → List ℕ → ℕ → ℕ → List ℕ → Layered
-layeredValue omanner dmanner owner ostart oend district dstart dend key =
-    layeredOf (lookupValue omanner owner ostart oend key) (lookupValue dmanner district dstart dend key)
+unfoldable pub layered_value : Manner → Manner → List ℕ → ℕ → ℕ → List ℕ → ℕ → ℕ → List ℕ → Layered
+layered_value omanner dmanner owner ostart oend district dstart dend key =
+    layered_of (lookup_value omanner owner ostart oend key) (lookup_value dmanner district dstart dend key)
 
 -- the statement: when the owner's table answers the key, the district's bytes, pointer and manner have no bearing
 abbrev pub LayeredAlone : Type 0
 LayeredAlone =
     (omanner dmanner other : Manner) (owner : List ℕ) (ostart oend : ℕ) (district : List ℕ) (dstart dend : ℕ) (file : List ℕ) (start end : ℕ) (key : List ℕ)
-    → (lookedNumber (lookupValue omanner owner ostart oend key) ≡ 12 → ⊥)
-    → layeredValue omanner dmanner owner ostart oend district dstart dend key ≡ layeredValue omanner other owner ostart oend file start end key
+    → (looked_number (lookup_value omanner owner ostart oend key) ≡ 12 → ⊥)
+    → layered_value omanner dmanner owner ostart oend district dstart dend key ≡ layered_value omanner other owner ostart oend file start end key
 
 -- the statement: when it answers 12, the result is what the district's table alone would give
 abbrev pub LayeredUnder : Type 0
 LayeredUnder =
     (omanner dmanner : Manner) (owner : List ℕ) (ostart oend : ℕ) (district : List ℕ) (dstart dend : ℕ) (key : List ℕ)
-    → lookedNumber (lookupValue omanner owner ostart oend key) ≡ 12
-    → layeredValue omanner dmanner owner ostart oend district dstart dend key ≡ marked (lookupValue dmanner district dstart dend key) Source.District
+    → looked_number (lookup_value omanner owner ostart oend key) ≡ 12
+    → layered_value omanner dmanner owner ostart oend district dstart dend key ≡ marked (lookup_value dmanner district dstart dend key) Source.District
 
 -- the statement: the mark is the district's exactly when the owner's answer is 12
 abbrev pub LayeredMark : Type 0
 LayeredMark =
     (omanner dmanner : Manner) (owner : List ℕ) (ostart oend : ℕ) (district : List ℕ) (dstart dend : ℕ) (key : List ℕ)
-    → ((layeredValue omanner dmanner owner ostart oend district dstart dend key).from ≡ Source.District) ↔ (lookedNumber (lookupValue omanner owner ostart oend key) ≡ 12)
+    → ((layered_value omanner dmanner owner ostart oend district dstart dend key).from ≡ Source.District) ↔ (looked_number (lookup_value omanner owner ostart oend key) ≡ 12)

@@ -1,10 +1,10 @@
 // A value lookup over two tables: the owner's is asked first, and the district's under it only where the owner's answers 12.
 ghost use Rattle.std.specs.Prelude.{◌≡◌, true};
-ghost use Rattle.text.specs.Utf8.{isUtf8};
+ghost use Rattle.text.specs.Utf8.{is_utf8};
 ghost use Rattle.layout.specs.Table.{InFile};
-ghost use Rattle.read_find.specs.Find.{mannerOf};
-ghost use Rattle.read.specs.Lookup.{lookupIn, value_of, lookupValue, atItem};
-ghost use Rattle.read.specs.Layered.{layeredOf, layeredValue};
+ghost use Rattle.read_find.specs.Find.{manner_of};
+ghost use Rattle.read.specs.Lookup.{lookup_in, value_of, lookup_value, at_item};
+ghost use Rattle.read.specs.Layered.{layered_of, layered_value};
 
 use crate::lookup::{Looked, value_of};
 use layout::item::item_at;
@@ -31,8 +31,8 @@ pub struct Layered {
 // The value of a key, which is UTF-8, in the district's table: `lookup::lookup_value` again. Each of the two has one caller, so the compiler takes it into it; with
 // a second caller it would be a call, which costs a lookup forty instructions more.
 fn lookup_under(file: &[u8], start: u32, end: u32, key: &[u8], manner: Manner) -> Looked
-    requires { isUtf8 key.now ≡ true }
-    ensures { result ≡ lookupValue (mannerOf manner) file.now start end key.now }
+    requires { is_utf8 key.now ≡ true }
+    ensures { result ≡ lookup_value (manner_of manner) file.now start end key.now }
 {
     match open_table(file, start, end) {
         Opened::Refused(unopened) => Looked::Refused(unopened),
@@ -56,7 +56,7 @@ fn layered_in<'a, 'k>(
     dmanner: Manner,
 ) -> Layered
     requires { InFile owner.now table }
-    ensures { result ≡ layeredOf (atItem (lookupIn (mannerOf omanner) owner.now key.now table) (λ item. value_of owner.now item)) (lookupValue (mannerOf dmanner) district.now dstart dend key.now) }
+    ensures { result ≡ layered_of (at_item (lookup_in (manner_of omanner) owner.now key.now table) (λ item. value_of owner.now item)) (lookup_value (manner_of dmanner) district.now dstart dend key.now) }
 {
     if !is_utf8(key) {
         return Layered {
@@ -100,7 +100,7 @@ pub fn lookup_layered<'a, 'k>(
     omanner: Manner,
     dmanner: Manner,
 ) -> Layered
-    ensures { result ≡ layeredValue (mannerOf omanner) (mannerOf dmanner) owner.now ostart oend district.now dstart dend key.now }
+    ensures { result ≡ layered_value (manner_of omanner) (manner_of dmanner) owner.now ostart oend district.now dstart dend key.now }
 {
     match open_table(owner, ostart, oend) {
         Opened::Refused(unopened) => Layered {

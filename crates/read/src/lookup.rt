@@ -1,8 +1,8 @@
 // Looking a key up: what the item that it names points to.
 ghost use Rattle.std.specs.Prelude.{◌≡◌};
 ghost use Rattle.layout.specs.Table.{InFile};
-ghost use Rattle.read_find.specs.Find.{mannerOf};
-ghost use Rattle.read.specs.Lookup.{lookupIn, value_of, nestedOf, lookupValue, lookupTable, atItem};
+ghost use Rattle.read_find.specs.Find.{manner_of};
+ghost use Rattle.read.specs.Lookup.{lookup_in, value_of, nested_of, lookup_value, lookup_table, at_item};
 
 use layout::item::{Item, item_at, open_value};
 use layout::kind::{TABLE_BYTE, VALUE_BYTE};
@@ -31,7 +31,7 @@ pub enum Looked {
 // The item of a key in an open table: 8 with the offset in the key, 12, or the item.
 pub fn lookup_in(file: &[u8], table: Table, key: &[u8], manner: Manner) -> Sought
     requires { InFile file.now table }
-    ensures { result ≡ lookupIn (mannerOf manner) file.now key.now table }
+    ensures { result ≡ lookup_in (manner_of manner) file.now key.now table }
 {
     if is_utf8(key) {
         match find_item(file, table, key, manner) {
@@ -62,7 +62,7 @@ pub fn value_of(file: &[u8], item: Item) -> Looked
 
 // The nested table of an item: 13 for another kind, then what opening it refuses.
 fn nested_of(file: &[u8], item: Item) -> Looked
-    ensures { result ≡ nestedOf file.now item }
+    ensures { result ≡ nested_of file.now item }
 {
     if item.kind != TABLE_BYTE {
         return Looked::Refused(Refusal::OtherKind);
@@ -79,7 +79,7 @@ fn nested_of(file: &[u8], item: Item) -> Looked
 // The value of a key in an open table: 8 with the offset in the key, 12, then the item's. It takes no `Sought`, which would carry a copy of the item.
 fn value_in(file: &[u8], table: Table, key: &[u8], manner: Manner) -> Looked
     requires { InFile file.now table }
-    ensures { result ≡ atItem (lookupIn (mannerOf manner) file.now key.now table) (λ item. value_of file.now item) }
+    ensures { result ≡ at_item (lookup_in (manner_of manner) file.now key.now table) (λ item. value_of file.now item) }
 {
     if is_utf8(key) {
         match find_item(file, table, key, manner) {
@@ -94,7 +94,7 @@ fn value_in(file: &[u8], table: Table, key: &[u8], manner: Manner) -> Looked
 // gvdb-rs: get_bytes.
 // The pointer of a key's value, in the table at a pointer.
 pub fn lookup_value(file: &[u8], start: u32, end: u32, key: &[u8], manner: Manner) -> Looked
-    ensures { result ≡ lookupValue (mannerOf manner) file.now start end key.now }
+    ensures { result ≡ lookup_value (manner_of manner) file.now start end key.now }
 {
     match open_table(file, start, end) {
         Opened::Refused(unopened) => Looked::Refused(unopened),
@@ -105,7 +105,7 @@ pub fn lookup_value(file: &[u8], start: u32, end: u32, key: &[u8], manner: Manne
 // The nested table of a key in an open table: 8 with the offset in the key, 12, then the item's. It takes no `Sought`, which would carry a copy of the item.
 fn nested_in(file: &[u8], table: Table, key: &[u8], manner: Manner) -> Looked
     requires { InFile file.now table }
-    ensures { result ≡ atItem (lookupIn (mannerOf manner) file.now key.now table) (λ item. nestedOf file.now item) }
+    ensures { result ≡ at_item (lookup_in (manner_of manner) file.now key.now table) (λ item. nested_of file.now item) }
 {
     if is_utf8(key) {
         match find_item(file, table, key, manner) {
@@ -120,7 +120,7 @@ fn nested_in(file: &[u8], table: Table, key: &[u8], manner: Manner) -> Looked
 // gvdb-rs: get_hash_table.
 // The pointer of a key's nested table, in the table at a pointer.
 pub fn lookup_table(file: &[u8], start: u32, end: u32, key: &[u8], manner: Manner) -> Looked
-    ensures { result ≡ lookupTable (mannerOf manner) file.now start end key.now }
+    ensures { result ≡ lookup_table (manner_of manner) file.now start end key.now }
 {
     match open_table(file, start, end) {
         Opened::Refused(unopened) => Looked::Refused(unopened),

@@ -1,8 +1,8 @@
 // An item's key, through its parents: the step from an item to its parent, and whether an item's chain names a key.
 ghost use Rattle.std.specs.Prelude.{◌≡◌, true, ◌<◌};
-ghost use Rattle.text.specs.Utf8.{isUtf8};
+ghost use Rattle.text.specs.Utf8.{is_utf8};
 ghost use Rattle.layout.specs.Table.{InFile};
-ghost use Rattle.read_chain.specs.Chain.{parentOf, climbFrom, matchText, matchItem, key_of, names};
+ghost use Rattle.read_chain.specs.Chain.{parent_of, climb_from, match_text, match_item, key_of, names};
 
 use key_order::compare::ends_with;
 use layout::item::{Item, NO_ITEM, item_at};
@@ -31,7 +31,7 @@ pub enum Matched {
 // gvdb-rs: HashItem::parent.
 // The parent that an item names, in a table of so many items.
 pub fn parent_of(count: usize, parent: u32) -> Step
-    ensures { result ≡ parentOf count parent }
+    ensures { result ≡ parent_of count parent }
 {
     if parent == NO_ITEM {
         return Step::Root;
@@ -46,7 +46,7 @@ pub fn parent_of(count: usize, parent: u32) -> Step
 // gvdb-rs: key_for_item.
 // The step from an item, whose fragment has to open and be UTF-8: 2, 9 with the offset in the fragment, then 10 for its parent.
 pub fn climb(file: &[u8], count: usize, item: Item) -> Step
-    ensures { result ≡ climbFrom file.now count item }
+    ensures { result ≡ climb_from file.now count item }
 {
     let start = word_size(item.key);
     let size = half_size(item.size);
@@ -67,8 +67,8 @@ pub fn climb(file: &[u8], count: usize, item: Item) -> Step
 // What a fragment says of a key, with the parent that the item names. That the key, which is UTF-8, ends in it is tested first: then the fragment is UTF-8 just
 // where it cuts no character. It asks for the parent by itself: a `Step` handed on costs as much as comparing a short fragment.
 fn match_fragment(fragment: &[u8], count: usize, parent: u32, key: &[u8]) -> Matched
-    requires { isUtf8 key.now ≡ true }
-    ensures { result ≡ matchText (parentOf count parent) fragment.now key.now }
+    requires { is_utf8 key.now ≡ true }
+    ensures { result ≡ match_text (parent_of count parent) fragment.now key.now }
 {
     if !ends_with(key, key.len(), fragment) {
         return Matched::Ended(false);
@@ -91,8 +91,8 @@ fn match_fragment(fragment: &[u8], count: usize, parent: u32, key: &[u8]) -> Mat
 
 // What the item at an index says of a key.
 fn match_item(file: &[u8], table: Table, index: usize, key: &[u8]) -> Matched
-    requires { InFile file.now table × (index < table.count) × (isUtf8 key.now ≡ true) }
-    ensures { result ≡ matchItem file.now table index key.now }
+    requires { InFile file.now table × (index < table.count) × (is_utf8 key.now ≡ true) }
+    ensures { result ≡ match_item file.now table index key.now }
 {
     let item = item_at(file, table, index);
     let start = word_size(item.key);
@@ -106,7 +106,7 @@ fn match_item(file: &[u8], table: Table, index: usize, key: &[u8]) -> Matched
 // gvdb-rs: check_key.
 // Whether the chain of the item at an index names a key. The key's tail is compared with each fragment on the way up.
 pub fn chain_names(file: &[u8], table: Table, index: usize, key: &[u8]) -> bool
-    requires { InFile file.now table × (index < table.count) × (isUtf8 key.now ≡ true) }
+    requires { InFile file.now table × (index < table.count) × (is_utf8 key.now ≡ true) }
     ensures { result ≡ names (key_of file.now table table.count index) key.now }
 {
     let mut at = index;

@@ -1,10 +1,10 @@
 // Finding the item of a key: the bloom test, the bucket, its run.
 ghost use Rattle.std.specs.Prelude.{◌≡◌, true, ◌<◌};
-ghost use Rattle.words.specs.Field.{wordAt};
-ghost use Rattle.key_hash.specs.Hash.{hashBy, ruleOf};
-ghost use Rattle.text.specs.Utf8.{isUtf8};
+ghost use Rattle.words.specs.Field.{word_at};
+ghost use Rattle.key_hash.specs.Hash.{hash_by, rule_of};
+ghost use Rattle.text.specs.Utf8.{is_utf8};
 ghost use Rattle.layout.specs.Table.{InFile};
-ghost use Rattle.read_find.specs.Find.{shift_of, mannerOf, bloomPasses, run_of, itemMatches, first_of, findItem};
+ghost use Rattle.read_find.specs.Find.{shift_of, manner_of, bloom_passes, run_of, item_matches, first_of, find_item};
 
 use crate::manner::{Lookup, Manner};
 use key_hash::hash::hash_key;
@@ -33,7 +33,7 @@ pub enum Found {
 // By how much a lookup shifts the hash for the filter's second bit.
 fn shift_of(file: &[u8], table: Table, lookup: Lookup) -> u32
     requires { InFile file.now table }
-    ensures { (result ≡ shift_of lookup (wordAt file.now table.start)) × (result < 32) }
+    ensures { (result ≡ shift_of lookup (word_at file.now table.start)) × (result < 32) }
 {
     match lookup {
         Lookup::Rust => 0,
@@ -45,7 +45,7 @@ fn shift_of(file: &[u8], table: Table, lookup: Lookup) -> u32
 // Whether a hash may be in the table, by its bloom words.
 pub fn bloom_passes(file: &[u8], table: Table, hash: u32, lookup: Lookup) -> bool
     requires { InFile file.now table }
-    ensures { result ≡ bloomPasses (shift_of lookup) file.now table hash }
+    ensures { result ≡ bloom_passes (shift_of lookup) file.now table hash }
 {
     let blooms = table.blooms;
     if blooms == 0 {
@@ -86,8 +86,8 @@ fn item_matches(
     key: &[u8],
     manner: Manner,
 ) -> bool
-    requires { InFile file.now table × (index < table.count) × (hash ≡ hashBy (ruleOf manner.form) key.now) × (isUtf8 key.now ≡ true) }
-    ensures { result ≡ itemMatches (mannerOf manner) file.now table key.now index }
+    requires { InFile file.now table × (index < table.count) × (hash ≡ hash_by (rule_of manner.form) key.now) × (is_utf8 key.now ≡ true) }
+    ensures { result ≡ item_matches (manner_of manner) file.now table key.now index }
 {
     let item = item_at(file, table, index);
     if item.hash == hash {
@@ -99,8 +99,8 @@ fn item_matches(
 
 // The first item of a run that matches.
 fn first_of(file: &[u8], table: Table, hash: u32, run: Run, key: &[u8], manner: Manner) -> Found
-    requires { InFile file.now table × (hash ≡ hashBy (ruleOf manner.form) key.now) × (isUtf8 key.now ≡ true) }
-    ensures { result ≡ first_of (mannerOf manner) file.now table key.now run }
+    requires { InFile file.now table × (hash ≡ hash_by (rule_of manner.form) key.now) × (is_utf8 key.now ≡ true) }
+    ensures { result ≡ first_of (manner_of manner) file.now table key.now run }
 {
     let last = run.last;
     let count = table.count;
@@ -120,8 +120,8 @@ fn first_of(file: &[u8], table: Table, hash: u32, run: Run, key: &[u8], manner: 
 // gvdb-rs: get_hash_item.
 // The item that a key names, which is UTF-8.
 pub fn find_item(file: &[u8], table: Table, key: &[u8], manner: Manner) -> Found
-    requires { InFile file.now table × (isUtf8 key.now ≡ true) }
-    ensures { result ≡ findItem (mannerOf manner) file.now table key.now }
+    requires { InFile file.now table × (is_utf8 key.now ≡ true) }
+    ensures { result ≡ find_item (manner_of manner) file.now table key.now }
 {
     let buckets = table.buckets;
     if buckets == 0 {

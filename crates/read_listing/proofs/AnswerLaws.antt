@@ -7,7 +7,7 @@ use native.Mathlib.Omega.{arith}
 use lib.ListN.{length}
 use borrow.Author.Tests.{lt-ltb, le-ltb, le-leb, lt-leb, eq-eqb, ne_eqb}
 use Rattle.words.specs.Choice.{pick}
-use Rattle.text.specs.Utf8.{firstBad, isUtf8}
+use Rattle.text.specs.Utf8.{first_bad, is_utf8}
 use Rattle.layout.specs.declared.refusal.Refusal.{Refusal}
 use Rattle.layout.specs.declared.refusal.Refusal.TheVariants.{PointerOutside, FragmentNotUtf8, ParentOutside, ParentsEndless, OtherKind, PastTheLast}
 use Rattle.layout.specs.declared.pointer.Pointed.{Pointed}
@@ -15,307 +15,307 @@ use Rattle.layout.specs.declared.table.Opened.{Opened}
 use Rattle.layout.specs.declared.table.Table.{Table}
 use Rattle.layout.specs.declared.item.Item.{Item}
 use Rattle.layout.specs.Refusal.{number}
-use Rattle.layout.specs.Kind.{kindKnown}
-use Rattle.layout.specs.Pointer.{openPointer}
-use Rattle.layout.specs.Table.{openTable}
+use Rattle.layout.specs.Kind.{kind_known}
+use Rattle.layout.specs.Pointer.{open_pointer}
+use Rattle.layout.specs.Table.{open_table}
 use Rattle.layout.specs.Item.{item_at, no_item}
-use Rattle.layout.specs.Answer.{pointedNumber, openedNumber}
-use Rattle.layout.proofs.AnswerLaws.{pointer-inside-is}
+use Rattle.layout.specs.Answer.{pointed_number, opened_number}
+use Rattle.layout.proofs.AnswerLaws.{pointer_inside_is}
 use Rattle.read_find.specs.declared.find.Found.{Found}
 use Rattle.read_listing.specs.declared.listing.Listed.{Listed}
 use Rattle.read_listing.specs.declared.children.Childed.{Childed}
-use Rattle.read_chain.specs.Chain.{fragmentOf, parentOf, afterPointer, climbFrom, Joined, append, joinStep, key_of}
-use Rattle.read_find.specs.Find.{Manner, findItem}
-use Rattle.read.specs.Lookup.{atFound, lookupIn, atOpened, lookupItem, at_pointer, atNested, value_of, nestedOf, atItem, lookupValue, lookupTable}
-use Rattle.read_listing.specs.Listing.{keyIn, keyOpened, key_at, listed, nextValue, valueOpened, valueFrom, valueInOpened, value_at}
-use Rattle.read_listing.specs.Children.{childAt, childCount, openList, atFragment, childNamed, childOf, childFrom, childOfSought, childInOpened, nextChild}
-use Rattle.read.specs.Answer.{lookedNumber}
-use Rattle.read_listing.specs.Answer.{listedNumber, valuedNumber, valuedItem, childedNumber, childedAt}
-use Rattle.read_chain.proofs.ChainLaws.{climb-on}
-use Rattle.read_listing.proofs.ChildLaws.{list-refused, list-whole, list-uneven}
+use Rattle.read_chain.specs.Chain.{fragment_of, parent_of, after_pointer, climb_from, Joined, append, join_step, key_of}
+use Rattle.read_find.specs.Find.{Manner, find_item}
+use Rattle.read.specs.Lookup.{at_found, lookup_in, at_opened, lookup_item, at_pointer, at_nested, value_of, nested_of, at_item, lookup_value, lookup_table}
+use Rattle.read_listing.specs.Listing.{key_in, key_opened, key_at, listed, next_value, value_opened, value_from, value_in_opened, value_at}
+use Rattle.read_listing.specs.Children.{child_at, child_count, open_list, at_fragment, child_named, child_of, child_from, child_of_sought, child_in_opened, next_child}
+use Rattle.read.specs.Answer.{looked_number}
+use Rattle.read_listing.specs.Answer.{listed_number, valued_number, valued_item, childed_number, childed_at}
+use Rattle.read_chain.proofs.ChainLaws.{climb_on}
+use Rattle.read_listing.proofs.ChildLaws.{list-refused, list_whole, list_uneven}
 
 -- ---- the number of an answer is that of the pointer or the table behind it
 
-pub pointed-looked : (p : Pointed) (item : Item) → lookedNumber (at_pointer p item) ≡ pointedNumber p
-unfolding lookedNumber at_pointer pointedNumber
-pointed-looked Pointed.Inside item = refl
-pointed-looked (Pointed.Refused why) item = refl
+pub pointed_looked : (p : Pointed) (item : Item) → looked_number (at_pointer p item) ≡ pointed_number p
+unfolding looked_number at_pointer pointed_number
+pointed_looked Pointed.Inside item = refl
+pointed_looked (Pointed.Refused why) item = refl
 
-pub nested-looked : (o : Opened) (item : Item) → lookedNumber (atNested o item) ≡ openedNumber o
-unfolding lookedNumber atNested openedNumber
-nested-looked (Opened.Table t) item = refl
-nested-looked (Opened.Refused why) item = refl
+pub nested_looked : (o : Opened) (item : Item) → looked_number (at_nested o item) ≡ opened_number o
+unfolding looked_number at_nested opened_number
+nested_looked (Opened.Table t) item = refl
+nested_looked (Opened.Refused why) item = refl
 
-pointed-valued : (p : Pointed) (index : ℕ) (item : Item) → valuedNumber (valueOpened p index item) ≡ pointedNumber p
-unfolding valuedNumber valueOpened pointedNumber
-pointed-valued Pointed.Inside index item = refl
-pointed-valued (Pointed.Refused why) index item = refl
+pointed_valued : (p : Pointed) (index : ℕ) (item : Item) → valued_number (value_opened p index item) ≡ pointed_number p
+unfolding valued_number value_opened pointed_number
+pointed_valued Pointed.Inside index item = refl
+pointed_valued (Pointed.Refused why) index item = refl
 
-item-valued : (p : Pointed) (index : ℕ) (item : Item) → valuedItem (valueOpened p index item) ≡ (index, index + 1)
-unfolding valuedItem valueOpened
-item-valued Pointed.Inside index item = refl
-item-valued (Pointed.Refused why) index item = refl
+item_valued : (p : Pointed) (index : ℕ) (item : Item) → valued_item (value_opened p index item) ≡ (index, index + 1)
+unfolding valued_item value_opened
+item_valued Pointed.Inside index item = refl
+item_valued (Pointed.Refused why) index item = refl
 
 -- a fragment's pointer, whose alignment is 1: 2, or it opens
-fragment-outside : (file : List ℕ) (start size : ℕ) → length file < start + size → openPointer (length file) start (start + size) 1 ≡ Pointed.Refused PointerOutside
-unfolding openPointer pick
-fragment-outside file start size past =
+fragment_outside : (file : List ℕ) (start size : ℕ) → length file < start + size → open_pointer (length file) start (start + size) 1 ≡ Pointed.Refused PointerOutside
+unfolding open_pointer pick
+fragment_outside file start size past =
     let ordered : start ≤ start + size = omega arith in
     let even : start % 1 ≡ 0 = omega arith in
     simp (le-ltb _ _ ordered, eq-eqb _ _ even, lt-ltb _ _ past)
 
-fragment-inside : (file : List ℕ) (start size : ℕ) → start + size ≤ length file → openPointer (length file) start (start + size) 1 ≡ Pointed.Inside
-fragment-inside file start size fits = pointer-inside-is (length file) start (start + size) 1 (omega arith) (omega arith) fits
+fragment_inside : (file : List ℕ) (start size : ℕ) → start + size ≤ length file → open_pointer (length file) start (start + size) 1 ≡ Pointed.Inside
+fragment_inside file start size fits = pointer_inside_is (length file) start (start + size) 1 (omega arith) (omega arith) fits
 
 -- ---- lookup: opening, 8, 12, 13, then the value pointer's 2 or 3, or what opening the nested table refuses
 
 module _ (manner : Manner) (file : List ℕ) (start end : ℕ) (key : List ℕ) where
-  pub value-opening : {why : Refusal} → openTable file start end ≡ Opened.Refused why → lookedNumber (lookupValue manner file start end key) ≡ number why
-  unfolding lookupValue lookupItem atOpened atItem lookedNumber
+  pub value-opening : {why : Refusal} → open_table file start end ≡ Opened.Refused why → looked_number (lookup_value manner file start end key) ≡ number why
+  unfolding lookup_value lookup_item at_opened at_item looked_number
   value-opening shut = rw shut
 
-  pub table-opening : {why : Refusal} → openTable file start end ≡ Opened.Refused why → lookedNumber (lookupTable manner file start end key) ≡ number why
-  unfolding lookupTable lookupItem atOpened atItem lookedNumber
+  pub table-opening : {why : Refusal} → open_table file start end ≡ Opened.Refused why → looked_number (lookup_table manner file start end key) ≡ number why
+  unfolding lookup_table lookup_item at_opened at_item looked_number
   table-opening shut = rw shut
 
-  module _ {t : Table} (opens : openTable file start end ≡ Opened.Table t) where
-    pub value-8 : isUtf8 key ≡ false → lookedNumber (lookupValue manner file start end key) ≡ 8
-    unfolding lookupValue lookupItem lookupIn atOpened atItem lookedNumber pick
-    value-8 bad = rw (opens, bad)
+  module _ {t : Table} (opens : open_table file start end ≡ Opened.Table t) where
+    pub value_8 : is_utf8 key ≡ false → looked_number (lookup_value manner file start end key) ≡ 8
+    unfolding lookup_value lookup_item lookup_in at_opened at_item looked_number pick
+    value_8 bad = rw (opens, bad)
 
-    pub table-8 : isUtf8 key ≡ false → lookedNumber (lookupTable manner file start end key) ≡ 8
-    unfolding lookupTable lookupItem lookupIn atOpened atItem lookedNumber pick
-    table-8 bad = rw (opens, bad)
+    pub table_8 : is_utf8 key ≡ false → looked_number (lookup_table manner file start end key) ≡ 8
+    unfolding lookup_table lookup_item lookup_in at_opened at_item looked_number pick
+    table_8 bad = rw (opens, bad)
 
-    module _ (text : isUtf8 key ≡ true) where
-      pub value-12 : findItem manner file t key ≡ Found.Nothing → lookedNumber (lookupValue manner file start end key) ≡ 12
-      unfolding lookupValue lookupItem lookupIn atOpened atItem atFound lookedNumber pick
-      value-12 none = rw (opens, text, none)
+    module _ (text : is_utf8 key ≡ true) where
+      pub value_12 : find_item manner file t key ≡ Found.Nothing → looked_number (lookup_value manner file start end key) ≡ 12
+      unfolding lookup_value lookup_item lookup_in at_opened at_item at_found looked_number pick
+      value_12 none = rw (opens, text, none)
 
-      pub table-12 : findItem manner file t key ≡ Found.Nothing → lookedNumber (lookupTable manner file start end key) ≡ 12
-      unfolding lookupTable lookupItem lookupIn atOpened atItem atFound lookedNumber pick
-      table-12 none = rw (opens, text, none)
+      pub table_12 : find_item manner file t key ≡ Found.Nothing → looked_number (lookup_table manner file start end key) ≡ 12
+      unfolding lookup_table lookup_item lookup_in at_opened at_item at_found looked_number pick
+      table_12 none = rw (opens, text, none)
 
-      module _ {i : ℕ} (found : findItem manner file t key ≡ Found.At i) where
-        pub value_found : lookupValue manner file start end key ≡ value_of file (item_at file t i)
-        unfolding lookupValue lookupItem lookupIn atOpened atItem atFound pick
+      module _ {i : ℕ} (found : find_item manner file t key ≡ Found.At i) where
+        pub value_found : lookup_value manner file start end key ≡ value_of file (item_at file t i)
+        unfolding lookup_value lookup_item lookup_in at_opened at_item at_found pick
         value_found = rw (opens, text, found)
 
-        pub table-found : lookupTable manner file start end key ≡ nestedOf file (item_at file t i)
-        unfolding lookupTable lookupItem lookupIn atOpened atItem atFound pick
-        table-found = rw (opens, text, found)
+        pub table_found : lookup_table manner file start end key ≡ nested_of file (item_at file t i)
+        unfolding lookup_table lookup_item lookup_in at_opened at_item at_found pick
+        table_found = rw (opens, text, found)
 
-        pub value-13 : ((item_at file t i).kind ≡ 118 → ⊥) → lookedNumber (lookupValue manner file start end key) ≡ 13
-        unfolding value_of lookedNumber pick
-        value-13 other = ap lookedNumber value_found ∙ rw (ne_eqb _ _ other)
+        pub value_13 : ((item_at file t i).kind ≡ 118 → ⊥) → looked_number (lookup_value manner file start end key) ≡ 13
+        unfolding value_of looked_number pick
+        value_13 other = ap looked_number value_found ∙ rw (ne_eqb _ _ other)
 
-        pub table-13 : ((item_at file t i).kind ≡ 72 → ⊥) → lookedNumber (lookupTable manner file start end key) ≡ 13
-        unfolding nestedOf lookedNumber pick
-        table-13 other = ap lookedNumber table-found ∙ rw (ne_eqb _ _ other)
+        pub table_13 : ((item_at file t i).kind ≡ 72 → ⊥) → looked_number (lookup_table manner file start end key) ≡ 13
+        unfolding nested_of looked_number pick
+        table_13 other = ap looked_number table_found ∙ rw (ne_eqb _ _ other)
 
         -- 2 or 3 of the value pointer, or the value's pointer
-        pub value-pointer : (item_at file t i).kind ≡ 118
-            → lookedNumber (lookupValue manner file start end key) ≡ pointedNumber (openPointer (length file) (item_at file t i).from (item_at file t i).to 8)
-        unfolding value_of lookedNumber pick
-        value-pointer kind = ap lookedNumber value_found ∙ rw (eq-eqb _ _ kind) (pointed-looked _ (item_at file t i))
+        pub value_pointer : (item_at file t i).kind ≡ 118
+            → looked_number (lookup_value manner file start end key) ≡ pointed_number (open_pointer (length file) (item_at file t i).from (item_at file t i).to 8)
+        unfolding value_of looked_number pick
+        value_pointer kind = ap looked_number value_found ∙ rw (eq-eqb _ _ kind) (pointed_looked _ (item_at file t i))
 
         -- what opening the nested table refuses, or its pointer
         pub table-nested : (item_at file t i).kind ≡ 72
-            → lookedNumber (lookupTable manner file start end key) ≡ openedNumber (openTable file (item_at file t i).from (item_at file t i).to)
-        unfolding nestedOf pick
-        table-nested kind = ap lookedNumber table-found ∙ rw (eq-eqb _ _ kind) (nested-looked _ (item_at file t i))
+            → looked_number (lookup_table manner file start end key) ≡ opened_number (open_table file (item_at file t i).from (item_at file t i).to)
+        unfolding nested_of pick
+        table-nested kind = ap looked_number table_found ∙ rw (eq-eqb _ _ kind) (nested_looked _ (item_at file t i))
 
 -- ---- an item's key: from the item towards the root, for each item 2, 9, then 10 for its parent; 11 if that never ends
 
 module _ (file : List ℕ) (t : Table) (steps i : ℕ) where
-  pub key-11 : key_of file t 0 i ≡ Joined.broken ParentsEndless
+  pub key_11 : key_of file t 0 i ≡ Joined.broken ParentsEndless
   unfolding key_of
-  key-11 = refl
+  key_11 = refl
 
-  pub key-2 : length file < (item_at file t i).key + (item_at file t i).size → key_of file t (suc steps) i ≡ Joined.broken PointerOutside
-  unfolding key_of climbFrom afterPointer joinStep
-  key-2 past = rw (fragment-outside file (item_at file t i).key (item_at file t i).size past)
+  pub key_2 : length file < (item_at file t i).key + (item_at file t i).size → key_of file t (suc steps) i ≡ Joined.broken PointerOutside
+  unfolding key_of climb_from after_pointer join_step
+  key_2 past = rw (fragment_outside file (item_at file t i).key (item_at file t i).size past)
 
   module _ (inside : (item_at file t i).key + (item_at file t i).size ≤ length file) where
-    pub key-9 : isUtf8 (fragmentOf file (item_at file t i)) ≡ false → key_of file t (suc steps) i ≡ Joined.broken (FragmentNotUtf8 (firstBad (fragmentOf file (item_at file t i))))
-    unfolding key_of climbFrom afterPointer joinStep pick
-    key-9 bad = rw (fragment-inside file (item_at file t i).key (item_at file t i).size inside, bad)
+    pub key_9 : is_utf8 (fragment_of file (item_at file t i)) ≡ false → key_of file t (suc steps) i ≡ Joined.broken (FragmentNotUtf8 (first_bad (fragment_of file (item_at file t i))))
+    unfolding key_of climb_from after_pointer join_step pick
+    key_9 bad = rw (fragment_inside file (item_at file t i).key (item_at file t i).size inside, bad)
 
-    module _ (text : isUtf8 (fragmentOf file (item_at file t i)) ≡ true) where
-      pub key_step : climbFrom file t.count (item_at file t i) ≡ parentOf t.count (item_at file t i).parent
-      key_step = climb-on file t.count (item_at file t i) (fragment-inside file (item_at file t i).key (item_at file t i).size inside) text
+    module _ (text : is_utf8 (fragment_of file (item_at file t i)) ≡ true) where
+      pub key_step : climb_from file t.count (item_at file t i) ≡ parent_of t.count (item_at file t i).parent
+      key_step = climb_on file t.count (item_at file t i) (fragment_inside file (item_at file t i).key (item_at file t i).size inside) text
 
-      pub key-root : (item_at file t i).parent ≡ no_item → key_of file t (suc steps) i ≡ Joined.joined (fragmentOf file (item_at file t i))
-      unfolding key_of joinStep parentOf pick
-      key-root e = rw (key_step, eq-eqb _ _ e)
+      pub key_root : (item_at file t i).parent ≡ no_item → key_of file t (suc steps) i ≡ Joined.joined (fragment_of file (item_at file t i))
+      unfolding key_of join_step parent_of pick
+      key_root e = rw (key_step, eq-eqb _ _ e)
 
       module _ (child : (item_at file t i).parent ≡ no_item → ⊥) where
-        pub key-10 : t.count ≤ (item_at file t i).parent → key_of file t (suc steps) i ≡ Joined.broken ParentOutside
-        unfolding key_of joinStep parentOf pick
-        key-10 past = rw (key_step, ne_eqb _ _ child, le-ltb _ _ past)
+        pub key_10 : t.count ≤ (item_at file t i).parent → key_of file t (suc steps) i ≡ Joined.broken ParentOutside
+        unfolding key_of join_step parent_of pick
+        key_10 past = rw (key_step, ne_eqb _ _ child, le-ltb _ _ past)
 
-        pub key-up : (item_at file t i).parent < t.count
-            → key_of file t (suc steps) i ≡ append (key_of file t steps (item_at file t i).parent) (fragmentOf file (item_at file t i))
-        unfolding key_of joinStep parentOf pick
-        key-up below = rw (key_step, ne_eqb _ _ child, lt-ltb _ _ below)
+        pub key_up : (item_at file t i).parent < t.count
+            → key_of file t (suc steps) i ≡ append (key_of file t steps (item_at file t i).parent) (fragment_of file (item_at file t i))
+        unfolding key_of join_step parent_of pick
+        key_up below = rw (key_step, ne_eqb _ _ child, lt-ltb _ _ below)
 
 -- ---- key listing: opening, 15, what the key is refused with, 14
 
 module _ (file : List ℕ) (start end at room : ℕ) where
-  pub list-opening : {why : Refusal} → openTable file start end ≡ Opened.Refused why → listedNumber (listed (key_at file start end at) room at) ≡ number why
-  unfolding key_at keyOpened listed listedNumber
+  pub list-opening : {why : Refusal} → open_table file start end ≡ Opened.Refused why → listed_number (listed (key_at file start end at) room at) ≡ number why
+  unfolding key_at key_opened listed listed_number
   list-opening shut = rw shut
 
-  module _ {t : Table} (opens : openTable file start end ≡ Opened.Table t) where
-    pub list-15 : t.count ≤ at → listedNumber (listed (key_at file start end at) room at) ≡ 15
-    unfolding key_at keyOpened keyIn listed listedNumber pick
-    list-15 past = rw (opens, le-leb _ _ past)
+  module _ {t : Table} (opens : open_table file start end ≡ Opened.Table t) where
+    pub list_15 : t.count ≤ at → listed_number (listed (key_at file start end at) room at) ≡ 15
+    unfolding key_at key_opened key_in listed listed_number pick
+    list_15 past = rw (opens, le-leb _ _ past)
 
     module _ (below : at < t.count) where
-      pub list-key : key_at file start end at ≡ key_of file t t.count at
-      unfolding key_at keyOpened keyIn pick
-      list-key = rw (opens, lt-leb _ _ below)
+      pub list_key : key_at file start end at ≡ key_of file t t.count at
+      unfolding key_at key_opened key_in pick
+      list_key = rw (opens, lt-leb _ _ below)
 
-      pub list-broken : {why : Refusal} → key_of file t t.count at ≡ Joined.broken why → listedNumber (listed (key_at file start end at) room at) ≡ number why
-      unfolding listed listedNumber
-      list-broken e = rw (list-key ∙ e)
+      pub list-broken : {why : Refusal} → key_of file t t.count at ≡ Joined.broken why → listed_number (listed (key_at file start end at) room at) ≡ number why
+      unfolding listed listed_number
+      list-broken e = rw (list_key ∙ e)
 
       -- the numbers of a key that does not read: 2, 9, 10, 11
-      pub list-2 : key_of file t t.count at ≡ Joined.broken PointerOutside → listedNumber (listed (key_at file start end at) room at) ≡ 2
-      list-2 e = list-broken e
+      pub list_2 : key_of file t t.count at ≡ Joined.broken PointerOutside → listed_number (listed (key_at file start end at) room at) ≡ 2
+      list_2 e = list-broken e
 
-      pub list-9 : {bad : ℕ} → key_of file t t.count at ≡ Joined.broken (FragmentNotUtf8 bad) → listedNumber (listed (key_at file start end at) room at) ≡ 9
-      list-9 e = list-broken e
+      pub list_9 : {bad : ℕ} → key_of file t t.count at ≡ Joined.broken (FragmentNotUtf8 bad) → listed_number (listed (key_at file start end at) room at) ≡ 9
+      list_9 e = list-broken e
 
-      pub list-10 : key_of file t t.count at ≡ Joined.broken ParentOutside → listedNumber (listed (key_at file start end at) room at) ≡ 10
-      list-10 e = list-broken e
+      pub list_10 : key_of file t t.count at ≡ Joined.broken ParentOutside → listed_number (listed (key_at file start end at) room at) ≡ 10
+      list_10 e = list-broken e
 
-      pub list-11 : key_of file t t.count at ≡ Joined.broken ParentsEndless → listedNumber (listed (key_at file start end at) room at) ≡ 11
-      list-11 e = list-broken e
+      pub list_11 : key_of file t t.count at ≡ Joined.broken ParentsEndless → listed_number (listed (key_at file start end at) room at) ≡ 11
+      list_11 e = list-broken e
 
       module _ {k : List ℕ} (key : key_of file t t.count at ≡ Joined.joined k) where
-        pub list-14 : room < length k → listedNumber (listed (key_at file start end at) room at) ≡ 14
-        unfolding listed listedNumber pick
-        list-14 short = rw (list-key ∙ key, lt-ltb _ _ short)
+        pub list_14 : room < length k → listed_number (listed (key_at file start end at) room at) ≡ 14
+        unfolding listed listed_number pick
+        list_14 short = rw (list_key ∙ key, lt-ltb _ _ short)
 
         -- the key's full length, and the next position
-        pub list-0 : length k ≤ room → listed (key_at file start end at) room at ≡ Listed.Key (length k) (record { at = at + 1 })
+        pub list_0 : length k ≤ room → listed (key_at file start end at) room at ≡ Listed.Key (length k) (record { at = at + 1 })
         unfolding listed pick
-        list-0 fits = rw (list-key ∙ key, le-ltb _ _ fits)
+        list_0 fits = rw (list_key ∙ key, le-ltb _ _ fits)
 
 -- ---- value listing: opening, 15, then 2 or 3 of the value pointer, with the item's index and the next position
 
 module _ (file : List ℕ) (start end at : ℕ) where
-  pub values-opening : {why : Refusal} → openTable file start end ≡ Opened.Refused why → valuedNumber (value_at file start end at) ≡ number why
-  unfolding value_at valueInOpened valuedNumber
-  values-opening shut = rw shut
+  pub values_opening : {why : Refusal} → open_table file start end ≡ Opened.Refused why → valued_number (value_at file start end at) ≡ number why
+  unfolding value_at value_in_opened valued_number
+  values_opening shut = rw shut
 
-  module _ {t : Table} (opens : openTable file start end ≡ Opened.Table t) where
-    pub values-15 : t.count ≤ nextValue file t at → valuedNumber (value_at file start end at) ≡ 15
-    unfolding value_at valueInOpened valueFrom valuedNumber pick
-    values-15 past = rw (opens, le-leb _ _ past)
+  module _ {t : Table} (opens : open_table file start end ≡ Opened.Table t) where
+    pub values_15 : t.count ≤ next_value file t at → valued_number (value_at file start end at) ≡ 15
+    unfolding value_at value_in_opened value_from valued_number pick
+    values_15 past = rw (opens, le-leb _ _ past)
 
-    module _ (below : nextValue file t at < t.count) where
-      values-item : value_at file start end at
-          ≡ valueOpened (openPointer (length file) (item_at file t (nextValue file t at)).from (item_at file t (nextValue file t at)).to 8) (nextValue file t at) (item_at file t (nextValue file t at))
-      unfolding value_at valueInOpened valueFrom pick
-      values-item = rw (opens, lt-leb _ _ below)
+    module _ (below : next_value file t at < t.count) where
+      values_item : value_at file start end at
+          ≡ value_opened (open_pointer (length file) (item_at file t (next_value file t at)).from (item_at file t (next_value file t at)).to 8) (next_value file t at) (item_at file t (next_value file t at))
+      unfolding value_at value_in_opened value_from pick
+      values_item = rw (opens, lt-leb _ _ below)
 
-      pub values-pointer : valuedNumber (value_at file start end at)
-          ≡ pointedNumber (openPointer (length file) (item_at file t (nextValue file t at)).from (item_at file t (nextValue file t at)).to 8)
-      values-pointer = ap valuedNumber values-item ∙ pointed-valued _ (nextValue file t at) (item_at file t (nextValue file t at))
+      pub values_pointer : valued_number (value_at file start end at)
+          ≡ pointed_number (open_pointer (length file) (item_at file t (next_value file t at)).from (item_at file t (next_value file t at)).to 8)
+      values_pointer = ap valued_number values_item ∙ pointed_valued _ (next_value file t at) (item_at file t (next_value file t at))
 
-      pub values-index : valuedItem (value_at file start end at) ≡ (nextValue file t at, nextValue file t at + 1)
-      values-index = ap valuedItem values-item ∙ item-valued _ (nextValue file t at) (item_at file t (nextValue file t at))
+      pub values_index : valued_item (value_at file start end at) ≡ (next_value file t at, next_value file t at + 1)
+      values_index = ap valued_item values_item ∙ item_valued _ (next_value file t at) (item_at file t (next_value file t at))
 
 -- ---- children of a container: opening, 8, 12; of the container 13, then 2 or 3 of its value pointer, then 13 for its length; 15; of the child 10, 13, then 2 or 9
 
 module _ (manner : Manner) (file : List ℕ) (start end : ℕ) (key : List ℕ) (at : ℕ) where
-  pub children-opening : {why : Refusal} → openTable file start end ≡ Opened.Refused why → childedNumber (nextChild manner file start end key at) ≡ number why
-  unfolding nextChild childInOpened childedNumber
-  children-opening shut = rw shut
+  pub children_opening : {why : Refusal} → open_table file start end ≡ Opened.Refused why → childed_number (next_child manner file start end key at) ≡ number why
+  unfolding next_child child_in_opened childed_number
+  children_opening shut = rw shut
 
-  module _ {t : Table} (opens : openTable file start end ≡ Opened.Table t) where
-    pub children-8 : isUtf8 key ≡ false → (childedNumber (nextChild manner file start end key at) ≡ 8) × (childedAt (nextChild manner file start end key at) ≡ firstBad key)
-    unfolding nextChild childInOpened childOfSought lookupIn childedNumber childedAt pick
-    children-8 bad = (rw (opens, bad), rw (opens, bad))
+  module _ {t : Table} (opens : open_table file start end ≡ Opened.Table t) where
+    pub children_8 : is_utf8 key ≡ false → (childed_number (next_child manner file start end key at) ≡ 8) × (childed_at (next_child manner file start end key at) ≡ first_bad key)
+    unfolding next_child child_in_opened child_of_sought lookup_in childed_number childed_at pick
+    children_8 bad = (rw (opens, bad), rw (opens, bad))
 
-    module _ (text : isUtf8 key ≡ true) where
-      pub children-12 : findItem manner file t key ≡ Found.Nothing → childedNumber (nextChild manner file start end key at) ≡ 12
-      unfolding nextChild childInOpened childOfSought lookupIn atFound childedNumber pick
-      children-12 none = rw (opens, text, none)
+    module _ (text : is_utf8 key ≡ true) where
+      pub children_12 : find_item manner file t key ≡ Found.Nothing → childed_number (next_child manner file start end key at) ≡ 12
+      unfolding next_child child_in_opened child_of_sought lookup_in at_found childed_number pick
+      children_12 none = rw (opens, text, none)
 
-      module _ {i : ℕ} (found : findItem manner file t key ≡ Found.At i) where
-        children-found : nextChild manner file start end key at ≡ childFrom (openList file (item_at file t i)) file t (item_at file t i) at
-        unfolding nextChild childInOpened childOfSought lookupIn atFound pick
-        children-found = rw (opens, text, found)
+      module _ {i : ℕ} (found : find_item manner file t key ≡ Found.At i) where
+        children_found : next_child manner file start end key at ≡ child_from (open_list file (item_at file t i)) file t (item_at file t i) at
+        unfolding next_child child_in_opened child_of_sought lookup_in at_found pick
+        children_found = rw (opens, text, found)
 
-        children-shut : {why : Refusal} → Pointed.Refused why ≡ openList file (item_at file t i) → childedNumber (nextChild manner file start end key at) ≡ number why
-        unfolding childFrom childedNumber
-        children-shut e = ap childedNumber children-found ∙ rw (sym e)
+        children_shut : {why : Refusal} → Pointed.Refused why ≡ open_list file (item_at file t i) → childed_number (next_child manner file start end key at) ≡ number why
+        unfolding child_from childed_number
+        children_shut e = ap childed_number children_found ∙ rw (sym e)
 
         -- the item is no container
-        pub children-other : ((item_at file t i).kind ≡ 76 → ⊥) → childedNumber (nextChild manner file start end key at) ≡ 13
-        unfolding openList pick
-        children-other other = children-shut {why = OtherKind} (rw (ne_eqb _ _ other))
+        pub children_other : ((item_at file t i).kind ≡ 76 → ⊥) → childed_number (next_child manner file start end key at) ≡ 13
+        unfolding open_list pick
+        children_other other = children_shut {why = OtherKind} (rw (ne_eqb _ _ other))
 
         module _ (kind : (item_at file t i).kind ≡ 76) where
           -- 2 or 3 of the value pointer
-          pub children-pointer : {why : Refusal} → openPointer (length file) (item_at file t i).from (item_at file t i).to 4 ≡ Pointed.Refused why
-              → childedNumber (nextChild manner file start end key at) ≡ number why
-          children-pointer e = children-shut (list-refused file (item_at file t i) kind refl refl e)
+          pub children_pointer : {why : Refusal} → open_pointer (length file) (item_at file t i).from (item_at file t i).to 4 ≡ Pointed.Refused why
+              → childed_number (next_child manner file start end key at) ≡ number why
+          children_pointer e = children_shut (list-refused file (item_at file t i) kind refl refl e)
 
-          module _ (inside : openPointer (length file) (item_at file t i).from (item_at file t i).to 4 ≡ Pointed.Inside) where
-            pub children-uneven : (((item_at file t i).to - (item_at file t i).from) % 4 ≡ 0 → ⊥) → childedNumber (nextChild manner file start end key at) ≡ 13
-            children-uneven uneven = children-shut (list-uneven file (item_at file t i) kind refl refl inside uneven)
+          module _ (inside : open_pointer (length file) (item_at file t i).from (item_at file t i).to 4 ≡ Pointed.Inside) where
+            pub children_uneven : (((item_at file t i).to - (item_at file t i).from) % 4 ≡ 0 → ⊥) → childed_number (next_child manner file start end key at) ≡ 13
+            children_uneven uneven = children_shut (list_uneven file (item_at file t i) kind refl refl inside uneven)
 
             module _ (whole : ((item_at file t i).to - (item_at file t i).from) % 4 ≡ 0) where
-              children-listed : nextChild manner file start end key at ≡ childFrom Pointed.Inside file t (item_at file t i) at
-              children-listed = children-found ∙ rw (sym (list-whole file (item_at file t i) kind refl refl inside whole))
+              children_listed : next_child manner file start end key at ≡ child_from Pointed.Inside file t (item_at file t i) at
+              children_listed = children_found ∙ rw (sym (list_whole file (item_at file t i) kind refl refl inside whole))
 
-              pub children-past : childCount (item_at file t i) ≤ at → nextChild manner file start end key at ≡ Childed.Refused PastTheLast
-              unfolding childFrom pick
-              children-past past = children-listed ∙ rw (le-ltb _ _ past)
+              pub children_past : child_count (item_at file t i) ≤ at → next_child manner file start end key at ≡ Childed.Refused PastTheLast
+              unfolding child_from pick
+              children_past past = children_listed ∙ rw (le-ltb _ _ past)
 
-              pub children-15 : childCount (item_at file t i) ≤ at → childedNumber (nextChild manner file start end key at) ≡ 15
-              unfolding childedNumber
-              children-15 past = ap childedNumber (children-past past)
+              pub children_15 : child_count (item_at file t i) ≤ at → childed_number (next_child manner file start end key at) ≡ 15
+              unfolding childed_number
+              children_15 past = ap childed_number (children_past past)
 
-              module _ (listed : at < childCount (item_at file t i)) (child : ℕ) (is : childAt file (item_at file t i).from at ≡ child) where
-                children-child : nextChild manner file start end key at ≡ childOf file t child at
-                unfolding childFrom pick
-                children-child = children-listed ∙ rw (lt-ltb _ _ listed, is)
+              module _ (listed : at < child_count (item_at file t i)) (child : ℕ) (is : child_at file (item_at file t i).from at ≡ child) where
+                children_child : next_child manner file start end key at ≡ child_of file t child at
+                unfolding child_from pick
+                children_child = children_listed ∙ rw (lt-ltb _ _ listed, is)
 
-                pub children-10 : t.count ≤ child → childedNumber (nextChild manner file start end key at) ≡ 10
-                unfolding childOf childedNumber pick
-                children-10 past = ap childedNumber children-child ∙ rw (le-leb _ _ past)
+                pub children_10 : t.count ≤ child → childed_number (next_child manner file start end key at) ≡ 10
+                unfolding child_of childed_number pick
+                children_10 past = ap childed_number children_child ∙ rw (le-leb _ _ past)
 
                 module _ (below : child < t.count) where
                   -- the child's kind is not known
-                  pub children-13 : kindKnown (item_at file t child).kind ≡ false → childedNumber (nextChild manner file start end key at) ≡ 13
-                  unfolding childOf childedNumber pick
-                  children-13 strange = ap childedNumber children-child ∙ rw (lt-leb _ _ below, strange)
+                  pub children_13 : kind_known (item_at file t child).kind ≡ false → childed_number (next_child manner file start end key at) ≡ 13
+                  unfolding child_of childed_number pick
+                  children_13 strange = ap childed_number children_child ∙ rw (lt-leb _ _ below, strange)
 
-                  module _ (known : kindKnown (item_at file t child).kind ≡ true) where
-                    children-named : nextChild manner file start end key at ≡ childNamed file child (item_at file t child) at
-                    unfolding childOf pick
-                    children-named = children-child ∙ rw (lt-leb _ _ below, known)
+                  module _ (known : kind_known (item_at file t child).kind ≡ true) where
+                    children_named : next_child manner file start end key at ≡ child_named file child (item_at file t child) at
+                    unfolding child_of pick
+                    children_named = children_child ∙ rw (lt-leb _ _ below, known)
 
-                    pub children-2 : length file < (item_at file t child).key + (item_at file t child).size → childedNumber (nextChild manner file start end key at) ≡ 2
-                    unfolding childNamed atFragment childedNumber
-                    children-2 past = ap childedNumber children-named ∙ rw (fragment-outside file (item_at file t child).key (item_at file t child).size past)
+                    pub children_2 : length file < (item_at file t child).key + (item_at file t child).size → childed_number (next_child manner file start end key at) ≡ 2
+                    unfolding child_named at_fragment childed_number
+                    children_2 past = ap childed_number children_named ∙ rw (fragment_outside file (item_at file t child).key (item_at file t child).size past)
 
                     module _ (fits : (item_at file t child).key + (item_at file t child).size ≤ length file) where
-                      pub children-9 : isUtf8 (fragmentOf file (item_at file t child)) ≡ false
-                          → (childedNumber (nextChild manner file start end key at) ≡ 9) × (childedAt (nextChild manner file start end key at) ≡ firstBad (fragmentOf file (item_at file t child)))
-                      unfolding childNamed atFragment childedNumber childedAt pick
-                      children-9 bad =
-                          let opens = fragment-inside file (item_at file t child).key (item_at file t child).size fits in
-                          (ap childedNumber children-named ∙ rw (opens, bad), ap childedAt children-named ∙ rw (opens, bad))
+                      pub children_9 : is_utf8 (fragment_of file (item_at file t child)) ≡ false
+                          → (childed_number (next_child manner file start end key at) ≡ 9) × (childed_at (next_child manner file start end key at) ≡ first_bad (fragment_of file (item_at file t child)))
+                      unfolding child_named at_fragment childed_number childed_at pick
+                      children_9 bad =
+                          let opens = fragment_inside file (item_at file t child).key (item_at file t child).size fits in
+                          (ap childed_number children_named ∙ rw (opens, bad), ap childed_at children_named ∙ rw (opens, bad))
 
                       -- the child, its kind, the place of its fragment, and the next position
-                      pub children-0 : isUtf8 (fragmentOf file (item_at file t child)) ≡ true
-                          → nextChild manner file start end key at
+                      pub children_0 : is_utf8 (fragment_of file (item_at file t child)) ≡ true
+                          → next_child manner file start end key at
                           ≡ Childed.Child child (item_at file t child).kind (item_at file t child).key ((item_at file t child).key + (item_at file t child).size) (record { at = at + 1 })
-                      unfolding childNamed atFragment pick
-                      children-0 good = children-named ∙ rw (fragment-inside file (item_at file t child).key (item_at file t child).size fits, good)
+                      unfolding child_named at_fragment pick
+                      children_0 good = children_named ∙ rw (fragment_inside file (item_at file t child).key (item_at file t child).size fits, good)

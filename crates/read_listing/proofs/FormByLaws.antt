@@ -5,70 +5,70 @@ use mathlib.Core.List.{List}
 use Prim.Native.Nat.{ℕ, zero, suc, ◌+◌, ◌%◌}
 use lib.Dec.{leb, eqb}
 use Rattle.words.specs.Choice.{pick}
-use Rattle.key_hash.specs.Hash.{hashBy}
-use Rattle.text.specs.Ascii.{isAscii}
-use Rattle.text.specs.Utf8.{isUtf8, firstBad}
-use Rattle.text.proofs.AsciiLaws.{ascii-hash}
+use Rattle.key_hash.specs.Hash.{hash_by}
+use Rattle.text.specs.Ascii.{is_ascii}
+use Rattle.text.specs.Utf8.{is_utf8, first_bad}
+use Rattle.text.proofs.AsciiLaws.{ascii_hash}
 use Rattle.layout.specs.declared.refusal.Refusal.TheVariants.{KeyNotUtf8}
 use Rattle.layout.specs.declared.table.Table.{Table}
 use Rattle.layout.specs.declared.table.Opened.{Opened}
-use Rattle.layout.specs.Table.{openTable}
+use Rattle.layout.specs.Table.{open_table}
 use Rattle.layout.specs.Item.{item_at}
 use Rattle.read_find.specs.declared.find.Found.{Found}
 use Rattle.read_find.specs.declared.find.Run.{Run}
 use Rattle.read.specs.declared.lookup.Sought.{Sought}
 use Rattle.read_chain.specs.Chain.{key_of, names}
-use Rattle.read_find.specs.Find.{Manner, shift_of, bloomPasses, run_of, itemMatches, firstFrom, first_of, findItem}
-use Rattle.read.specs.Lookup.{atFound, lookupIn, atOpened, lookupItem, atItem, value_of, nestedOf, lookupValue, lookupTable}
-use Rattle.read_listing.specs.Children.{childOfSought, childInOpened, nextChild}
-use Rattle.read_listing.specs.FormsBy.{glibBy, rustBy, AsciiLookupsBy}
+use Rattle.read_find.specs.Find.{Manner, shift_of, bloom_passes, run_of, item_matches, first_from, first_of, find_item}
+use Rattle.read.specs.Lookup.{at_found, lookup_in, at_opened, lookup_item, at_item, value_of, nested_of, lookup_value, lookup_table}
+use Rattle.read_listing.specs.Children.{child_of_sought, child_in_opened, next_child}
+use Rattle.read_listing.specs.FormsBy.{glib_by, rust_by, AsciiLookupsBy}
 
-first_alike : (test other : ℕ → Bool) → ((i : ℕ) → test i ≡ other i) → (count more at : ℕ) → firstFrom test count more at ≡ firstFrom other count more at
-unfolding firstFrom
+first_alike : (test other : ℕ → Bool) → ((i : ℕ) → test i ≡ other i) → (count more at : ℕ) → first_from test count more at ≡ first_from other count more at
+unfolding first_from
 first_alike test other same count zero at = refl
 first_alike test other same count (suc more) at =
-    ap (λ (q : Bool). pick (leb count at) Found.Nothing (pick q (Found.At at) (firstFrom test count more (at + 1)))) (same at)
+    ap (λ (q : Bool). pick (leb count at) Found.Nothing (pick q (Found.At at) (first_from test count more (at + 1)))) (same at)
     ∙ ap (λ (r : Found). pick (leb count at) Found.Nothing (pick (other at) (Found.At at) r)) (first_alike test other same count more (at + 1))
 
-module _ (shift : ℕ → ℕ) (file : List ℕ) (t : Table) (key : List ℕ) (e : hashBy (glibBy shift).byte key ≡ hashBy (rustBy shift).byte key) where
-  match-alike : (i : ℕ) → itemMatches (glibBy shift) file t key i ≡ itemMatches (rustBy shift) file t key i
-  unfolding itemMatches
-  match-alike i = ap (λ (h : ℕ). pick (eqb (item_at file t i).hash h) (names (key_of file t t.count i) key) false) e
+module _ (shift : ℕ → ℕ) (file : List ℕ) (t : Table) (key : List ℕ) (e : hash_by (glib_by shift).byte key ≡ hash_by (rust_by shift).byte key) where
+  match_alike : (i : ℕ) → item_matches (glib_by shift) file t key i ≡ item_matches (rust_by shift) file t key i
+  unfolding item_matches
+  match_alike i = ap (λ (h : ℕ). pick (eqb (item_at file t i).hash h) (names (key_of file t t.count i) key) false) e
 
-  run-alike : (run : Run) → first_of (glibBy shift) file t key run ≡ first_of (rustBy shift) file t key run
+  run_alike : (run : Run) → first_of (glib_by shift) file t key run ≡ first_of (rust_by shift) file t key run
   unfolding first_of
-  run-alike run = first_alike (itemMatches (glibBy shift) file t key) (itemMatches (rustBy shift) file t key) match-alike _ _ _
+  run_alike run = first_alike (item_matches (glib_by shift) file t key) (item_matches (rust_by shift) file t key) match_alike _ _ _
 
-  pub find-alike : findItem (glibBy shift) file t key ≡ findItem (rustBy shift) file t key
-  unfolding findItem
-  find-alike =
-      ap (λ (h : ℕ). pick (eqb t.buckets 0) Found.Nothing (pick (eqb t.count 0) Found.Nothing (pick (bloomPasses shift file t h) (first_of (glibBy shift) file t key (run_of file t (h % t.buckets))) Found.Nothing))) e
-      ∙ ap (λ (r : Found). pick (eqb t.buckets 0) Found.Nothing (pick (eqb t.count 0) Found.Nothing (pick (bloomPasses shift file t (hashBy (rustBy shift).byte key)) r Found.Nothing))) (run-alike (run_of file t (hashBy (rustBy shift).byte key % t.buckets)))
+  pub find_alike : find_item (glib_by shift) file t key ≡ find_item (rust_by shift) file t key
+  unfolding find_item
+  find_alike =
+      ap (λ (h : ℕ). pick (eqb t.buckets 0) Found.Nothing (pick (eqb t.count 0) Found.Nothing (pick (bloom_passes shift file t h) (first_of (glib_by shift) file t key (run_of file t (h % t.buckets))) Found.Nothing))) e
+      ∙ ap (λ (r : Found). pick (eqb t.buckets 0) Found.Nothing (pick (eqb t.count 0) Found.Nothing (pick (bloom_passes shift file t (hash_by (rust_by shift).byte key)) r Found.Nothing))) (run_alike (run_of file t (hash_by (rust_by shift).byte key % t.buckets)))
 
-  in-alike : lookupIn (glibBy shift) file key t ≡ lookupIn (rustBy shift) file key t
-  unfolding lookupIn
-  in-alike = ap (λ (r : Found). pick (isUtf8 key) (atFound file t r) (Sought.Refused (KeyNotUtf8 (firstBad key)))) find-alike
+  in_alike : lookup_in (glib_by shift) file key t ≡ lookup_in (rust_by shift) file key t
+  unfolding lookup_in
+  in_alike = ap (λ (r : Found). pick (is_utf8 key) (at_found file t r) (Sought.Refused (KeyNotUtf8 (first_bad key)))) find_alike
 
-module _ (shift : ℕ → ℕ) (file key : List ℕ) (e : hashBy (glibBy shift).byte key ≡ hashBy (rustBy shift).byte key) where
-  opened-alike : (o : Opened) → atOpened o (λ t. lookupIn (glibBy shift) file key t) ≡ atOpened o (λ t. lookupIn (rustBy shift) file key t)
-  unfolding atOpened
-  opened-alike (Opened.Table t) = in-alike shift file t key e
-  opened-alike (Opened.Refused why) = refl
+module _ (shift : ℕ → ℕ) (file key : List ℕ) (e : hash_by (glib_by shift).byte key ≡ hash_by (rust_by shift).byte key) where
+  opened_alike : (o : Opened) → at_opened o (λ t. lookup_in (glib_by shift) file key t) ≡ at_opened o (λ t. lookup_in (rust_by shift) file key t)
+  unfolding at_opened
+  opened_alike (Opened.Table t) = in_alike shift file t key e
+  opened_alike (Opened.Refused why) = refl
 
-  item-alike : (start end : ℕ) → lookupItem (glibBy shift) file start end key ≡ lookupItem (rustBy shift) file start end key
-  unfolding lookupItem
-  item-alike start end = opened-alike (openTable file start end)
+  item_alike : (start end : ℕ) → lookup_item (glib_by shift) file start end key ≡ lookup_item (rust_by shift) file start end key
+  unfolding lookup_item
+  item_alike start end = opened_alike (open_table file start end)
 
-  child-alike : (at : ℕ) (o : Opened) → childInOpened (glibBy shift) file key at o ≡ childInOpened (rustBy shift) file key at o
-  unfolding childInOpened
-  child-alike at (Opened.Table t) = ap (λ (s : Sought). childOfSought s file t at) (in-alike shift file t key e)
-  child-alike at (Opened.Refused why) = refl
+  child_alike : (at : ℕ) (o : Opened) → child_in_opened (glib_by shift) file key at o ≡ child_in_opened (rust_by shift) file key at o
+  unfolding child_in_opened
+  child_alike at (Opened.Table t) = ap (λ (s : Sought). child_of_sought s file t at) (in_alike shift file t key e)
+  child_alike at (Opened.Refused why) = refl
 
-pub ascii-lookups-by : AsciiLookupsBy
-unfolding lookupValue lookupTable nextChild
-ascii-lookups-by lookup file start end key a =
-    let same = item-alike (shift_of lookup) file key (ascii-hash key a) start end in (
-      ap (λ (s : Sought). atItem s (λ item. value_of file item)) same,
-      ap (λ (s : Sought). atItem s (λ item. nestedOf file item)) same,
-      λ at. child-alike (shift_of lookup) file key (ascii-hash key a) at (openTable file start end),
+pub ascii_lookups_by : AsciiLookupsBy
+unfolding lookup_value lookup_table next_child
+ascii_lookups_by lookup file start end key a =
+    let same = item_alike (shift_of lookup) file key (ascii_hash key a) start end in (
+      ap (λ (s : Sought). at_item s (λ item. value_of file item)) same,
+      ap (λ (s : Sought). at_item s (λ item. nested_of file item)) same,
+      λ at. child_alike (shift_of lookup) file key (ascii_hash key a) at (open_table file start end),
     )

@@ -9,20 +9,20 @@ use lib.Dec.{eqb, ltb}
 use borrow.Author.Tests.{le-ltb, lt-ltb, le-leb, lt-leb, ltb-false, leb-false, eqb-true, eqb-false}
 use Rattle.words.specs.Choice.{pick}
 use Rattle.words.specs.Store.{put_at}
-use Rattle.words.proofs.ChoiceLaws.{pick-with}
-use Rattle.words.proofs.StoreLaws.{part-put, drop-after}
+use Rattle.words.proofs.ChoiceLaws.{pick_with}
+use Rattle.words.proofs.StoreLaws.{part-put, drop_after}
 use Rattle.layout.specs.declared.refusal.Refusal.{Refusal}
 use Rattle.layout.specs.declared.refusal.Refusal.TheVariants.{PastTheLast, BufferTooShort}
 use Rattle.layout.specs.declared.table.Table.{Table}
 use Rattle.layout.specs.declared.item.Item.{Item}
 use Rattle.layout.specs.Item.{item_at}
 use Rattle.layout.specs.declared.pointer.Pointed.{Pointed}
-use Rattle.layout.specs.Pointer.{openPointer}
+use Rattle.layout.specs.Pointer.{open_pointer}
 use Rattle.read_listing.specs.declared.listing.Cursor.{Cursor}
 use Rattle.read_listing.specs.declared.listing.Measured.{Measured}
 use Rattle.read_listing.specs.declared.listing.Listed.{Listed}
 use Rattle.read_chain.specs.Chain.{Joined, key_of}
-use Rattle.read_listing.specs.Listing.{measure, keyIn, listed, written, next_of, nextValue, valueOpened, valueFrom}
+use Rattle.read_listing.specs.Listing.{measure, key_in, listed, written, next_of, next_value, value_opened, value_from}
 use Rattle.read_listing.proofs.WriteLaws.{size_is}
 
 -- ---- a key
@@ -32,52 +32,52 @@ abbrev pub Told : Joined → List ℕ → ℕ → Listed → List ℕ → Type 0
 Told j out at said wrote = (said ≡ listed j (length out) at) × (wrote ≡ written j out)
 
 -- the key at the position of an item is the item's
-pub in-range : (file : List ℕ) (t : Table) (at : ℕ) → at < t.count → keyIn file at t ≡ key_of file t t.count at
-unfolding keyIn pick
-in-range file t at h = simp (lt-leb _ _ h)
+pub in_range : (file : List ℕ) (t : Table) (at : ℕ) → at < t.count → key_in file at t ≡ key_of file t t.count at
+unfolding key_in pick
+in_range file t at h = simp (lt-leb _ _ h)
 
 module _ (file : List ℕ) (t : Table) (at : ℕ) (out : List ℕ) where
-  pub told-past : t.count ≤ at → Told (keyIn file at t) out at (Listed.Refused PastTheLast) out
-  unfolding keyIn pick listed written
-  told-past h = (simp (le-leb _ _ h), simp (le-leb _ _ h))
+  pub told_past : t.count ≤ at → Told (key_in file at t) out at (Listed.Refused PastTheLast) out
+  unfolding key_in pick listed written
+  told_past h = (simp (le-leb _ _ h), simp (le-leb _ _ h))
 
   refused-told : (j : Joined) {why : Refusal} → measure j ≡ Measured.Refused why → Told j out at (Listed.Refused why) out
   unfolding measure listed written
   refused-told (Joined.joined k) e = let z : ◌≡◌ {A = ℕ} 0 1 = cc in absurd (omega arith)
   refused-told (Joined.broken why) e = (cc, refl)
 
-  long-told : (j : Joined) {size : ℕ} → measure j ≡ Measured.Size size → length out < size → Told j out at (Listed.Refused BufferTooShort) out
+  long_told : (j : Joined) {size : ℕ} → measure j ≡ Measured.Size size → length out < size → Told j out at (Listed.Refused BufferTooShort) out
   unfolding measure listed written pick
-  long-told (Joined.joined k) e h =
+  long_told (Joined.joined k) e h =
       let l : length out < length k = omega (arith, size_is _ _ e) in
       (simp (lt-ltb _ _ l), simp (lt-ltb _ _ l))
-  long-told (Joined.broken why) e h = let z : ◌≡◌ {A = ℕ} 0 1 = cc in absurd (omega arith)
+  long_told (Joined.broken why) e h = let z : ◌≡◌ {A = ℕ} 0 1 = cc in absurd (omega arith)
 
-  key-said : (j : Joined) {size : ℕ} → measure j ≡ Measured.Size size → size ≤ length out → Listed.Key size (record { at = at + 1 }) ≡ listed j (length out) at
+  key_said : (j : Joined) {size : ℕ} → measure j ≡ Measured.Size size → size ≤ length out → Listed.Key size (record { at = at + 1 }) ≡ listed j (length out) at
   unfolding measure listed pick
-  key-said (Joined.joined k) {size} e h =
+  key_said (Joined.joined k) {size} e h =
       let same : size ≡ length k = sym (size_is _ _ e) in
       let l : length k ≤ length out = omega arith in
       simp (le-ltb _ _ l) (ap (λ (n : ℕ). Listed.Key n (record { at = at + 1 })) same)
-  key-said (Joined.broken why) e h = cc
+  key_said (Joined.broken why) e h = cc
 
   module _ (h : at < t.count) where
-    pub told-refused : {why : Refusal} → measure (key_of file t t.count at) ≡ Measured.Refused why → Told (keyIn file at t) out at (Listed.Refused why) out
-    told-refused e = rw (in-range file t at h) (refused-told _ e)
+    pub told-refused : {why : Refusal} → measure (key_of file t t.count at) ≡ Measured.Refused why → Told (key_in file at t) out at (Listed.Refused why) out
+    told-refused e = rw (in_range file t at h) (refused-told _ e)
 
-    pub told-long : {size : ℕ} → measure (key_of file t t.count at) ≡ Measured.Size size → length out < size → Told (keyIn file at t) out at (Listed.Refused BufferTooShort) out
-    told-long e l = rw (in-range file t at h) (long-told _ e l)
+    pub told_long : {size : ℕ} → measure (key_of file t t.count at) ≡ Measured.Size size → length out < size → Told (key_in file at t) out at (Listed.Refused BufferTooShort) out
+    told_long e l = rw (in_range file t at h) (long_told _ e l)
 
-    pub told-key : {size : ℕ} → measure (key_of file t t.count at) ≡ Measured.Size size → size ≤ length out → {wrote : List ℕ} → wrote ≡ written (key_of file t t.count at) out
-        → Told (keyIn file at t) out at (Listed.Key size (record { at = at + 1 })) wrote
-    told-key e l w = rw (in-range file t at h) (key-said _ e l, w)
+    pub told_key : {size : ℕ} → measure (key_of file t t.count at) ≡ Measured.Size size → size ≤ length out → {wrote : List ℕ} → wrote ≡ written (key_of file t t.count at) out
+        → Told (key_in file at t) out at (Listed.Key size (record { at = at + 1 })) wrote
+    told_key e l w = rw (in_range file t at h) (key_said _ e l, w)
 
 -- a position past the last item has no key
-pub key-in-range : (file : List ℕ) (at : ℕ) (t : Table) {k : List ℕ} → keyIn file at t ≡ Joined.joined k → at < t.count
-unfolding keyIn
-key-in-range file at t {k} =
+pub key_in_range : (file : List ℕ) (at : ℕ) (t : Table) {k : List ℕ} → key_in file at t ≡ Joined.joined k → at < t.count
+unfolding key_in
+key_in_range file at t {k} =
     let P : Joined → Type 0 = λ j. j ≡ Joined.joined k → at < t.count in
-    pick-with P _ _ _ (λ _ e. let z : ◌≡◌ {A = ℕ} 0 1 = cc in absurd (omega arith)) (λ here _. leb-false _ _ here)
+    pick_with P _ _ _ (λ _ e. let z : ◌≡◌ {A = ℕ} 0 1 = cc in absurd (omega arith)) (λ here _. leb-false _ _ here)
 
 -- a key that is written stands at the front, what lies behind it stays, and the cursor is moved on by one
 pub record Front (j : Joined) (out : List ℕ) (at size : ℕ) (next : Cursor) : Type 0 where
@@ -86,14 +86,14 @@ pub record Front (j : Joined) (out : List ℕ) (at size : ℕ) (next : Cursor) :
   pub rest : drop size (written j out) ≡ drop size out
   pub moved : next.at ≡ at + 1
 
-front-put : (k out : List ℕ) (at : ℕ) → length k ≤ length out → Front (Joined.joined k) out at (length k) (record { at = at + 1 })
+front_put : (k out : List ℕ) (at : ℕ) → length k ≤ length out → Front (Joined.joined k) out at (length k) (record { at = at + 1 })
 unfolding written pick
-front-put k out at fits =
+front_put k out at fits =
     let put : written (Joined.joined k) out ≡ put_at out 0 k = rw (le-ltb _ _ fits) in
     record {
       key = ap Joined.joined (sym (ap (take (length k)) put ∙ part-put out 0 k (omega arith)));
       room = fits;
-      rest = ap (drop (length k)) put ∙ drop-after out 0 k (length k) (omega arith);
+      rest = ap (drop (length k)) put ∙ drop_after out 0 k (length k) (omega arith);
       moved = refl;
     }
 
@@ -102,18 +102,18 @@ unfolding listed
 front (Joined.broken why) out at = λ e. let z : ◌≡◌ {A = ℕ} 0 1 = cc in absurd (omega arith)
 front (Joined.joined k) out at {size} {next} =
     let P : Listed → Type 0 = λ l. l ≡ Listed.Key size next → Front (Joined.joined k) out at size next in
-    pick-with P _ _ _ (λ _ e. let z : ◌≡◌ {A = ℕ} 0 1 = cc in absurd (omega arith))
+    pick_with P _ _ _ (λ _ e. let z : ◌≡◌ {A = ℕ} 0 1 = cc in absurd (omega arith))
     (λ fits e.
     let sized : length k ≡ size = cc in
     let moved : record { at = at + 1 } ≡ next = cc in
     subst (λ (n : ℕ). Front (Joined.joined k) out at n next) sized
-    (subst (λ (d : Cursor). Front (Joined.joined k) out at (length k) d) moved (front-put k out at (ltb-false _ _ fits))))
+    (subst (λ (d : Cursor). Front (Joined.joined k) out at (length k) d) moved (front_put k out at (ltb-false _ _ fits))))
 
 -- a refusal writes nothing
-pub refused-keeps : (j : Joined) (out : List ℕ) (at : ℕ) {why : Refusal} → listed j (length out) at ≡ Listed.Refused why → written j out ≡ out
+pub refused_keeps : (j : Joined) (out : List ℕ) (at : ℕ) {why : Refusal} → listed j (length out) at ≡ Listed.Refused why → written j out ≡ out
 unfolding listed written pick
-refused-keeps (Joined.broken why) out at e = refl
-refused-keeps (Joined.joined k) out at {why} e = by (ltb (length out) (length k)) refl e
+refused_keeps (Joined.broken why) out at e = refl
+refused_keeps (Joined.joined k) out at {why} e = by (ltb (length out) (length k)) refl e
   where
     by : (q : Bool) → ltb (length out) (length k) ≡ q → pick q (Listed.Refused BufferTooShort) (Listed.Key (length k) (record { at = at + 1 })) ≡ Listed.Refused why
         → pick q out (put_at out 0 k) ≡ out
@@ -123,16 +123,16 @@ refused-keeps (Joined.joined k) out at {why} e = by (ltb (length out) (length k)
 -- ---- the next value
 
 -- one position of the search, whose item is at hand, and its end
-pub next-turn : (file : List ℕ) (t : Table) (at : ℕ) {item : Item} → item ≡ item_at file t at → at < t.count
-    → nextValue file t at ≡ pick (eqb item.kind 118) at (nextValue file t (at + 1))
-unfolding next_of nextValue
-next-turn file t at is h =
+pub next_turn : (file : List ℕ) (t : Table) (at : ℕ) {item : Item} → item ≡ item_at file t at → at < t.count
+    → next_value file t at ≡ pick (eqb item.kind 118) at (next_value file t (at + 1))
+unfolding next_of next_value
+next_turn file t at is h =
     let e : t.count - at ≡ suc (t.count - (at + 1)) = omega arith in
     ap (λ (n : ℕ). next_of file t n at) e ∙ rw (← is)
 
-pub next-over : (file : List ℕ) (t : Table) (at : ℕ) → t.count ≤ at → nextValue file t at ≡ t.count
-unfolding next_of nextValue
-next-over file t at h =
+pub next_over : (file : List ℕ) (t : Table) (at : ℕ) → t.count ≤ at → next_value file t at ≡ t.count
+unfolding next_of next_value
+next_over file t at h =
     let e : t.count - at ≡ 0 = omega arith in
     ap (λ (n : ℕ). next_of file t n at) e
 
@@ -141,29 +141,29 @@ unfoldable pub NextSays : List ℕ → Table → ℕ → ℕ → Type 0
 NextSays file t at n =
     (n < t.count → (at ≤ n) × ((item_at file t n).kind ≡ 118)) × ((k : ℕ) → at ≤ k → k < n → k < t.count → (item_at file t k).kind ≡ 118 → ⊥)
 
-says-next : (file : List ℕ) (t : Table) (at n : ℕ) → ((item_at file t at).kind ≡ 118 → ⊥) → NextSays file t (at + 1) n → NextSays file t at n
+says_next : (file : List ℕ) (t : Table) (at n : ℕ) → ((item_at file t at).kind ≡ 118 → ⊥) → NextSays file t (at + 1) n → NextSays file t at n
 unfolding NextSays
-says-next file t at n other (here, none) =
+says_next file t at n other (here, none) =
     ((λ below. (omega (arith, (here below).0), (here below).1)), λ k from to below kind. by k (eqb k at) refl from to below kind)
   where
     by : (k : ℕ) (q : Bool) → eqb k at ≡ q → at ≤ k → k < n → k < t.count → (item_at file t k).kind ≡ 118 → ⊥
     by k true e from to below kind = other (ap (λ (i : ℕ). (item_at file t i).kind) (sym (eqb-true k at e)) ∙ kind)
     by k false e from to below kind = let apart : (k ≡ at → ⊥) = eqb-false k at e in none k (omega arith) to below kind
 
-next-of-says : (file : List ℕ) (t : Table) (more at : ℕ) → t.count ≤ at + more → NextSays file t at (next_of file t more at)
+next_of-says : (file : List ℕ) (t : Table) (more at : ℕ) → t.count ≤ at + more → NextSays file t at (next_of file t more at)
 unfolding next_of NextSays
-next-of-says file t zero at h = ((λ below. absurd (omega arith)), λ k from to below. absurd (omega arith))
-next-of-says file t (suc more) at h =
-    pick-with (NextSays file t at) _ _ _
+next_of-says file t zero at h = ((λ below. absurd (omega arith)), λ k from to below. absurd (omega arith))
+next_of-says file t (suc more) at h =
+    pick_with (NextSays file t at) _ _ _
     (λ kind. ((λ below. (omega arith, eqb-true _ _ kind)), λ k from to. absurd (omega arith)))
-    (λ other. says-next file t at (next_of file t more (at + 1)) (eqb-false _ _ other) (next-of-says file t more (at + 1) (omega arith)))
+    (λ other. says_next file t at (next_of file t more (at + 1)) (eqb-false _ _ other) (next_of-says file t more (at + 1) (omega arith)))
 
-pub next-says : (file : List ℕ) (t : Table) (at : ℕ) → NextSays file t at (nextValue file t at)
-unfolding nextValue
-next-says file t at = next-of-says file t (t.count - at) at (omega arith)
+pub next_says : (file : List ℕ) (t : Table) (at : ℕ) → NextSays file t at (next_value file t at)
+unfolding next_value
+next_says file t at = next_of-says file t (t.count - at) at (omega arith)
 
 -- the value of the item at an index, once its pointer is judged
-pub value-judged : (file : List ℕ) (t : Table) (index : ℕ) → index < t.count → {item : Item} → item ≡ item_at file t index
-    → {p : Pointed} → p ≡ openPointer (length file) item.from item.to 8 → {told : Pointed} → p ≡ told → valueOpened told index item ≡ valueFrom file t index
-unfolding valueFrom pick
-value-judged file t index h is judged e = rw (lt-leb _ _ h, ← is, ← judged, e)
+pub value_judged : (file : List ℕ) (t : Table) (index : ℕ) → index < t.count → {item : Item} → item ≡ item_at file t index
+    → {p : Pointed} → p ≡ open_pointer (length file) item.from item.to 8 → {told : Pointed} → p ≡ told → value_opened told index item ≡ value_from file t index
+unfolding value_from pick
+value_judged file t index h is judged e = rw (lt-leb _ _ h, ← is, ← judged, e)

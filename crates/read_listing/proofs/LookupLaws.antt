@@ -3,23 +3,23 @@ use Prim.Native.Nat.{ℕ, ◌+◌, ◌≤◌}
 use mathlib.Core.Path.{◌≡◌, refl}
 use mathlib.Core.List.{List}
 use lib.ListN.{length}
-use Rattle.words.proofs.ChoiceLaws.{pick-with}
+use Rattle.words.proofs.ChoiceLaws.{pick_with}
 use Rattle.layout.specs.declared.pointer.Pointed.{Pointed}
 use Rattle.layout.specs.declared.table.Opened.{Opened}
 use Rattle.layout.specs.declared.table.Table.{Table}
 use Rattle.layout.specs.declared.item.Item.{Item}
-use Rattle.layout.specs.Pointer.{openPointer}
-use Rattle.layout.specs.Table.{tableIn, whereInside, openTable}
+use Rattle.layout.specs.Pointer.{open_pointer}
+use Rattle.layout.specs.Table.{table_in, where_inside, open_table}
 use Rattle.layout.specs.Item.{item_at}
-use Rattle.layout.proofs.OpenLaws.{pointer-inside}
+use Rattle.layout.proofs.OpenLaws.{pointer_inside}
 use Rattle.read.specs.declared.lookup.Sought.{Sought}
 use Rattle.read.specs.declared.lookup.Looked.{Looked}
 use Rattle.read_listing.specs.declared.listing.Valued.{Valued}
 use Rattle.read_listing.specs.declared.children.Childed.{Childed}
-use Rattle.read.specs.Lookup.{lookupIn, at_pointer, atNested, value_of, nestedOf, atItem, lookupValue, lookupTable}
-use Rattle.read_listing.specs.Listing.{nextValue, valueOpened, valueFrom, valueInOpened, value_at}
+use Rattle.read.specs.Lookup.{lookup_in, at_pointer, at_nested, value_of, nested_of, at_item, lookup_value, lookup_table}
+use Rattle.read_listing.specs.Listing.{next_value, value_opened, value_from, value_in_opened, value_at}
 use Rattle.read_find.specs.Find.{Manner}
-use Rattle.read_listing.specs.Children.{childAt, openList, atFragment, childNamed, childOf, childFrom, childOfSought, childInOpened, nextChild}
+use Rattle.read_listing.specs.Children.{child_at, open_list, at_fragment, child_named, child_of, child_from, child_of_sought, child_in_opened, next_child}
 
 -- ---- a pointer whose table opens
 
@@ -27,19 +27,19 @@ unfoldable pub OpenedFits : ℕ → ℕ → ℕ → Opened → Type 0
 OpenedFits size start end (Opened.Table t) = (start ≤ end) × (end ≤ size)
 OpenedFits size start end (Opened.Refused why) = Unit
 
-pointed-fits : (size start end : ℕ) (o : Opened) → (start ≤ end) × (end ≤ size) → OpenedFits size start end o
+pointed_fits : (size start end : ℕ) (o : Opened) → (start ≤ end) × (end ≤ size) → OpenedFits size start end o
 unfolding OpenedFits
-pointed-fits size start end (Opened.Table t) h = h
-pointed-fits size start end (Opened.Refused why) h = tt
+pointed_fits size start end (Opened.Table t) h = h
+pointed_fits size start end (Opened.Refused why) h = tt
 
-pub opened-fits : (file : List ℕ) (start end : ℕ) → OpenedFits (length file) start end (openTable file start end)
-unfolding openTable OpenedFits
-opened-fits file start end =
-    pick-with (OpenedFits (length file) start end) _ _ _ (λ _. tt) (λ _. by-pointer (openPointer (length file) start end 4) refl)
+pub opened_fits : (file : List ℕ) (start end : ℕ) → OpenedFits (length file) start end (open_table file start end)
+unfolding open_table OpenedFits
+opened_fits file start end =
+    pick_with (OpenedFits (length file) start end) _ _ _ (λ _. tt) (λ _. by_pointer (open_pointer (length file) start end 4) refl)
   where
-    by-pointer : (p : Pointed) → openPointer (length file) start end 4 ≡ p → OpenedFits (length file) start end (whereInside p (tableIn file start end))
-    by-pointer Pointed.Inside e = pointed-fits (length file) start end (tableIn file start end) (pointer-inside _ _ _ _ e)
-    by-pointer (Pointed.Refused why) e = tt
+    by_pointer : (p : Pointed) → open_pointer (length file) start end 4 ≡ p → OpenedFits (length file) start end (where_inside p (table_in file start end))
+    by_pointer Pointed.Inside e = pointed_fits (length file) start end (table_in file start end) (pointer_inside _ _ _ _ e)
+    by_pointer (Pointed.Refused why) e = tt
 
 -- ---- lookup
 
@@ -47,35 +47,35 @@ unfoldable pub LookedFits : List ℕ → Looked → Type 0
 LookedFits file (Looked.Pointer start end) = (start ≤ end) × (end ≤ length file)
 LookedFits file (Looked.Refused why) = Unit
 
-value-fits : (file : List ℕ) (item : Item) → LookedFits file (value_of file item)
+value_fits : (file : List ℕ) (item : Item) → LookedFits file (value_of file item)
 unfolding value_of at_pointer LookedFits
-value-fits file item = pick-with (LookedFits file) _ _ _ (λ _. by-pointer (openPointer (length file) item.from item.to 8) refl) (λ _. tt)
+value_fits file item = pick_with (LookedFits file) _ _ _ (λ _. by_pointer (open_pointer (length file) item.from item.to 8) refl) (λ _. tt)
   where
-    by-pointer : (p : Pointed) → openPointer (length file) item.from item.to 8 ≡ p → LookedFits file (at_pointer p item)
-    by-pointer Pointed.Inside e = pointer-inside _ _ _ _ e
-    by-pointer (Pointed.Refused why) e = tt
+    by_pointer : (p : Pointed) → open_pointer (length file) item.from item.to 8 ≡ p → LookedFits file (at_pointer p item)
+    by_pointer Pointed.Inside e = pointer_inside _ _ _ _ e
+    by_pointer (Pointed.Refused why) e = tt
 
-nested-fits : (file : List ℕ) (item : Item) → LookedFits file (nestedOf file item)
-unfolding nestedOf atNested LookedFits OpenedFits
-nested-fits file item =
-    pick-with (LookedFits file) _ _ _ (λ _. by-table (openTable file item.from item.to) (opened-fits file item.from item.to)) (λ _. tt)
+nested_fits : (file : List ℕ) (item : Item) → LookedFits file (nested_of file item)
+unfolding nested_of at_nested LookedFits OpenedFits
+nested_fits file item =
+    pick_with (LookedFits file) _ _ _ (λ _. by_table (open_table file item.from item.to) (opened_fits file item.from item.to)) (λ _. tt)
   where
-    by-table : (o : Opened) → OpenedFits (length file) item.from item.to o → LookedFits file (atNested o item)
-    by-table (Opened.Table t) h = h
-    by-table (Opened.Refused why) h = tt
+    by_table : (o : Opened) → OpenedFits (length file) item.from item.to o → LookedFits file (at_nested o item)
+    by_table (Opened.Table t) h = h
+    by_table (Opened.Refused why) h = tt
 
-at-item-fits : (file : List ℕ) (s : Sought) (of : Item → Looked) → ((item : Item) → LookedFits file (of item)) → LookedFits file (atItem s of)
-unfolding atItem LookedFits
-at-item-fits file (Sought.Item item) of fits = fits item
-at-item-fits file (Sought.Refused why) of fits = tt
+at_item_fits : (file : List ℕ) (s : Sought) (of : Item → Looked) → ((item : Item) → LookedFits file (of item)) → LookedFits file (at_item s of)
+unfolding at_item LookedFits
+at_item_fits file (Sought.Item item) of fits = fits item
+at_item_fits file (Sought.Refused why) of fits = tt
 
-pub value-looked-fits : (manner : Manner) (file : List ℕ) (start end : ℕ) (key : List ℕ) → LookedFits file (lookupValue manner file start end key)
-unfolding lookupValue
-value-looked-fits manner file start end key = at-item-fits file _ _ (λ item. value-fits file item)
+pub value_looked_fits : (manner : Manner) (file : List ℕ) (start end : ℕ) (key : List ℕ) → LookedFits file (lookup_value manner file start end key)
+unfolding lookup_value
+value_looked_fits manner file start end key = at_item_fits file _ _ (λ item. value_fits file item)
 
-pub table-looked-fits : (manner : Manner) (file : List ℕ) (start end : ℕ) (key : List ℕ) → LookedFits file (lookupTable manner file start end key)
-unfolding lookupTable
-table-looked-fits manner file start end key = at-item-fits file _ _ (λ item. nested-fits file item)
+pub table_looked_fits : (manner : Manner) (file : List ℕ) (start end : ℕ) (key : List ℕ) → LookedFits file (lookup_table manner file start end key)
+unfolding lookup_table
+table_looked_fits manner file start end key = at_item_fits file _ _ (λ item. nested_fits file item)
 
 -- ---- value listing
 
@@ -84,22 +84,22 @@ ValuedFits file (Valued.Value index start end next) = (start ≤ end) × (end �
 ValuedFits file (Valued.Unopened why index next) = Unit
 ValuedFits file (Valued.Refused why) = Unit
 
-value-from-fits : (file : List ℕ) (t : Table) (index : ℕ) → ValuedFits file (valueFrom file t index)
-unfolding valueFrom valueOpened ValuedFits
-value-from-fits file t index = pick-with (ValuedFits file) _ _ _ (λ _. tt) (λ _. by-pointer (openPointer (length file) (item_at file t index).from (item_at file t index).to 8) refl)
+value_from_fits : (file : List ℕ) (t : Table) (index : ℕ) → ValuedFits file (value_from file t index)
+unfolding value_from value_opened ValuedFits
+value_from_fits file t index = pick_with (ValuedFits file) _ _ _ (λ _. tt) (λ _. by_pointer (open_pointer (length file) (item_at file t index).from (item_at file t index).to 8) refl)
   where
-    by-pointer : (p : Pointed) → openPointer (length file) (item_at file t index).from (item_at file t index).to 8 ≡ p
-        → ValuedFits file (valueOpened p index (item_at file t index))
-    by-pointer Pointed.Inside e = pointer-inside _ _ _ _ e
-    by-pointer (Pointed.Refused why) e = tt
+    by_pointer : (p : Pointed) → open_pointer (length file) (item_at file t index).from (item_at file t index).to 8 ≡ p
+        → ValuedFits file (value_opened p index (item_at file t index))
+    by_pointer Pointed.Inside e = pointer_inside _ _ _ _ e
+    by_pointer (Pointed.Refused why) e = tt
 
 pub valued_fits : (file : List ℕ) (start end at : ℕ) → ValuedFits file (value_at file start end at)
-unfolding value_at valueInOpened ValuedFits
-valued_fits file start end at = by-table (openTable file start end)
+unfolding value_at value_in_opened ValuedFits
+valued_fits file start end at = by_table (open_table file start end)
   where
-    by-table : (o : Opened) → ValuedFits file (valueInOpened file at o)
-    by-table (Opened.Table t) = value-from-fits file t (nextValue file t at)
-    by-table (Opened.Refused why) = tt
+    by_table : (o : Opened) → ValuedFits file (value_in_opened file at o)
+    by_table (Opened.Table t) = value_from_fits file t (next_value file t at)
+    by_table (Opened.Refused why) = tt
 
 -- ---- children of a container
 
@@ -107,30 +107,30 @@ unfoldable pub ChildedFits : List ℕ → Childed → Type 0
 ChildedFits file (Childed.Child index kind start end next) = (start ≤ end) × (end ≤ length file)
 ChildedFits file (Childed.Refused why) = Unit
 
-child-of-fits : (file : List ℕ) (t : Table) (index at : ℕ) → ChildedFits file (childOf file t index at)
-unfolding childOf childNamed atFragment ChildedFits
-child-of-fits file t index at =
+child_of_fits : (file : List ℕ) (t : Table) (index at : ℕ) → ChildedFits file (child_of file t index at)
+unfolding child_of child_named at_fragment ChildedFits
+child_of_fits file t index at =
     let P = ChildedFits file in
-    pick-with P _ _ _ (λ _. tt) (λ _. pick-with P _ _ _
-    (λ _. by-pointer (openPointer (length file) (item_at file t index).key ((item_at file t index).key + (item_at file t index).size) 1) refl) (λ _. tt))
+    pick_with P _ _ _ (λ _. tt) (λ _. pick_with P _ _ _
+    (λ _. by_pointer (open_pointer (length file) (item_at file t index).key ((item_at file t index).key + (item_at file t index).size) 1) refl) (λ _. tt))
   where
-    by-pointer : (p : Pointed) → openPointer (length file) (item_at file t index).key ((item_at file t index).key + (item_at file t index).size) 1 ≡ p
-        → ChildedFits file (atFragment p file index (item_at file t index) at)
-    by-pointer Pointed.Inside e = pick-with (ChildedFits file) _ _ _ (λ _. pointer-inside _ _ _ _ e) (λ _. tt)
-    by-pointer (Pointed.Refused why) e = tt
+    by_pointer : (p : Pointed) → open_pointer (length file) (item_at file t index).key ((item_at file t index).key + (item_at file t index).size) 1 ≡ p
+        → ChildedFits file (at_fragment p file index (item_at file t index) at)
+    by_pointer Pointed.Inside e = pick_with (ChildedFits file) _ _ _ (λ _. pointer_inside _ _ _ _ e) (λ _. tt)
+    by_pointer (Pointed.Refused why) e = tt
 
-pub childed-fits : (manner : Manner) (file : List ℕ) (start end : ℕ) (key : List ℕ) (at : ℕ) → ChildedFits file (nextChild manner file start end key at)
-unfolding nextChild childInOpened childOfSought childFrom ChildedFits
-childed-fits manner file start end key at = by-table (openTable file start end)
+pub childed_fits : (manner : Manner) (file : List ℕ) (start end : ℕ) (key : List ℕ) (at : ℕ) → ChildedFits file (next_child manner file start end key at)
+unfolding next_child child_in_opened child_of_sought child_from ChildedFits
+childed_fits manner file start end key at = by_table (open_table file start end)
   where
-    by-list : (t : Table) (item : Item) (p : Pointed) → ChildedFits file (childFrom p file t item at)
-    by-list t item Pointed.Inside = pick-with (ChildedFits file) _ _ _ (λ _. child-of-fits file t (childAt file item.from at) at) (λ _. tt)
-    by-list t item (Pointed.Refused why) = tt
+    by_list : (t : Table) (item : Item) (p : Pointed) → ChildedFits file (child_from p file t item at)
+    by_list t item Pointed.Inside = pick_with (ChildedFits file) _ _ _ (λ _. child_of_fits file t (child_at file item.from at) at) (λ _. tt)
+    by_list t item (Pointed.Refused why) = tt
 
-    by-item : (t : Table) (s : Sought) → ChildedFits file (childOfSought s file t at)
-    by-item t (Sought.Item item) = by-list t item (openList file item)
-    by-item t (Sought.Refused why) = tt
+    by_item : (t : Table) (s : Sought) → ChildedFits file (child_of_sought s file t at)
+    by_item t (Sought.Item item) = by_list t item (open_list file item)
+    by_item t (Sought.Refused why) = tt
 
-    by-table : (o : Opened) → ChildedFits file (childInOpened manner file key at o)
-    by-table (Opened.Table t) = by-item t (lookupIn manner file key t)
-    by-table (Opened.Refused why) = tt
+    by_table : (o : Opened) → ChildedFits file (child_in_opened manner file key at o)
+    by_table (Opened.Table t) = by_item t (lookup_in manner file key t)
+    by_table (Opened.Refused why) = tt

@@ -7,17 +7,17 @@ use native.Mathlib.Omega.{arith}
 use lib.ListN.{length, take, drop}
 use borrow.Author.Tests.{lt-ltb, ne_eqb}
 use Rattle.words.specs.Choice.{pick}
-use Rattle.key_hash.specs.Hash.{hashBy}
+use Rattle.key_hash.specs.Hash.{hash_by}
 use Rattle.words.proofs.ChoiceLaws.{pick_same}
-use Rattle.text.specs.Utf8.{isUtf8}
+use Rattle.text.specs.Utf8.{is_utf8}
 use Rattle.layout.specs.declared.refusal.Refusal.{Refusal}
 use Rattle.layout.specs.declared.refusal.Refusal.TheVariants.{ParentsEndless}
 use Rattle.layout.specs.declared.pointer.Pointed.{Pointed}
 use Rattle.layout.specs.declared.table.Opened.{Opened}
 use Rattle.layout.specs.declared.table.Table.{Table}
 use Rattle.layout.specs.declared.item.Item.{Item}
-use Rattle.layout.specs.Pointer.{openPointer}
-use Rattle.layout.specs.Table.{openTable, InFile}
+use Rattle.layout.specs.Pointer.{open_pointer}
+use Rattle.layout.specs.Table.{open_table, InFile}
 use Rattle.layout.specs.Item.{item_at, no_item}
 use Rattle.read_chain.specs.declared.chain.Step.{Step}
 use Rattle.read_find.specs.declared.find.Run.{Run}
@@ -27,66 +27,66 @@ use Rattle.read_listing.specs.declared.listing.Cursor.{Cursor}
 use Rattle.read_listing.specs.declared.listing.Listed.{Listed}
 use Rattle.read_listing.specs.declared.listing.Valued.{Valued}
 use Rattle.read_listing.specs.declared.children.Childed.{Childed}
-use Rattle.read_chain.specs.Chain.{fragmentOf, parentOf, climbFrom, Joined, append, joinStep, key_of, names}
-use Rattle.read_find.specs.Find.{Manner, bloomPasses, run_of, itemMatches, findItem}
-use Rattle.read.specs.Lookup.{lookupValue, lookupTable}
-use Rattle.read_listing.specs.Answer.{listedNumber}
-use Rattle.read_listing.specs.Listing.{keyIn, keyOpened, key_at, listed, written, nextValue, value_at}
-use Rattle.read_listing.specs.Children.{nextChild}
-use Rattle.read_chain.proofs.ChainLaws.{climb-on, joined-names}
-use Rattle.read_find.proofs.FindLaws.{FindSays, find-says, match-true, match-false}
-use Rattle.read_listing.proofs.LookupLaws.{LookedFits, value-looked-fits, table-looked-fits, ValuedFits, valued_fits, ChildedFits, childed-fits}
-use Rattle.read.proofs.SoughtLaws.{Placed, value-answers, table-answers}
-use Rattle.read_listing.proofs.ListingLaws.{in-range, key-in-range, front, refused-keeps, NextSays, next-says}
+use Rattle.read_chain.specs.Chain.{fragment_of, parent_of, climb_from, Joined, append, join_step, key_of, names}
+use Rattle.read_find.specs.Find.{Manner, bloom_passes, run_of, item_matches, find_item}
+use Rattle.read.specs.Lookup.{lookup_value, lookup_table}
+use Rattle.read_listing.specs.Answer.{listed_number}
+use Rattle.read_listing.specs.Listing.{key_in, key_opened, key_at, listed, written, next_value, value_at}
+use Rattle.read_listing.specs.Children.{next_child}
+use Rattle.read_chain.proofs.ChainLaws.{climb_on, joined-names}
+use Rattle.read_find.proofs.FindLaws.{FindSays, find_says, match_true, match_false}
+use Rattle.read_listing.proofs.LookupLaws.{LookedFits, value_looked_fits, table_looked_fits, ValuedFits, valued_fits, ChildedFits, childed_fits}
+use Rattle.read.proofs.SoughtLaws.{Placed, value_answers, table_answers}
+use Rattle.read_listing.proofs.ListingLaws.{in_range, key_in_range, front, refused_keeps, NextSays, next_says}
 
 -- ---- lookup
 
 -- an item of the table with the key's hash, whose chain joins the key, of a kind and with a pointer
 pub record Named (manner : Manner) (file : List ℕ) (t : Table) (key : List ℕ) (i kind from to : ℕ) : Type 0 where
   pub below : i < t.count
-  pub hashed : (item_at file t i).hash ≡ hashBy manner.byte key
+  pub hashed : (item_at file t i).hash ≡ hash_by manner.byte key
   pub joins : key_of file t t.count i ≡ Joined.joined key
   pub kinded : (item_at file t i).kind ≡ kind
   pub starts : (item_at file t i).from ≡ from
   pub ends : (item_at file t i).to ≡ to
 
 -- the run of the key's bucket
-abbrev pub runFor : Manner → List ℕ → Table → List ℕ → Run
-runFor manner file t key = run_of file t (hashBy manner.byte key % t.buckets)
+abbrev pub run_for : Manner → List ℕ → Table → List ℕ → Run
+run_for manner file t key = run_of file t (hash_by manner.byte key % t.buckets)
 
 module _ (manner : Manner) (file : List ℕ) (t : Table) (key : List ℕ) where
   -- what is found is an item of the table, has the key's hash, and its chain joins the key
-  pub found-names : (i : ℕ) → findItem manner file t key ≡ Found.At i
-      → (i < t.count) × ((item_at file t i).hash ≡ hashBy manner.byte key) × (key_of file t t.count i ≡ Joined.joined key)
+  pub found_names : (i : ℕ) → find_item manner file t key ≡ Found.At i
+      → (i < t.count) × ((item_at file t i).hash ≡ hash_by manner.byte key) × (key_of file t t.count i ≡ Joined.joined key)
   unfolding FindSays
-  found-names i e =
-      let says = subst (FindSays manner file t key (runFor manner file t key)) e (find-says manner file t key) in
-      let named = match-true manner file t key i says.3 in
+  found_names i e =
+      let says = subst (FindSays manner file t key (run_for manner file t key)) e (find_says manner file t key) in
+      let named = match_true manner file t key i says.3 in
       (says.0, named.0, named.1)
 
   -- it lies in the run of the key's bucket, and no item before it in the run has the hash and joins the key
-  pub found_first : (i : ℕ) → findItem manner file t key ≡ Found.At i
-      → ((runFor manner file t key).first ≤ i) × (i < (runFor manner file t key).last)
-      × ((k : ℕ) → (runFor manner file t key).first ≤ k → k < i
-      → (item_at file t k).hash ≡ hashBy manner.byte key → key_of file t t.count k ≡ Joined.joined key → ⊥)
+  pub found_first : (i : ℕ) → find_item manner file t key ≡ Found.At i
+      → ((run_for manner file t key).first ≤ i) × (i < (run_for manner file t key).last)
+      × ((k : ℕ) → (run_for manner file t key).first ≤ k → k < i
+      → (item_at file t k).hash ≡ hash_by manner.byte key → key_of file t t.count k ≡ Joined.joined key → ⊥)
   unfolding FindSays
   found_first i e =
-      let says = subst (FindSays manner file t key (runFor manner file t key)) e (find-says manner file t key) in
-      (says.1, says.2, λ k l h. match-false manner file t key k (says.4 k l h))
+      let says = subst (FindSays manner file t key (run_for manner file t key)) e (find_says manner file t key) in
+      (says.1, says.2, λ k l h. match_false manner file t key k (says.4 k l h))
 
   -- what is not found has no item in its run that has the hash and joins the key
-  pub not_found : findItem manner file t key ≡ Found.Nothing → (t.buckets ≡ 0 → ⊥) → bloomPasses manner.shift file t (hashBy manner.byte key) ≡ true
-      → (i : ℕ) → (runFor manner file t key).first ≤ i → i < (runFor manner file t key).last → i < t.count
-      → (item_at file t i).hash ≡ hashBy manner.byte key → key_of file t t.count i ≡ Joined.joined key → ⊥
+  pub not_found : find_item manner file t key ≡ Found.Nothing → (t.buckets ≡ 0 → ⊥) → bloom_passes manner.shift file t (hash_by manner.byte key) ≡ true
+      → (i : ℕ) → (run_for manner file t key).first ≤ i → i < (run_for manner file t key).last → i < t.count
+      → (item_at file t i).hash ≡ hash_by manner.byte key → key_of file t t.count i ≡ Joined.joined key → ⊥
   unfolding FindSays
   not_found e some passes i from to below =
-      let says = subst (FindSays manner file t key (runFor manner file t key)) e (find-says manner file t key) in
-      match-false manner file t key i (says some passes i from to below)
+      let says = subst (FindSays manner file t key (run_for manner file t key)) e (find_says manner file t key) in
+      match_false manner file t key i (says some passes i from to below)
 
-named : (manner : Manner) (file : List ℕ) (t : Table) (key : List ℕ) (i : ℕ) {item : Item} {kind from to : ℕ} → findItem manner file t key ≡ Found.At i
+named : (manner : Manner) (file : List ℕ) (t : Table) (key : List ℕ) (i : ℕ) {item : Item} {kind from to : ℕ} → find_item manner file t key ≡ Found.At i
     → item_at file t i ≡ item → Placed kind item from to → Named manner file t key i kind from to
 named manner file t key i found is placed =
-    let names = found-names manner file t key i found in
+    let names = found_names manner file t key i found in
     record {
       below = names.0;
       hashed = names.1;
@@ -97,107 +97,107 @@ named manner file t key i found is placed =
     }
 
 -- a value that is looked up is that of an item of kind 'v' of the table, with the key's hash, whose chain joins the key
-pub value-named : (manner : Manner) (file : List ℕ) (start end : ℕ) (key : List ℕ) {from to : ℕ} → lookupValue manner file start end key ≡ Looked.Pointer from to
-    → (t : Table) × (i : ℕ) × (openTable file start end ≡ Opened.Table t) × Named manner file t key i 118 from to
-value-named manner file start end key e =
-    let a = value-answers manner file start end key e in
+pub value_named : (manner : Manner) (file : List ℕ) (start end : ℕ) (key : List ℕ) {from to : ℕ} → lookup_value manner file start end key ≡ Looked.Pointer from to
+    → (t : Table) × (i : ℕ) × (open_table file start end ≡ Opened.Table t) × Named manner file t key i 118 from to
+value_named manner file start end key e =
+    let a = value_answers manner file start end key e in
     (a.seeks.table, a.seeks.index, a.seeks.opens, named manner file a.seeks.table key a.seeks.index a.seeks.found a.seeks.is a.placed)
 
 -- a nested table that is looked up is that of an item of kind 'H', in the same way
-pub table-named : (manner : Manner) (file : List ℕ) (start end : ℕ) (key : List ℕ) {from to : ℕ} → lookupTable manner file start end key ≡ Looked.Pointer from to
-    → (t : Table) × (i : ℕ) × (openTable file start end ≡ Opened.Table t) × Named manner file t key i 72 from to
-table-named manner file start end key e =
-    let a = table-answers manner file start end key e in
+pub table_named : (manner : Manner) (file : List ℕ) (start end : ℕ) (key : List ℕ) {from to : ℕ} → lookup_table manner file start end key ≡ Looked.Pointer from to
+    → (t : Table) × (i : ℕ) × (open_table file start end ≡ Opened.Table t) × Named manner file t key i 72 from to
+table_named manner file start end key e =
+    let a = table_answers manner file start end key e in
     (a.seeks.table, a.seeks.index, a.seeks.opens, named manner file a.seeks.table key a.seeks.index a.seeks.found a.seeks.is a.placed)
 
 -- a value that is looked up lies in the file
-pub value-in-file : (manner : Manner) (file : List ℕ) (start end : ℕ) (key : List ℕ) {from to : ℕ} → lookupValue manner file start end key ≡ Looked.Pointer from to
+pub value_in_file : (manner : Manner) (file : List ℕ) (start end : ℕ) (key : List ℕ) {from to : ℕ} → lookup_value manner file start end key ≡ Looked.Pointer from to
     → (from ≤ to) × (to ≤ length file)
 unfolding LookedFits
-value-in-file manner file start end key e = subst (LookedFits file) e (value-looked-fits manner file start end key)
+value_in_file manner file start end key e = subst (LookedFits file) e (value_looked_fits manner file start end key)
 
 -- and so does a nested table
-pub table-in-file : (manner : Manner) (file : List ℕ) (start end : ℕ) (key : List ℕ) {from to : ℕ} → lookupTable manner file start end key ≡ Looked.Pointer from to
+pub table_in_file : (manner : Manner) (file : List ℕ) (start end : ℕ) (key : List ℕ) {from to : ℕ} → lookup_table manner file start end key ≡ Looked.Pointer from to
     → (from ≤ to) × (to ≤ length file)
 unfolding LookedFits
-table-in-file manner file start end key e = subst (LookedFits file) e (table-looked-fits manner file start end key)
+table_in_file manner file start end key e = subst (LookedFits file) e (table_looked_fits manner file start end key)
 
 -- ---- listing
 
 -- a value that is listed lies in the file
-pub listed-value-in-file : (file : List ℕ) (start end at : ℕ) {index from to : ℕ} {next : Cursor} → value_at file start end at ≡ Valued.Value index from to next
+pub listed-value_in_file : (file : List ℕ) (start end at : ℕ) {index from to : ℕ} {next : Cursor} → value_at file start end at ≡ Valued.Value index from to next
     → (from ≤ to) × (to ≤ length file)
 unfolding ValuedFits
-listed-value-in-file file start end at e = subst (ValuedFits file) e (valued_fits file start end at)
+listed-value_in_file file start end at e = subst (ValuedFits file) e (valued_fits file start end at)
 
 -- so does the fragment of a child that is listed
-pub child-in-file : (manner : Manner) (file : List ℕ) (start end : ℕ) (key : List ℕ) (at : ℕ) {index kind from to : ℕ} {next : Cursor}
-    → nextChild manner file start end key at ≡ Childed.Child index kind from to next → (from ≤ to) × (to ≤ length file)
+pub child_in_file : (manner : Manner) (file : List ℕ) (start end : ℕ) (key : List ℕ) (at : ℕ) {index kind from to : ℕ} {next : Cursor}
+    → next_child manner file start end key at ≡ Childed.Child index kind from to next → (from ≤ to) × (to ≤ length file)
 unfolding ChildedFits
-child-in-file manner file start end key at e = subst (ChildedFits file) e (childed-fits manner file start end key at)
+child_in_file manner file start end key at e = subst (ChildedFits file) e (childed_fits manner file start end key at)
 
 -- the item listed is the first of kind 'v' at or after the position; where there is none, no item from there on is of kind 'v'
-pub next-value-first : (file : List ℕ) (t : Table) (at : ℕ) → nextValue file t at < t.count
-    → (at ≤ nextValue file t at) × ((item_at file t (nextValue file t at)).kind ≡ 118) × ((k : ℕ) → at ≤ k → k < nextValue file t at → (item_at file t k).kind ≡ 118 → ⊥)
+pub next_value_first : (file : List ℕ) (t : Table) (at : ℕ) → next_value file t at < t.count
+    → (at ≤ next_value file t at) × ((item_at file t (next_value file t at)).kind ≡ 118) × ((k : ℕ) → at ≤ k → k < next_value file t at → (item_at file t k).kind ≡ 118 → ⊥)
 unfolding NextSays
-next-value-first file t at below =
-    let says = next-says file t at in
+next_value_first file t at below =
+    let says = next_says file t at in
     ((says.0 below).0, (says.0 below).1, λ k l h. says.1 k l h (omega arith))
 
-pub next-value-none : (file : List ℕ) (t : Table) (at : ℕ) → t.count ≤ nextValue file t at → (k : ℕ) → at ≤ k → k < t.count → (item_at file t k).kind ≡ 118 → ⊥
+pub next_value-none : (file : List ℕ) (t : Table) (at : ℕ) → t.count ≤ next_value file t at → (k : ℕ) → at ≤ k → k < t.count → (item_at file t k).kind ≡ 118 → ⊥
 unfolding NextSays
-next-value-none file t at past k from below = (next-says file t at).1 k from (omega arith) below
+next_value-none file t at past k from below = (next_says file t at).1 k from (omega arith) below
 
 -- a key that is listed stands at the front of the buffer, is the key that lookup compares, and leaves all behind it as it was
 module _ (file : List ℕ) (start end at : ℕ) (out : List ℕ) {size : ℕ} {next : Cursor}
     (said : listed (key_at file start end at) (length out) at ≡ Listed.Key size next) where
-  pub listed-key : {t : Table} → openTable file start end ≡ Opened.Table t
+  pub listed_key_lem : {t : Table} → open_table file start end ≡ Opened.Table t
       → (at < t.count) × (key_of file t t.count at ≡ Joined.joined (take size (written (key_at file start end at) out)))
-  unfolding key_at keyOpened
-  listed-key {t} opens =
-      let is : key_at file start end at ≡ keyIn file at t = ap (keyOpened file at) opens in
-      let key : keyIn file at t ≡ Joined.joined (take size (written (key_at file start end at) out)) = sym is ∙ (front _ out _ said).key in
-      let below : at < t.count = key-in-range file at t key in
-      (below, sym (in-range file t at below) ∙ key)
+  unfolding key_at key_opened
+  listed_key_lem {t} opens =
+      let is : key_at file start end at ≡ key_in file at t = ap (key_opened file at) opens in
+      let key : key_in file at t ≡ Joined.joined (take size (written (key_at file start end at) out)) = sym is ∙ (front _ out _ said).key in
+      let below : at < t.count = key_in_range file at t key in
+      (below, sym (in_range file t at below) ∙ key)
 
-  pub listed-key-names : {t : Table} → openTable file start end ≡ Opened.Table t → names (key_of file t t.count at) (take size (written (key_at file start end at) out)) ≡ true
-  listed-key-names opens = joined-names _ _ (listed-key opens).1
+  pub listed_key-names : {t : Table} → open_table file start end ≡ Opened.Table t → names (key_of file t t.count at) (take size (written (key_at file start end at) out)) ≡ true
+  listed_key-names opens = joined-names _ _ (listed_key_lem opens).1
 
-  pub listed-key-rest : drop size (written (key_at file start end at) out) ≡ drop size out
-  listed-key-rest = (front _ out _ said).rest
+  pub listed_key_rest : drop size (written (key_at file start end at) out) ≡ drop size out
+  listed_key_rest = (front _ out _ said).rest
 
-  pub listed-key-next : next.at ≡ at + 1
-  listed-key-next = (front _ out _ said).moved
+  pub listed_key_next : next.at ≡ at + 1
+  listed_key_next = (front _ out _ said).moved
 
 -- a refusal writes nothing
-pub refused-writes-nothing : (file : List ℕ) (start end at : ℕ) (out : List ℕ) {why : Refusal}
+pub refused_writes_nothing : (file : List ℕ) (start end at : ℕ) (out : List ℕ) {why : Refusal}
     → listed (key_at file start end at) (length out) at ≡ Listed.Refused why → written (key_at file start end at) out ≡ out
-refused-writes-nothing file start end at out e = refused-keeps (key_at file start end at) out at e
+refused_writes_nothing file start end at out e = refused_keeps (key_at file start end at) out at e
 
 -- ---- an item whose parent is itself
 
 module _ (file : List ℕ) (t : Table) (i : ℕ) (lies : InFile file t) (below : i < t.count) (own : (item_at file t i).parent ≡ i)
-    (opens : openPointer (length file) (item_at file t i).key ((item_at file t i).key + (item_at file t i).size) 1 ≡ Pointed.Inside)
-    (text : isUtf8 (fragmentOf file (item_at file t i)) ≡ true) where
-  own-step : climbFrom file t.count (item_at file t i) ≡ Step.Up i
-  unfolding parentOf pick
-  own-step =
+    (opens : open_pointer (length file) (item_at file t i).key ((item_at file t i).key + (item_at file t i).size) 1 ≡ Pointed.Inside)
+    (text : is_utf8 (fragment_of file (item_at file t i)) ≡ true) where
+  own_step : climb_from file t.count (item_at file t i) ≡ Step.Up i
+  unfolding parent_of pick
+  own_step =
       let no-root : (i ≡ no_item → ⊥) = λ e. omega (arith, lies.short, lies.items) in
-      climb-on file t.count (item_at file t i) opens text ∙ rw (own, ne_eqb i no_item no-root, lt-ltb i t.count below)
+      climb_on file t.count (item_at file t i) opens text ∙ rw (own, ne_eqb i no_item no-root, lt-ltb i t.count below)
 
   -- its chain never reaches a root, however many steps it is given
-  pub self-parent-ends : (steps : ℕ) → key_of file t steps i ≡ Joined.broken ParentsEndless
-  unfolding key_of joinStep append
-  self-parent-ends zero = refl
-  self-parent-ends (suc steps) = rw (own-step, self-parent-ends steps)
+  pub self_parent_ends : (steps : ℕ) → key_of file t steps i ≡ Joined.broken ParentsEndless
+  unfolding key_of join_step append
+  self_parent_ends zero = refl
+  self_parent_ends (suc steps) = rw (own_step, self_parent_ends steps)
 
   -- listing it is refused with 11
-  pub self-parent-listed : (start end : ℕ) (room : ℕ) → openTable file start end ≡ Opened.Table t
-      → listedNumber (listed (key_at file start end i) room i) ≡ 11
-  unfolding key_at keyOpened listed listedNumber
-  self-parent-listed start end room table = rw (table, in-range file t i below, self-parent-ends t.count)
+  pub self_parent_listed : (start end : ℕ) (room : ℕ) → open_table file start end ≡ Opened.Table t
+      → listed_number (listed (key_at file start end i) room i) ≡ 11
+  unfolding key_at key_opened listed listed_number
+  self_parent_listed start end room table = rw (table, in_range file t i below, self_parent_ends t.count)
 
   -- and it matches no key
-  pub self-parent-no-match : (manner : Manner) (key : List ℕ) → itemMatches manner file t key i ≡ false
-  unfolding itemMatches names
-  self-parent-no-match manner key = rw (self-parent-ends t.count) (pick_same _ false)
+  pub self_parent_no_match : (manner : Manner) (key : List ℕ) → item_matches manner file t key i ≡ false
+  unfolding item_matches names
+  self_parent_no_match manner key = rw (self_parent_ends t.count) (pick_same _ false)

@@ -6,19 +6,19 @@ use mathlib.Core.List.{List, [], ◌∷◌, ◌++◌}
 use Rattle.words.specs.Choice.{pick}
 use Rattle.words.specs.Field.{field}
 use Rattle.words.specs.Field as fields
-use Rattle.words.specs.Bits.{bloomCount, bitSet}
-use Rattle.key_hash.specs.Hash.{hashBy, hashFrom}
-use Rattle.key_order.specs.Compare.{sameBytes}
-use Rattle.text.specs.Utf8.{between, tail, isTwo, startsThree, startsFour, first_of, sequenceLen, stepLen, oneMore, goodFrom, firstBad, isUtf8}
-use Rattle.layout.specs.Pointer.{openPointer}
-use Rattle.layout.specs.Table.{table_of, tableIn, openTable}
+use Rattle.words.specs.Bits.{bloom_count, bit_set}
+use Rattle.key_hash.specs.Hash.{hash_by, hash_from}
+use Rattle.key_order.specs.Compare.{same_bytes}
+use Rattle.text.specs.Utf8.{between, tail, is_two, starts_three, starts_four, first_of, sequence_len, step_len, one_more, good_from, first_bad, is_utf8}
+use Rattle.layout.specs.Pointer.{open_pointer}
+use Rattle.layout.specs.Table.{table_of, table_in, open_table}
 use Rattle.layout.specs.Item.{item_at}
 use Rattle.read.specs.declared.lookup.Looked.{Looked}
-use Rattle.read_chain.specs.Chain.{fragmentOf, parentOf, afterPointer, climbFrom, append, joinStep, key_of, names}
+use Rattle.read_chain.specs.Chain.{fragment_of, parent_of, after_pointer, climb_from, append, join_step, key_of, names}
 use Rattle.read_find.specs.Find as find
-use Rattle.read_find.specs.Find.{rust, bloomPasses, bucketWord, run_of, itemMatches, firstFrom, findItem}
-use Rattle.read.specs.Lookup.{atFound, lookupIn, atOpened, lookupItem, atItem, at_pointer, value_of, lookupValue}
-use Rattle.read.specs.Answer.{lookedNumber}
+use Rattle.read_find.specs.Find.{rust, bloom_passes, bucket_word, run_of, item_matches, first_from, find_item}
+use Rattle.read.specs.Lookup.{at_found, lookup_in, at_opened, lookup_item, at_item, at_pointer, value_of, lookup_value}
+use Rattle.read.specs.Answer.{looked_number}
 
 -- two filter words, 128 and 64; one bucket; "a" (hash 177670) and "A" (hash 177638), values 72 to 73 and 80 to 81
 unfoldable pub filtered : List ℕ
@@ -28,10 +28,10 @@ filtered =
     ++ (0xE6 ∷ 0xB5 ∷ 0x02 ∷ 0 ∷ 255 ∷ 255 ∷ 255 ∷ 255 ∷ 69 ∷ 0 ∷ 0 ∷ 0 ∷ 1 ∷ 0 ∷ 118 ∷ 0 ∷ 80 ∷ 0 ∷ 0 ∷ 0 ∷ 81 ∷ 0 ∷ 0 ∷ 0 ∷ [])
     ++ (97 ∷ 65 ∷ 0 ∷ 0 ∷ 1 ∷ 0 ∷ 0 ∷ 0 ∷ 0 ∷ 0 ∷ 0 ∷ 0 ∷ 2 ∷ [])
 
-pub second_word : lookupValue rust filtered 0 68 (65 ∷ []) ≡ Looked.Pointer 80 81
-unfolding filtered openTable openPointer tableIn table_of bloomCount bitSet field fields.littleEndian pick key_of joinStep append climbFrom afterPointer parentOf fragmentOf isUtf8 firstBad goodFrom oneMore stepLen sequenceLen first_of isTwo startsThree startsFour tail between sameBytes item_at names hashBy hashFrom bloomPasses bucketWord run_of itemMatches firstFrom find.shift_of find.first_of findItem atFound lookupIn atOpened lookupItem atItem at_pointer value_of lookupValue
+pub second_word : lookup_value rust filtered 0 68 (65 ∷ []) ≡ Looked.Pointer 80 81
+unfolding filtered open_table open_pointer table_in table_of bloom_count bit_set field fields.little_endian pick key_of join_step append climb_from after_pointer parent_of fragment_of is_utf8 first_bad good_from one_more step_len sequence_len first_of is_two starts_three starts_four tail between same_bytes item_at names hash_by hash_from bloom_passes bucket_word run_of item_matches first_from find.shift_of find.first_of find_item at_found lookup_in at_opened lookup_item at_item at_pointer value_of lookup_value
 second_word = refl
 
-pub first_word : lookedNumber (lookupValue rust filtered 0 68 (97 ∷ [])) ≡ 12
-unfolding filtered openTable openPointer tableIn table_of bloomCount bitSet field fields.littleEndian pick key_of joinStep append climbFrom afterPointer parentOf fragmentOf isUtf8 firstBad goodFrom oneMore stepLen sequenceLen first_of isTwo startsThree startsFour tail between sameBytes item_at names hashBy hashFrom bloomPasses bucketWord run_of itemMatches firstFrom find.shift_of find.first_of findItem atFound lookupIn atOpened lookupItem atItem at_pointer value_of lookupValue lookedNumber
+pub first_word : looked_number (lookup_value rust filtered 0 68 (97 ∷ [])) ≡ 12
+unfolding filtered open_table open_pointer table_in table_of bloom_count bit_set field fields.little_endian pick key_of join_step append climb_from after_pointer parent_of fragment_of is_utf8 first_bad good_from one_more step_len sequence_len first_of is_two starts_three starts_four tail between same_bytes item_at names hash_by hash_from bloom_passes bucket_word run_of item_matches first_from find.shift_of find.first_of find_item at_found lookup_in at_opened lookup_item at_item at_pointer value_of lookup_value looked_number
 first_word = refl

@@ -9,7 +9,7 @@ use borrow.Author.Tests.{le-ltb}
 use Rattle.words.specs.Choice.{pick}
 use Rattle.words.specs.Store.{put_at}
 use Rattle.words.proofs.ChoiceLaws.{pick_same}
-use Rattle.words.proofs.StoreLaws.{put-none, length-put, put-append, put-comm}
+use Rattle.words.proofs.StoreLaws.{put-none, length-put, put-append, put_comm}
 use Rattle.layout.specs.declared.refusal.Refusal.{Refusal}
 use Rattle.layout.specs.declared.refusal.Refusal.TheVariants.{ParentsEndless}
 use Rattle.layout.specs.declared.table.Table.{Table}
@@ -17,9 +17,9 @@ use Rattle.layout.specs.declared.item.Item.{Item}
 use Rattle.layout.specs.Item.{item_at}
 use Rattle.read_chain.specs.declared.chain.Step.{Step}
 use Rattle.read_listing.specs.declared.listing.Measured.{Measured}
-use Rattle.read_chain.specs.Chain.{Joined, append, joinStep, key_of, climbFrom, parentOf, fragmentOf}
+use Rattle.read_chain.specs.Chain.{Joined, append, join_step, key_of, climb_from, parent_of, fragment_of}
 use Rattle.read_listing.specs.Listing.{measure, written}
-use Rattle.read_chain.proofs.ChainLaws.{Climbs, climb-or, StepFits, climb-fits, key-turn, key-over, fragment-taken, fragment-size}
+use Rattle.read_chain.proofs.ChainLaws.{Climbs, climb_or, StepFits, climb_fits, key_turn, key_over, fragment_taken, fragment_size}
 
 -- ---- one fragment
 
@@ -29,11 +29,11 @@ above Step.Root key_at = Joined.joined []
 above (Step.Up parent) key_at = key_at parent
 above (Step.Refused why) key_at = Joined.broken why
 
-pub joined-above : (s : Step) (f : List ℕ) (key_at : ℕ → Joined) → joinStep s f key_at ≡ append (above s key_at) f
-unfolding joinStep above append
-joined-above Step.Root f key_at = refl
-joined-above (Step.Up parent) f key_at = refl
-joined-above (Step.Refused why) f key_at = refl
+pub joined_above : (s : Step) (f : List ℕ) (key_at : ℕ → Joined) → join_step s f key_at ≡ append (above s key_at) f
+unfolding join_step above append
+joined_above Step.Root f key_at = refl
+joined_above (Step.Up parent) f key_at = refl
+joined_above (Step.Refused why) f key_at = refl
 
 pub size_is : (m n : ℕ) → Measured.Size m ≡ Measured.Size n → m ≡ n
 size_is m n e = cc
@@ -48,7 +48,7 @@ written-tail k f out l =
     let left : length k ≤ length (put_at out (length k) f) = omega arith in
     let right : length (k ++ f) ≤ length out = omega arith in
     let joined : put_at out 0 (k ++ f) ≡ put_at (put_at out 0 k) (length k) f = put-append out 0 k f ∙ ap (λ (n : ℕ). put_at (put_at out 0 k) n f) (zero-add (length k)) in
-    rw (le-ltb _ _ left, le-ltb _ _ right) (sym (joined ∙ put-comm out 0 k (length k) f (omega arith)))
+    rw (le-ltb _ _ left, le-ltb _ _ right) (sym (joined ∙ put_comm out 0 k (length k) f (omega arith)))
 
 -- writing a fragment behind the rest of its key leaves the rest to write
 record Behind (j : Joined) (f out : List ℕ) (end : ℕ) : Type 0 where
@@ -89,66 +89,66 @@ module _ (file : List ℕ) (t : Table) (index : ℕ) (out₀ : List ℕ) where
 
   module _ {at end left : ℕ} {out : List ℕ} (w : Writing file t index out₀ at end left out) where
     -- a key that is measured has a root
-    pub write-over : left ≤ 0 → out ≡ written (key_of file t t.count index) out₀
+    pub write_over : left ≤ 0 → out ≡ written (key_of file t t.count index) out₀
     unfolding measure
-    write-over h =
-        let z : Measured.Refused ParentsEndless ≡ Measured.Size end = sym (ap measure (key-over file t left at h)) ∙ w.sized in
+    write_over h =
+        let z : Measured.Refused ParentsEndless ≡ Measured.Size end = sym (ap measure (key_over file t left at h)) ∙ w.sized in
         cc
 
     module _ (h : 0 < left) {item : Item} (is : item ≡ item_at file t at) where
       -- and no item on its way is refused
-      climbs : Climbs file t.count item (climbFrom file t.count item)
-      unfolding measure joinStep
-      climbs = climb-or file t.count item (λ why e.
-          let z : Measured.Refused why ≡ Measured.Size end = sym (ap measure (key-turn file t left at item _ h is e)) ∙ w.sized in
+      climbs : Climbs file t.count item (climb_from file t.count item)
+      unfolding measure join_step
+      climbs = climb_or file t.count item (λ why e.
+          let z : Measured.Refused why ≡ Measured.Size end = sym (ap measure (key_turn file t left at item _ h is e)) ∙ w.sized in
           let y : ◌≡◌ {A = ℕ} 0 1 = cc in omega arith)
 
-      key-is : key_of file t left at ≡ append (above (parentOf t.count item.parent) (λ parent. key_of file t (left - 1) parent)) (fragmentOf file item)
-      key-is = key-turn file t left at item _ h is climbs.is ∙ joined-above _ _ _
+      key_is : key_of file t left at ≡ append (above (parent_of t.count item.parent) (λ parent. key_of file t (left - 1) parent)) (fragment_of file item)
+      key_is = key_turn file t left at item _ h is climbs.is ∙ joined_above _ _ _
 
-      turned : Behind (above (parentOf t.count item.parent) (λ parent. key_of file t (left - 1) parent)) (fragmentOf file item) out end
-      turned = behind _ _ _ _ (sym (ap measure key-is) ∙ w.sized) w.room
+      turned : Behind (above (parent_of t.count item.parent) (λ parent. key_of file t (left - 1) parent)) (fragment_of file item) out end
+      turned = behind _ _ _ _ (sym (ap measure key_is) ∙ w.sized) w.room
 
       -- the offset and the size of the fragment, as the code has them
       module _ {start size : ℕ} (s : start ≡ item.key) (z : size ≡ item.size) where
-        pub write-inside : start + size ≤ length file
-        write-inside = omega (arith, climbs.inside)
+        pub write_inside : start + size ≤ length file
+        write_inside = omega (arith, climbs.inside)
 
-        taken : take (start + size - start) (drop start file) ≡ fragmentOf file item
-        taken = fragment-taken file item s z
+        taken : take (start + size - start) (drop start file) ≡ fragment_of file item
+        taken = fragment_taken file item s z
 
-        taken-size : length (fragmentOf file item) ≡ size
-        taken-size = fragment-size file item climbs.inside ∙ sym z
+        taken_size : length (fragment_of file item) ≡ size
+        taken_size = fragment_size file item climbs.inside ∙ sym z
 
-        pub write-fits : size ≤ end
-        write-fits = omega (arith, turned.shorter, taken-size)
+        pub write_fits : size ≤ end
+        write_fits = omega (arith, turned.shorter, taken_size)
 
-        pub write-room : end - size + length (take (start + size - start) (drop start file)) ≤ length out
-        write-room = rw taken (omega (arith, write-fits, taken-size, w.room))
+        pub write_room : end - size + length (take (start + size - start) (drop start file)) ≤ length out
+        write_room = rw taken (omega (arith, write_fits, taken_size, w.room))
 
-        put_same : written (above (parentOf t.count item.parent) (λ parent. key_of file t (left - 1) parent)) (put_at out (end - size) (take (start + size - start) (drop start file)))
+        put_same : written (above (parent_of t.count item.parent) (λ parent. key_of file t (left - 1) parent)) (put_at out (end - size) (take (start + size - start) (drop start file)))
             ≡ written (key_of file t t.count index) out₀
         put_same =
-            rw (taken, ← taken-size) (turned.same ∙ sym (ap (λ (j : Joined). written j out) key-is) ∙ w.same)
+            rw (taken, ← taken_size) (turned.same ∙ sym (ap (λ (j : Joined). written j out) key_is) ∙ w.same)
 
-        pub write_root : parentOf t.count item.parent ≡ Step.Root
+        pub write_root : parent_of t.count item.parent ≡ Step.Root
             → put_at out (end - size) (take (start + size - start) (drop start file)) ≡ written (key_of file t t.count index) out₀
         unfolding above
         write_root e = sym (written_none _) ∙ rw e at put_same
 
-        pub write-refused : {why : Refusal} → parentOf t.count item.parent ≡ Step.Refused why
+        pub write-refused : {why : Refusal} → parent_of t.count item.parent ≡ Step.Refused why
             → put_at out (end - size) (take (start + size - start) (drop start file)) ≡ written (key_of file t t.count index) out₀
         unfolding above measure
-        write-refused {why} e = let z : Measured.Refused why ≡ Measured.Size (end - length (fragmentOf file item)) = rw e at turned.sized in cc
+        write-refused {why} e = let z : Measured.Refused why ≡ Measured.Size (end - length (fragment_of file item)) = rw e at turned.sized in cc
 
-        pub write_up : {parent : ℕ} → parentOf t.count item.parent ≡ Step.Up parent
+        pub write_up : {parent : ℕ} → parent_of t.count item.parent ≡ Step.Up parent
             → Writing file t index out₀ parent (end - size) (left - 1) (put_at out (end - size) (take (start + size - start) (drop start file)))
         unfolding above StepFits
         write_up {parent} e =
             let long : length (put_at out (end - size) (take (start + size - start) (drop start file))) ≡ length out = length-put out (end - size) _ in
             record {
-              below = (subst (StepFits file t.count item) (climbs.is ∙ e) (climb-fits file t.count item)).1;
-              sized = rw (e, taken-size) at turned.sized;
+              below = (subst (StepFits file t.count item) (climbs.is ∙ e) (climb_fits file t.count item)).1;
+              sized = rw (e, taken_size) at turned.sized;
               room = omega (arith, w.room);
               long = long ∙ w.long;
               same = rw e at put_same;

@@ -1,11 +1,11 @@
 -- What the two forms have in common: for a key of ASCII bytes both lookups, and the listing of children, answer alike on every file.
 use Rattle.std.specs.Prelude.{ℕ, ◌≡◌, true, List}
 use Rattle.key_hash.specs.Hash.{signed}
-use Rattle.text.specs.Ascii.{isAscii}
+use Rattle.text.specs.Ascii.{is_ascii}
 use Rattle.read_find.specs.declared.manner.Lookup.{Lookup}
 use Rattle.read_find.specs.Find.{Manner, shift_of, rust}
-use Rattle.read.specs.Lookup.{lookupValue, lookupTable}
-use Rattle.read_listing.specs.Children.{nextChild}
+use Rattle.read.specs.Lookup.{lookup_value, lookup_table}
+use Rattle.read_listing.specs.Children.{next_child}
 
 -- GLib's: bytes count -128 to 127, and nothing is shifted
 abbrev pub glib : Manner
@@ -14,7 +14,7 @@ glib = record { byte = signed; shift = shift_of Lookup.Rust }
 -- the statement
 abbrev pub AsciiLookups : Type 0
 AsciiLookups =
-    (file : List ℕ) (start end : ℕ) (key : List ℕ) → isAscii key ≡ true
-    → (lookupValue glib file start end key ≡ lookupValue rust file start end key)
-    × (lookupTable glib file start end key ≡ lookupTable rust file start end key)
-    × ((at : ℕ) → nextChild glib file start end key at ≡ nextChild rust file start end key at)
+    (file : List ℕ) (start end : ℕ) (key : List ℕ) → is_ascii key ≡ true
+    → (lookup_value glib file start end key ≡ lookup_value rust file start end key)
+    × (lookup_table glib file start end key ≡ lookup_table rust file start end key)
+    × ((at : ℕ) → next_child glib file start end key at ≡ next_child rust file start end key at)

@@ -9,9 +9,9 @@ use Rattle.layout.specs.declared.pointer.Pointed.{Pointed}
 use Rattle.layout.specs.declared.table.Opened.{Opened}
 use Rattle.layout.specs.declared.table.Table.{Table}
 use Rattle.layout.specs.declared.item.Item.{Item}
-use Rattle.layout.specs.Kind.{kindByte}
-use Rattle.layout.specs.Pointer.{openPointer}
-use Rattle.layout.specs.Table.{openTable}
+use Rattle.layout.specs.Kind.{kind_byte}
+use Rattle.layout.specs.Pointer.{open_pointer}
+use Rattle.layout.specs.Table.{open_table}
 use Rattle.layout.specs.Item.{item_at}
 use Rattle.read_listing.specs.declared.listing.Measured.{Measured}
 use Rattle.read_listing.specs.declared.listing.Listed.{Listed}
@@ -24,16 +24,16 @@ measure (Joined.joined k) = Measured.Size (length k)
 measure (Joined.broken why) = Measured.Refused why
 
 -- the key at a position of an open table: 15 past the last item
-unfoldable pub keyIn : List ℕ → ℕ → Table → Joined
-keyIn file at t = pick (leb t.count at) (Joined.broken PastTheLast) (key_of file t t.count at)
+unfoldable pub key_in : List ℕ → ℕ → Table → Joined
+key_in file at t = pick (leb t.count at) (Joined.broken PastTheLast) (key_of file t t.count at)
 
-unfoldable pub keyOpened : List ℕ → ℕ → Opened → Joined
-keyOpened file at (Opened.Table t) = keyIn file at t
-keyOpened file at (Opened.Refused why) = Joined.broken why
+unfoldable pub key_opened : List ℕ → ℕ → Opened → Joined
+key_opened file at (Opened.Table t) = key_in file at t
+key_opened file at (Opened.Refused why) = Joined.broken why
 
 -- the key at a position of the table at a pointer
 unfoldable pub key_at : List ℕ → ℕ → ℕ → ℕ → Joined
-key_at file start end at = keyOpened file at (openTable file start end)
+key_at file start end at = key_opened file at (open_table file start end)
 
 -- the answer: 14 where the room is too small, else the key's length and the next position
 unfoldable pub listed : Joined → ℕ → ℕ → Listed
@@ -49,27 +49,27 @@ written (Joined.broken why) out = out
 -- the first of so many positions whose item is of kind 'v', or the item count
 unfoldable pub next_of : List ℕ → Table → ℕ → ℕ → ℕ
 next_of file t zero at = t.count
-next_of file t (suc more) at = pick (eqb (item_at file t at).kind (kindByte Kind.Value)) at (next_of file t more (at + 1))
+next_of file t (suc more) at = pick (eqb (item_at file t at).kind (kind_byte Kind.Value)) at (next_of file t more (at + 1))
 
 -- the first item of kind 'v' at or after a position
-unfoldable pub nextValue : List ℕ → Table → ℕ → ℕ
-nextValue file t at = next_of file t (t.count - at) at
+unfoldable pub next_value : List ℕ → Table → ℕ → ℕ
+next_value file t at = next_of file t (t.count - at) at
 
 -- with 2 or 3 the index and the next position are told too
-unfoldable pub valueOpened : Pointed → ℕ → Item → Valued
-valueOpened Pointed.Inside index item = Valued.Value index item.from item.to (record { at = index + 1 })
-valueOpened (Pointed.Refused why) index item = Valued.Unopened why index (record { at = index + 1 })
+unfoldable pub value_opened : Pointed → ℕ → Item → Valued
+value_opened Pointed.Inside index item = Valued.Value index item.from item.to (record { at = index + 1 })
+value_opened (Pointed.Refused why) index item = Valued.Unopened why index (record { at = index + 1 })
 
 -- the value of the item at an index: 15 past the last item, then 2 or 3 of its pointer, whose alignment is 8
-unfoldable pub valueFrom : List ℕ → Table → ℕ → Valued
-valueFrom file t index =
+unfoldable pub value_from : List ℕ → Table → ℕ → Valued
+value_from file t index =
     pick (leb t.count index) (Valued.Refused PastTheLast)
-    (valueOpened (openPointer (length file) (item_at file t index).from (item_at file t index).to 8) index (item_at file t index))
+    (value_opened (open_pointer (length file) (item_at file t index).from (item_at file t index).to 8) index (item_at file t index))
 
-unfoldable pub valueInOpened : List ℕ → ℕ → Opened → Valued
-valueInOpened file at (Opened.Table t) = valueFrom file t (nextValue file t at)
-valueInOpened file at (Opened.Refused why) = Valued.Refused why
+unfoldable pub value_in_opened : List ℕ → ℕ → Opened → Valued
+value_in_opened file at (Opened.Table t) = value_from file t (next_value file t at)
+value_in_opened file at (Opened.Refused why) = Valued.Refused why
 
 -- the first value at or after a position of the table at a pointer
 unfoldable pub value_at : List ℕ → ℕ → ℕ → ℕ → Valued
-value_at file start end at = valueInOpened file at (openTable file start end)
+value_at file start end at = value_in_opened file at (open_table file start end)

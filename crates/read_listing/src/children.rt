@@ -1,9 +1,9 @@
 // The children of a container, in stored order: a cursor by value that comes back moved on, as in the other listings.
 ghost use Rattle.std.specs.Prelude.{◌≡◌, ◌≤◌, ◌<◌, length};
-ghost use Rattle.layout.specs.Limits.{longestFile};
+ghost use Rattle.layout.specs.Limits.{longest_file};
 ghost use Rattle.layout.specs.Table.{InFile};
-ghost use Rattle.read_find.specs.Find.{mannerOf};
-ghost use Rattle.read_listing.specs.Children.{childCount, openList, childNamed, childOf, childFrom, childInOpened, nextChild};
+ghost use Rattle.read_find.specs.Find.{manner_of};
+ghost use Rattle.read_listing.specs.Children.{child_count, open_list, child_named, child_of, child_from, child_in_opened, next_child};
 
 use crate::listing::Cursor;
 use layout::item::{Item, item_at};
@@ -34,14 +34,14 @@ pub enum Childed {
 // How many children a container lists.
 pub fn child_count(item: Item) -> usize
     requires { item.from ≤ item.to }
-    ensures { result ≡ childCount item }
+    ensures { result ≡ child_count item }
 {
     (word_size(item.to) - word_size(item.from)) / 4
 }
 
 // Whether an item is a container whose list opens: 13, 2 or 3 of its value pointer, 13 for a length that is not divisible by 4.
 fn open_list(file: &[u8], item: Item) -> Pointed
-    ensures { result ≡ openList file.now item }
+    ensures { result ≡ open_list file.now item }
 {
     if item.kind != CONTAINER_BYTE {
         return Pointed::Refused(Refusal::OtherKind);
@@ -62,8 +62,8 @@ fn open_list(file: &[u8], item: Item) -> Pointed
 
 // A child of which only the fragment is left to judge: 2, or 9 with the offset in it.
 fn child_named(file: &[u8], index: usize, child: Item, at: usize) -> Childed
-    requires { (length file.now ≤ longestFile) × (at < 4294967296) }
-    ensures { result ≡ childNamed file.now index child at }
+    requires { (length file.now ≤ longest_file) × (at < 4294967296) }
+    ensures { result ≡ child_named file.now index child at }
 {
     let start = word_size(child.key);
     let end = start + half_size(child.size);
@@ -88,7 +88,7 @@ fn child_named(file: &[u8], index: usize, child: Item, at: usize) -> Childed
 // The child with an index, listed at a position: 10, 13, then its fragment.
 fn child_of(file: &[u8], table: Table, index: usize, at: usize) -> Childed
     requires { InFile file.now table × (at < 4294967296) }
-    ensures { result ≡ childOf file.now table index at }
+    ensures { result ≡ child_of file.now table index at }
 {
     if table.count <= index {
         return Childed::Refused(Refusal::ParentOutside);
@@ -103,7 +103,7 @@ fn child_of(file: &[u8], table: Table, index: usize, at: usize) -> Childed
 // The child at a position of an item: what its list refuses, 15, then the child.
 fn child_from(file: &[u8], table: Table, item: Item, at: usize) -> Childed
     requires { InFile file.now table }
-    ensures { result ≡ childFrom (openList file.now item) file.now table item at }
+    ensures { result ≡ child_from (open_list file.now item) file.now table item at }
 {
     match open_list(file, item) {
         Pointed::Refused(why) => Childed::Refused(why),
@@ -121,7 +121,7 @@ fn child_from(file: &[u8], table: Table, item: Item, at: usize) -> Childed
 // The same of the container under a key, in an open table: 8, 12, then the container.
 fn child_in(file: &[u8], table: Table, key: &[u8], at: usize, manner: Manner) -> Childed
     requires { InFile file.now table }
-    ensures { result ≡ childInOpened (mannerOf manner) file.now key.now at (Opened.Table table) }
+    ensures { result ≡ child_in_opened (manner_of manner) file.now key.now at (Opened.Table table) }
 {
     match lookup_in(file, table, key, manner) {
         Sought::Refused(why) => Childed::Refused(why),
@@ -139,7 +139,7 @@ impl Cursor {
         key: &[u8],
         manner: Manner,
     ) -> Childed
-        ensures { result ≡ nextChild (mannerOf manner) file.now start end key.now self.at }
+        ensures { result ≡ next_child (manner_of manner) file.now start end key.now self.at }
     {
         match open_table(file, start, end) {
             Opened::Refused(why) => Childed::Refused(why),

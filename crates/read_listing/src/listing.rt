@@ -2,7 +2,7 @@
 ghost use Rattle.std.specs.Prelude.{◌≡◌, ◌≤◌, ◌<◌, length};
 ghost use Rattle.layout.specs.Table.{InFile};
 ghost use Rattle.read_chain.specs.Chain.{key_of};
-ghost use Rattle.read_listing.specs.Listing.{measure, written, listed, keyIn, key_at, nextValue, valueFrom, value_at};
+ghost use Rattle.read_listing.specs.Listing.{measure, written, listed, key_in, key_at, next_value, value_from, value_at};
 
 use layout::item::{item_at, open_value};
 use layout::kind::VALUE_BYTE;
@@ -115,8 +115,8 @@ fn write_key(file: &[u8], table: Table, index: usize, size: usize, out: &mut [u8
 // The key at a position of an open table: 15, then 2, 9, 10, 11, then 14.
 fn key_at(file: &[u8], table: Table, at: usize, out: &mut [u8]) -> Listed
     requires { InFile file.now table }
-    ensures said { result ≡ listed (keyIn file.now at table) (length out.old) at }
-    ensures wrote { out.new ≡ written (keyIn file.now at table) out.old }
+    ensures said { result ≡ listed (key_in file.now at table) (length out.old) at }
+    ensures wrote { out.new ≡ written (key_in file.now at table) out.old }
 {
     if table.count <= at {
         return Listed::Refused(Refusal::PastTheLast);
@@ -139,7 +139,7 @@ fn key_at(file: &[u8], table: Table, at: usize, out: &mut [u8]) -> Listed
 // The index of the first item of kind 'v' at or after a position, or the item count.
 fn next_value_index(file: &[u8], table: Table, from: usize) -> usize
     requires { InFile file.now table }
-    ensures { result ≡ nextValue file.now table from }
+    ensures { result ≡ next_value file.now table from }
 {
     let count = table.count;
     let mut at = from;
@@ -160,7 +160,7 @@ fn next_value_index(file: &[u8], table: Table, from: usize) -> usize
 // The value of the item at an index: 15, then 2 or 3 of its pointer.
 fn value_from(file: &[u8], table: Table, index: usize) -> Valued
     requires { InFile file.now table }
-    ensures { result ≡ valueFrom file.now table index }
+    ensures { result ≡ value_from file.now table index }
 {
     if table.count <= index {
         return Valued::Refused(Refusal::PastTheLast);

@@ -1,6 +1,6 @@
 -- Texts of ASCII bytes.
 use Rattle.std.specs.Prelude.{ℕ, Bool, true, ◌&&◌, List, [], ◌∷◌, leb}
 
-unfoldable pub isAscii : List ℕ → Bool
-isAscii [] = true
-isAscii (b ∷ s) = leb b 0x7F && isAscii s
+unfoldable pub is_ascii : List ℕ → Bool
+is_ascii [] = true
+is_ascii (b ∷ s) = leb b 0x7F && is_ascii s

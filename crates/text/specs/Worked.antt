@@ -1,9 +1,9 @@
 -- The ranges of RFC 3629, section 4, from both sides: their first and last sequences, and the nearest that are none.
 use Rattle.std.specs.Prelude.{ℕ, ◌≡◌, refl, Bool, true, false, List, [], ◌∷◌, map}
-use Rattle.text.specs.Utf8.{between, tail, isTwo, startsThree, startsFour, first_of, sequenceLen, stepLen, oneMore, goodFrom, firstBad, isUtf8}
+use Rattle.text.specs.Utf8.{between, tail, is_two, starts_three, starts_four, first_of, sequence_len, step_len, one_more, good_from, first_bad, is_utf8}
 
-abbrev pub wellFormed : List (List ℕ)
-wellFormed =
+abbrev pub well_formed : List (List ℕ)
+well_formed =
     -- one byte, two
     []
     ∷ (0x00 ∷ [])
@@ -28,8 +28,8 @@ wellFormed =
     ∷ (0xF4 ∷ 0x8F ∷ 0xBF ∷ 0xBF ∷ [])
     ∷ []
 
-abbrev pub illFormed : List (List ℕ)
-illFormed =
+abbrev pub ill_formed : List (List ℕ)
+ill_formed =
     -- a first byte that is none
     (0x80 ∷ [])
     ∷ (0xBF ∷ [])
@@ -68,24 +68,24 @@ illFormed =
     ∷ []
 
 abbrev pub All : Bool → List (List ℕ) → Type 0
-All is texts = map isUtf8 texts ≡ map (λ (text : List ℕ). is) texts
+All is texts = map is_utf8 texts ≡ map (λ (text : List ℕ). is) texts
 
-pub all-allowed : All true wellFormed
-unfolding between tail isTwo startsThree startsFour first_of sequenceLen stepLen oneMore goodFrom firstBad isUtf8
-all-allowed = refl
+pub all_allowed : All true well_formed
+unfolding between tail is_two starts_three starts_four first_of sequence_len step_len one_more good_from first_bad is_utf8
+all_allowed = refl
 
-pub none_allowed : All false illFormed
-unfolding between tail isTwo startsThree startsFour first_of sequenceLen stepLen oneMore goodFrom firstBad isUtf8
+pub none_allowed : All false ill_formed
+unfolding between tail is_two starts_three starts_four first_of sequence_len step_len one_more good_from first_bad is_utf8
 none_allowed = refl
 
 -- the offset of the first bad sequence is where it starts: "é", "a", and the half of an "é"
-pub where-bad : firstBad (0xC3 ∷ 0xA9 ∷ 0x61 ∷ 0xC3 ∷ []) ≡ 3
-unfolding between tail isTwo startsThree startsFour first_of sequenceLen stepLen oneMore goodFrom firstBad isUtf8
-where-bad = refl
+pub where_bad : first_bad (0xC3 ∷ 0xA9 ∷ 0x61 ∷ 0xC3 ∷ []) ≡ 3
+unfolding between tail is_two starts_three starts_four first_of sequence_len step_len one_more good_from first_bad is_utf8
+where_bad = refl
 
 -- a Latin-1 "é" at the end, at the start, a cut character, a surrogate, a cut "🌍", an overlong zero, a byte that begins none
-abbrev pub badTexts : List (List ℕ)
-badTexts =
+abbrev pub bad_texts : List (List ℕ)
+bad_texts =
     (0x63 ∷ 0x61 ∷ 0x66 ∷ 0xE9 ∷ [])
     ∷ (0xE9 ∷ 0x74 ∷ 0xE9 ∷ [])
     ∷ (0x61 ∷ 0xC3 ∷ [])
@@ -95,6 +95,6 @@ badTexts =
     ∷ (0xC3 ∷ 0xA9 ∷ 0xFF ∷ [])
     ∷ []
 
-pub where-each-bad : map firstBad badTexts ≡ (3 ∷ 0 ∷ 1 ∷ 0 ∷ 0 ∷ 2 ∷ 2 ∷ [])
-unfolding between tail isTwo startsThree startsFour first_of sequenceLen stepLen oneMore goodFrom firstBad isUtf8
-where-each-bad = refl
+pub where_each_bad : map first_bad bad_texts ≡ (3 ∷ 0 ∷ 1 ∷ 0 ∷ 0 ∷ 2 ∷ 2 ∷ [])
+unfolding between tail is_two starts_three starts_four first_of sequence_len step_len one_more good_from first_bad is_utf8
+where_each_bad = refl

@@ -2,14 +2,14 @@
 // bytes that were tested before.
 ghost use Rattle.std.specs.Prelude.{◌≡◌, ◌+◌, ◌≤◌, length};
 ghost use Rattle.words.specs.Store.{part};
-ghost use Rattle.text.specs.Ascii.{isAscii};
+ghost use Rattle.text.specs.Ascii.{is_ascii};
 
 use words::field::{half_at, long_at, word_at};
 
 // Whether the eight bytes from `at` on are ASCII: in the number that they spell, the highest bit of each byte is clear.
 fn is_ascii_at(s: &[u8], at: usize) -> bool
     requires { at + 8 ≤ length s.now }
-    ensures { result ≡ isAscii (part s.now at 8) }
+    ensures { result ≡ is_ascii (part s.now at 8) }
 {
     long_at(s, at) & 0x8080_8080_8080_8080 == 0
 }
@@ -17,7 +17,7 @@ fn is_ascii_at(s: &[u8], at: usize) -> bool
 // Whether a text of eight bytes or more is ASCII.
 fn is_ascii_long(s: &[u8]) -> bool
     requires { 8 ≤ length s.now }
-    ensures { result ≡ isAscii s.now }
+    ensures { result ≡ is_ascii s.now }
 {
     let last = s.len() - 8;
     let mut i = 0;
@@ -33,7 +33,7 @@ fn is_ascii_long(s: &[u8]) -> bool
 // The same, of four to eight: by its first four bytes and its last four.
 fn is_ascii_words(s: &[u8]) -> bool
     requires { (4 ≤ length s.now) × (length s.now ≤ 8) }
-    ensures { result ≡ isAscii s.now }
+    ensures { result ≡ is_ascii s.now }
 {
     let last = s.len() - 4;
     (word_at(s, 0) & 0x8080_8080 == 0) & (word_at(s, last) & 0x8080_8080 == 0)
@@ -42,7 +42,7 @@ fn is_ascii_words(s: &[u8]) -> bool
 // The same, of two to four.
 fn is_ascii_halves(s: &[u8]) -> bool
     requires { (2 ≤ length s.now) × (length s.now ≤ 4) }
-    ensures { result ≡ isAscii s.now }
+    ensures { result ≡ is_ascii s.now }
 {
     let last = s.len() - 2;
     (half_at(s, 0) & 0x8080 == 0) & (half_at(s, last) & 0x8080 == 0)
@@ -50,7 +50,7 @@ fn is_ascii_halves(s: &[u8]) -> bool
 
 // Whether a text is ASCII, byte by byte.
 fn is_ascii_few(s: &[u8]) -> bool
-    ensures { result ≡ isAscii s.now }
+    ensures { result ≡ is_ascii s.now }
 {
     let mut i = 0;
     while i < s.len() {
@@ -64,7 +64,7 @@ fn is_ascii_few(s: &[u8]) -> bool
 
 // Whether a text is ASCII.
 pub fn is_ascii(s: &[u8]) -> bool
-    ensures { result ≡ isAscii s.now }
+    ensures { result ≡ is_ascii s.now }
 {
     if 8 <= s.len() {
         return is_ascii_long(s);

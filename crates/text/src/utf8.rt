@@ -1,6 +1,6 @@
 // UTF-8 as RFC 3629, section 4, has it.
 ghost use Rattle.std.specs.Prelude.{◌≡◌, ◌<◌, length, get_or, drop};
-ghost use Rattle.text.specs.Utf8.{between, tail, startsThree, startsFour, sequenceLen, stepLen, firstBad, isUtf8, startsWhole};
+ghost use Rattle.text.specs.Utf8.{between, tail, starts_three, starts_four, sequence_len, step_len, first_bad, is_utf8, starts_whole};
 
 use crate::ascii::is_ascii;
 
@@ -18,7 +18,7 @@ fn is_tail(b: u8) -> bool
 
 // The first two bytes of UTF8-3.
 fn starts_three(b0: u8, b1: u8) -> bool
-    ensures { result ≡ startsThree b0 b1 }
+    ensures { result ≡ starts_three b0 b1 }
 {
     ((b0 == 0xE0) & is_between(0xA0, 0xBF, b1))
         | ((is_between(0xE1, 0xEC, b0) & is_tail(b1))
@@ -28,7 +28,7 @@ fn starts_three(b0: u8, b1: u8) -> bool
 
 // The first two bytes of UTF8-4.
 fn starts_four(b0: u8, b1: u8) -> bool
-    ensures { result ≡ startsFour b0 b1 }
+    ensures { result ≡ starts_four b0 b1 }
 {
     ((b0 == 0xF0) & is_between(0x90, 0xBF, b1))
         | ((is_between(0xF1, 0xF3, b0) & is_tail(b1)) | ((b0 == 0xF4) & is_between(0x80, 0x8F, b1)))
@@ -36,7 +36,7 @@ fn starts_four(b0: u8, b1: u8) -> bool
 
 // How many of four bytes are one character, or 0.
 fn sequence_len(b0: u8, b1: u8, b2: u8, b3: u8) -> usize
-    ensures { result ≡ sequenceLen b0 b1 b2 b3 }
+    ensures { result ≡ sequence_len b0 b1 b2 b3 }
 {
     if b0 <= 0x7F {
         return 1;
@@ -66,7 +66,7 @@ fn byte_or_zero(s: &[u8], at: usize) -> u8
 // The length of the character that starts at a position, or 0 where none does.
 fn step_len(s: &[u8], at: usize) -> usize
     requires { at < length s.now }
-    ensures { result ≡ stepLen (drop at s.now) }
+    ensures { result ≡ step_len (drop at s.now) }
 {
     let b0 = s[at];
     if b0 <= 0x7F {
@@ -80,7 +80,7 @@ fn step_len(s: &[u8], at: usize) -> usize
 
 // Where the first sequence that RFC 3629 does not allow starts, or the length of a valid text: sequence by sequence.
 fn scan(s: &[u8]) -> usize
-    ensures { result ≡ firstBad s.now }
+    ensures { result ≡ first_bad s.now }
 {
     let mut at = 0;
     while at < s.len() {
@@ -95,7 +95,7 @@ fn scan(s: &[u8]) -> usize
 
 // The same; most texts are ASCII, which takes less time to tell.
 pub fn first_bad(s: &[u8]) -> usize
-    ensures { result ≡ firstBad s.now }
+    ensures { result ≡ first_bad s.now }
 {
     if is_ascii(s) {
         return s.len();
@@ -105,7 +105,7 @@ pub fn first_bad(s: &[u8]) -> usize
 
 // Whether a text is UTF-8.
 pub fn is_utf8(s: &[u8]) -> bool
-    ensures { result ≡ isUtf8 s.now }
+    ensures { result ≡ is_utf8 s.now }
 {
     if is_ascii(s) {
         return true;
@@ -115,7 +115,7 @@ pub fn is_utf8(s: &[u8]) -> bool
 
 // Whether no character is cut where a slice starts: it is empty, or its first byte is no tail byte.
 pub fn starts_whole(s: &[u8]) -> bool
-    ensures { result ≡ startsWhole s.now }
+    ensures { result ≡ starts_whole s.now }
 {
     !is_tail(byte_or_zero(s, 0))
 }

@@ -7,31 +7,31 @@ use lib.ListN.{length, take, drop}
 use denote.Ref.{Bor}
 use Rattle.words.specs.Choice.{pick}
 use Rattle.read_find.specs.declared.manner.Manner as code
-use Rattle.read_find.specs.Find.{Manner, mannerOf}
-use Rattle.words.proofs.ChoiceLaws.{pick-with}
+use Rattle.read_find.specs.Find.{Manner, manner_of}
+use Rattle.words.proofs.ChoiceLaws.{pick_with}
 use Rattle.layout.specs.declared.refusal.Refusal.{Refusal}
 use Rattle.layout.specs.declared.refusal.Refusal.TheVariants.{TableTooShort}
 use Rattle.layout.specs.declared.table.Opened.{Opened}
 use Rattle.layout.specs.declared.table.Table.{Table}
 use Rattle.layout.specs.declared.item.Item.{Item}
-use Rattle.layout.specs.Table.{openTable, tableIn}
-use Rattle.layout.specs.Pointer.{openPointer}
+use Rattle.layout.specs.Table.{open_table, table_in}
+use Rattle.layout.specs.Pointer.{open_pointer}
 use Rattle.read.specs.declared.lookup.Looked.{Looked}
 use Rattle.read.specs.declared.lookup.Sought.{Sought}
 use Rattle.read_listing.specs.declared.listing.Valued.{Valued}
 use Rattle.read_listing.specs.declared.listing.Cursor.{Cursor}
 use Rattle.read_listing.specs.declared.children.Childed.{Childed}
-use Rattle.read.specs.Lookup.{lookupItem, lookupTable, atItem, nestedOf, atNested}
-use Rattle.read_listing.proofs.Plain.{value-in-file, listed-value-in-file, child-in-file}
+use Rattle.read.specs.Lookup.{lookup_item, lookup_table, at_item, nested_of, at_nested}
+use Rattle.read_listing.proofs.Plain.{value_in_file, listed-value_in_file, child_in_file}
 use Rattle.view.specs.declared.table.TableView.{TableView}
 use Rattle.view.specs.declared.table.OpenedView.{OpenedView}
 use Rattle.view.specs.declared.table.ValueView.{ValueView}
 use Rattle.view.specs.declared.table.NestedView.{NestedView}
 use Rattle.view.specs.declared.table.ListedView.{ListedView}
 use Rattle.view.specs.declared.table.ChildView.{ChildView}
-use Rattle.view_part.specs.Part.{Viewed, Stretch, pointerStart, pointerEnd, listedStart, listedEnd, childStart, childEnd, openedPointer, openedFile, nestedFile}
+use Rattle.view_part.specs.Part.{Viewed, Stretch, pointer_start, pointer_end, listed_start, listed_end, child_start, child_end, opened_pointer, opened_file, nested_file}
 use Rattle.view.specs.Views.{OpenedOf, ValueOf, NestedOf, ListedOf, ChildOf}
-use Rattle.view_part.proofs.PartLaws.{stretch-same, stretch-out, viewed-same}
+use Rattle.view_part.proofs.PartLaws.{stretch_same, stretch_out, viewed_same}
 
 -- the view `table` of the lent file: the whole file, the pointer from start to end, and the manner
 pub record Whole (file : Bor (List ℕ)) (table : TableView) (start end : ℕ) (manner : code.Manner) : Type 0 where
@@ -48,105 +48,105 @@ pub record Empty (file : Bor (List ℕ)) (table : TableView) : Type 0 where
 
 -- no bytes of a file are its first none
 none : (file r : Bor (List ℕ)) (start end : ℕ) → start ≡ 0 → end ≡ 0 → Stretch file start end r → Viewed file r 0 []
-none file r start end s e viewed = stretch-out file r 0 0 (omega arith) (omega arith) (stretch-same file r 0 0 start end s e viewed)
+none file r start end s e viewed = stretch_out file r 0 0 (omega arith) (omega arith) (stretch_same file r 0 0 start end s e viewed)
 
 -- the bytes of a pointer that lies in the file
 seen : (file r : Bor (List ℕ)) (start end from to : ℕ) → start ≡ from → end ≡ to → (from ≤ to) × (to ≤ length file.now) → Stretch file start end r
     → Viewed file r from (take (to - from) (drop from file.now))
-seen file r start end from to s e within viewed = stretch-out file r from to within.0 within.1 (stretch-same file r from to start end s e viewed)
+seen file r start end from to s e within viewed = stretch_out file r from to within.0 within.1 (stretch_same file r from to start end s e viewed)
 
 -- as a table it opens with 4
-pub empty-refused : (file : Bor (List ℕ)) (table : TableView) → Empty file table → openTable table.file.now table.start table.end ≡ Opened.Refused TableTooShort
-unfolding openTable openPointer tableIn pick
-empty-refused file table empty = rw (empty.seen.holds, empty.starts, empty.ends)
+pub empty_refused : (file : Bor (List ℕ)) (table : TableView) → Empty file table → open_table table.file.now table.start table.end ≡ Opened.Refused TableTooShort
+unfolding open_table open_pointer table_in pick
+empty_refused file table empty = rw (empty.seen.holds, empty.starts, empty.ends)
 
 module _ (t : TableView) (key : List ℕ) (r : ValueView) (said : ValueOf t key r) where
-  pub value-seen : {from to : ℕ} → r.answer ≡ Looked.Pointer from to → Viewed t.file r.bytes from (take (to - from) (drop from t.file.now))
-  value-seen {from} {to} e =
-      seen _ _ _ _ from to (ap pointerStart e) (ap pointerEnd e) (value-in-file (mannerOf t.manner) t.file.now t.start t.end key (sym said.answered ∙ e)) said.viewed
+  pub value_seen : {from to : ℕ} → r.answer ≡ Looked.Pointer from to → Viewed t.file r.bytes from (take (to - from) (drop from t.file.now))
+  value_seen {from} {to} e =
+      seen _ _ _ _ from to (ap pointer_start e) (ap pointer_end e) (value_in_file (manner_of t.manner) t.file.now t.start t.end key (sym said.answered ∙ e)) said.viewed
 
   pub value-refused : {why : Refusal} → r.answer ≡ Looked.Refused why → Viewed t.file r.bytes 0 []
-  value-refused e = none _ _ _ _ (ap pointerStart e) (ap pointerEnd e) said.viewed
+  value-refused e = none _ _ _ _ (ap pointer_start e) (ap pointer_end e) said.viewed
 
 module _ (t : TableView) (at : ℕ) (r : ListedView) (said : ListedOf t at r) where
-  pub listed-seen : {index from to : ℕ} {next : Cursor} → r.answer ≡ Valued.Value index from to next
+  pub listed_seen : {index from to : ℕ} {next : Cursor} → r.answer ≡ Valued.Value index from to next
       → Viewed t.file r.bytes from (take (to - from) (drop from t.file.now))
-  listed-seen {from = from} {to = to} e =
-      seen _ _ _ _ from to (ap listedStart e) (ap listedEnd e) (listed-value-in-file t.file.now t.start t.end at (sym said.answered ∙ e)) said.viewed
+  listed_seen {from = from} {to = to} e =
+      seen _ _ _ _ from to (ap listed_start e) (ap listed_end e) (listed-value_in_file t.file.now t.start t.end at (sym said.answered ∙ e)) said.viewed
 
-  pub listed-unopened : {why : Refusal} {index : ℕ} {next : Cursor} → r.answer ≡ Valued.Unopened why index next → Viewed t.file r.bytes 0 []
-  listed-unopened e = none _ _ _ _ (ap listedStart e) (ap listedEnd e) said.viewed
+  pub listed_unopened : {why : Refusal} {index : ℕ} {next : Cursor} → r.answer ≡ Valued.Unopened why index next → Viewed t.file r.bytes 0 []
+  listed_unopened e = none _ _ _ _ (ap listed_start e) (ap listed_end e) said.viewed
 
   pub listed-refused : {why : Refusal} → r.answer ≡ Valued.Refused why → Viewed t.file r.bytes 0 []
-  listed-refused e = none _ _ _ _ (ap listedStart e) (ap listedEnd e) said.viewed
+  listed-refused e = none _ _ _ _ (ap listed_start e) (ap listed_end e) said.viewed
 
 module _ (t : TableView) (key : List ℕ) (at : ℕ) (r : ChildView) (said : ChildOf t key at r) where
-  pub child-seen : {index kind from to : ℕ} {next : Cursor} → r.answer ≡ Childed.Child index kind from to next
+  pub child_seen : {index kind from to : ℕ} {next : Cursor} → r.answer ≡ Childed.Child index kind from to next
       → Viewed t.file r.fragment from (take (to - from) (drop from t.file.now))
-  child-seen {from = from} {to = to} e =
-      seen _ _ _ _ from to (ap childStart e) (ap childEnd e) (child-in-file _ t.file.now t.start t.end key at (sym said.answered ∙ e)) said.viewed
+  child_seen {from = from} {to = to} e =
+      seen _ _ _ _ from to (ap child_start e) (ap child_end e) (child_in_file _ t.file.now t.start t.end key at (sym said.answered ∙ e)) said.viewed
 
-  pub child-refused : {why : Refusal} → r.answer ≡ Childed.Refused why → Viewed t.file r.fragment 0 []
-  child-refused e = none _ _ _ _ (ap childStart e) (ap childEnd e) said.viewed
+  pub child_refused : {why : Refusal} → r.answer ≡ Childed.Refused why → Viewed t.file r.fragment 0 []
+  child_refused e = none _ _ _ _ (ap child_start e) (ap child_end e) said.viewed
 
 module _ (file : Bor (List ℕ)) (start end : ℕ) (manner : code.Manner) (r : OpenedView) (said : OpenedOf file start end manner r) where
-  pub opened-whole : {table : Table} → r.answer ≡ Opened.Table table → Whole file r.table start end manner
-  opened-whole e = record {
-    seen = viewed-same _ _ _ _ _ _ refl (ap (λ o. openedFile o file.now) e) said.viewed;
-    starts = said.starts ∙ ap (λ o. openedPointer o start) e;
-    ends = said.ends ∙ ap (λ o. openedPointer o end) e;
+  pub opened_whole : {table : Table} → r.answer ≡ Opened.Table table → Whole file r.table start end manner
+  opened_whole e = record {
+    seen = viewed_same _ _ _ _ _ _ refl (ap (λ o. opened_file o file.now) e) said.viewed;
+    starts = said.starts ∙ ap (λ o. opened_pointer o start) e;
+    ends = said.ends ∙ ap (λ o. opened_pointer o end) e;
     manners = said.manners;
   }
 
-  pub opened-empty : {why : Refusal} → r.answer ≡ Opened.Refused why → Empty file r.table
-  opened-empty e = record {
-    seen = viewed-same _ _ _ _ _ _ refl (ap (λ o. openedFile o file.now) e) said.viewed;
-    starts = said.starts ∙ ap (λ o. openedPointer o start) e;
-    ends = said.ends ∙ ap (λ o. openedPointer o end) e;
+  pub opened_empty : {why : Refusal} → r.answer ≡ Opened.Refused why → Empty file r.table
+  opened_empty e = record {
+    seen = viewed_same _ _ _ _ _ _ refl (ap (λ o. opened_file o file.now) e) said.viewed;
+    starts = said.starts ∙ ap (λ o. opened_pointer o start) e;
+    ends = said.ends ∙ ap (λ o. opened_pointer o end) e;
   }
 
 -- a nested table that is looked up opens
-nested-open : (file : List ℕ) (item : Item) {from to : ℕ} → nestedOf file item ≡ Looked.Pointer from to → (table : Table) × (openTable file from to ≡ Opened.Table table)
-unfolding nestedOf atNested
-nested-open file item {from} {to} =
-    let P : Looked → Type 0 = λ l. l ≡ Looked.Pointer from to → (table : Table) × (openTable file from to ≡ Opened.Table table) in
-    pick-with P _ _ _ (λ _. by-opened (openTable file item.from item.to) refl) (λ _ e. let z : ◌≡◌ {A = ℕ} 0 1 = cc in absurd (omega arith))
+nested_open : (file : List ℕ) (item : Item) {from to : ℕ} → nested_of file item ≡ Looked.Pointer from to → (table : Table) × (open_table file from to ≡ Opened.Table table)
+unfolding nested_of at_nested
+nested_open file item {from} {to} =
+    let P : Looked → Type 0 = λ l. l ≡ Looked.Pointer from to → (table : Table) × (open_table file from to ≡ Opened.Table table) in
+    pick_with P _ _ _ (λ _. by_opened (open_table file item.from item.to) refl) (λ _ e. let z : ◌≡◌ {A = ℕ} 0 1 = cc in absurd (omega arith))
   where
-    by-opened : (o : Opened) → openTable file item.from item.to ≡ o → atNested o item ≡ Looked.Pointer from to → (table : Table) × (openTable file from to ≡ Opened.Table table)
-    by-opened (Opened.Table table) opens e =
+    by_opened : (o : Opened) → open_table file item.from item.to ≡ o → at_nested o item ≡ Looked.Pointer from to → (table : Table) × (open_table file from to ≡ Opened.Table table)
+    by_opened (Opened.Table table) opens e =
         let f : item.from ≡ from = cc in
         let g : item.to ≡ to = cc in
-        (table, subst (λ (n : ℕ). openTable file n to ≡ Opened.Table table) f (subst (λ (n : ℕ). openTable file item.from n ≡ Opened.Table table) g opens))
-    by-opened (Opened.Refused why) opens e = let z : ◌≡◌ {A = ℕ} 0 1 = cc in absurd (omega arith)
+        (table, subst (λ (n : ℕ). open_table file n to ≡ Opened.Table table) f (subst (λ (n : ℕ). open_table file item.from n ≡ Opened.Table table) g opens))
+    by_opened (Opened.Refused why) opens e = let z : ◌≡◌ {A = ℕ} 0 1 = cc in absurd (omega arith)
 
-pub table-opens : (manner : Manner) (file : List ℕ) (start end : ℕ) (key : List ℕ) {from to : ℕ} → lookupTable manner file start end key ≡ Looked.Pointer from to
-    → (table : Table) × (openTable file from to ≡ Opened.Table table)
-unfolding lookupTable atItem
-table-opens manner file start end key {from} {to} = by-item (lookupItem manner file start end key)
+pub table_opens : (manner : Manner) (file : List ℕ) (start end : ℕ) (key : List ℕ) {from to : ℕ} → lookup_table manner file start end key ≡ Looked.Pointer from to
+    → (table : Table) × (open_table file from to ≡ Opened.Table table)
+unfolding lookup_table at_item
+table_opens manner file start end key {from} {to} = by_item (lookup_item manner file start end key)
   where
-    by-item : (s : Sought) → atItem s (λ item. nestedOf file item) ≡ Looked.Pointer from to → (table : Table) × (openTable file from to ≡ Opened.Table table)
-    by-item (Sought.Item item) e = nested-open file item e
-    by-item (Sought.Refused why) e = let z : ◌≡◌ {A = ℕ} 0 1 = cc in absurd (omega arith)
+    by_item : (s : Sought) → at_item s (λ item. nested_of file item) ≡ Looked.Pointer from to → (table : Table) × (open_table file from to ≡ Opened.Table table)
+    by_item (Sought.Item item) e = nested_open file item e
+    by_item (Sought.Refused why) e = let z : ◌≡◌ {A = ℕ} 0 1 = cc in absurd (omega arith)
 
 module _ (t : TableView) (key : List ℕ) (r : NestedView) (said : NestedOf t key r) where
-  pub nested-whole : {from to : ℕ} → r.answer ≡ Looked.Pointer from to → Whole t.file r.table from to t.manner
-  nested-whole e = record {
-    seen = viewed-same _ _ _ _ _ _ refl (ap (λ l. nestedFile l t.file.now) e) said.viewed;
-    starts = said.starts ∙ ap pointerStart e;
-    ends = said.ends ∙ ap pointerEnd e;
+  pub nested_whole : {from to : ℕ} → r.answer ≡ Looked.Pointer from to → Whole t.file r.table from to t.manner
+  nested_whole e = record {
+    seen = viewed_same _ _ _ _ _ _ refl (ap (λ l. nested_file l t.file.now) e) said.viewed;
+    starts = said.starts ∙ ap pointer_start e;
+    ends = said.ends ∙ ap pointer_end e;
     manners = said.manners;
   }
 
   -- and the table at the view opens
-  pub nested-opens : {from to : ℕ} → r.answer ≡ Looked.Pointer from to → (table : Table) × (openTable r.table.file.now r.table.start r.table.end ≡ Opened.Table table)
-  nested-opens {from} {to} e =
-      let whole = nested-whole e in
-      let opens = table-opens (mannerOf t.manner) t.file.now t.start t.end key (sym said.answered ∙ e) in
+  pub nested_opens : {from to : ℕ} → r.answer ≡ Looked.Pointer from to → (table : Table) × (open_table r.table.file.now r.table.start r.table.end ≡ Opened.Table table)
+  nested_opens {from} {to} e =
+      let whole = nested_whole e in
+      let opens = table_opens (manner_of t.manner) t.file.now t.start t.end key (sym said.answered ∙ e) in
       (opens.0, rw (whole.seen.holds, whole.starts, whole.ends) opens.1)
 
-  pub nested-empty : {why : Refusal} → r.answer ≡ Looked.Refused why → Empty t.file r.table
-  nested-empty e = record {
-    seen = viewed-same _ _ _ _ _ _ refl (ap (λ l. nestedFile l t.file.now) e) said.viewed;
-    starts = said.starts ∙ ap pointerStart e;
-    ends = said.ends ∙ ap pointerEnd e;
+  pub nested_empty : {why : Refusal} → r.answer ≡ Looked.Refused why → Empty t.file r.table
+  nested_empty e = record {
+    seen = viewed_same _ _ _ _ _ _ refl (ap (λ l. nested_file l t.file.now) e) said.viewed;
+    starts = said.starts ∙ ap pointer_start e;
+    ends = said.ends ∙ ap pointer_end e;
   }

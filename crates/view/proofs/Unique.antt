@@ -5,9 +5,9 @@ use mathlib.Core.Path.{◌≡◌, sym, ap, subst, ◌∙◌}
 use mathlib.Core.List.{List}
 use denote.Ref.{Bor}
 use Rattle.read_find.specs.declared.manner.Manner.{Manner}
-use Rattle.read_find.specs.Find.{mannerOf}
+use Rattle.read_find.specs.Find.{manner_of}
 use Rattle.check_rules.specs.declared.checked.Checked.{Checked}
-use Rattle.check_rules.specs.Rules.{checkTable}
+use Rattle.check_rules.specs.Rules.{check_table}
 use Rattle.layout.specs.declared.table.Opened.{Opened}
 use Rattle.read.specs.declared.lookup.Looked.{Looked}
 use Rattle.read.specs.declared.layered.Layered.{Layered}
@@ -22,7 +22,7 @@ use Rattle.view.specs.declared.table.LayeredView.{LayeredView}
 use Rattle.view.specs.declared.table.NestedView.{NestedView}
 use Rattle.view.specs.declared.table.ListedView.{ListedView}
 use Rattle.view.specs.declared.table.ChildView.{ChildView}
-use Rattle.view_part.specs.Part.{Viewed, ValueIn, ofSource, LayeredIn, ListedIn, ChildIn, OpenedIn, NestedIn, openedPointer, pointerStart, pointerEnd}
+use Rattle.view_part.specs.Part.{Viewed, ValueIn, of_source, LayeredIn, ListedIn, ChildIn, OpenedIn, NestedIn, opened_pointer, pointer_start, pointer_end}
 use Rattle.view.specs.Views.{OpenedOf, ValueOf, LayeredOf, NestedOf, ListedOf, ChildOf, KeyOf}
 
 -- two slices are the same bytes of the same memory
@@ -38,65 +38,65 @@ pub record SameTable (r s : TableView) : Type 0 where
   pub end : r.end ≡ s.end
   pub manner : r.manner ≡ s.manner
 
-pub viewed-unique : (file r s : Bor (List ℕ)) (at : ℕ) (bytes : List ℕ) → Viewed file r at bytes → Viewed file s at bytes → Same r s
-viewed-unique file r s at bytes p q = record {
+pub viewed_unique : (file r s : Bor (List ℕ)) (at : ℕ) (bytes : List ℕ) → Viewed file r at bytes → Viewed file s at bytes → Same r s
+viewed_unique file r s at bytes p q = record {
   block = p.block ∙ sym q.block;
   place = p.place ∙ sym q.place;
   bytes = p.holds ∙ sym q.holds;
 }
 
-pub open-view-unique : (file : Bor (List ℕ)) (start end : ℕ) (manner : Manner) (r s : OpenedView) → OpenedOf file start end manner r → OpenedOf file start end manner s
+pub open_view_unique : (file : Bor (List ℕ)) (start end : ℕ) (manner : Manner) (r s : OpenedView) → OpenedOf file start end manner r → OpenedOf file start end manner s
     → (r.answer ≡ s.answer) × SameTable r.table s.table
-open-view-unique file start end manner r s p q =
+open_view_unique file start end manner r s p q =
     let same : r.answer ≡ s.answer = p.answered ∙ sym q.answered in (
       same,
       record {
-        file = viewed-unique file _ _ _ _ (subst (λ (o : Opened). OpenedIn file o r.table.file) same p.viewed) q.viewed;
-        start = p.starts ∙ ap (λ o. openedPointer o start) same ∙ sym q.starts;
-        end = p.ends ∙ ap (λ o. openedPointer o end) same ∙ sym q.ends;
+        file = viewed_unique file _ _ _ _ (subst (λ (o : Opened). OpenedIn file o r.table.file) same p.viewed) q.viewed;
+        start = p.starts ∙ ap (λ o. opened_pointer o start) same ∙ sym q.starts;
+        end = p.ends ∙ ap (λ o. opened_pointer o end) same ∙ sym q.ends;
         manner = p.manners ∙ sym q.manners;
       },
     )
 
 module _ (t : TableView) where
-  pub value-unique : (key : List ℕ) (r s : ValueView) → ValueOf t key r → ValueOf t key s → (r.answer ≡ s.answer) × Same r.bytes s.bytes
-  value-unique key r s p q =
+  pub value_unique : (key : List ℕ) (r s : ValueView) → ValueOf t key r → ValueOf t key s → (r.answer ≡ s.answer) × Same r.bytes s.bytes
+  value_unique key r s p q =
       let same : r.answer ≡ s.answer = p.answered ∙ sym q.answered in
-      (same, viewed-unique t.file _ _ _ _ (subst (λ (l : Looked). ValueIn t.file l r.bytes) same p.viewed) q.viewed)
+      (same, viewed_unique t.file _ _ _ _ (subst (λ (l : Looked). ValueIn t.file l r.bytes) same p.viewed) q.viewed)
 
-  pub layered-unique : (district : TableView) (key : List ℕ) (r s : LayeredView) → LayeredOf t district key r → LayeredOf t district key s
+  pub layered_unique : (district : TableView) (key : List ℕ) (r s : LayeredView) → LayeredOf t district key r → LayeredOf t district key s
       → (r.answer ≡ s.answer) × (r.from ≡ s.from) × Same r.bytes s.bytes
-  layered-unique district key r s p q =
+  layered_unique district key r s p q =
       let same : marked r.answer r.from ≡ marked s.answer s.from = p.answered ∙ sym q.answered in (
         ap (λ (l : Layered). l.looked) same,
         ap (λ (l : Layered). l.from) same,
-        viewed-unique (ofSource s.from t.file district.file) _ _ _ _ (subst (λ (l : Layered). LayeredIn t.file district.file l r.bytes) same p.viewed) q.viewed,
+        viewed_unique (of_source s.from t.file district.file) _ _ _ _ (subst (λ (l : Layered). LayeredIn t.file district.file l r.bytes) same p.viewed) q.viewed,
       )
 
-  pub nested-unique : (key : List ℕ) (r s : NestedView) → NestedOf t key r → NestedOf t key s → (r.answer ≡ s.answer) × SameTable r.table s.table
-  nested-unique key r s p q =
+  pub nested_unique : (key : List ℕ) (r s : NestedView) → NestedOf t key r → NestedOf t key s → (r.answer ≡ s.answer) × SameTable r.table s.table
+  nested_unique key r s p q =
       let same : r.answer ≡ s.answer = p.answered ∙ sym q.answered in (
         same,
         record {
-          file = viewed-unique t.file _ _ _ _ (subst (λ (l : Looked). NestedIn t.file l r.table.file) same p.viewed) q.viewed;
-          start = p.starts ∙ ap pointerStart same ∙ sym q.starts;
-          end = p.ends ∙ ap pointerEnd same ∙ sym q.ends;
+          file = viewed_unique t.file _ _ _ _ (subst (λ (l : Looked). NestedIn t.file l r.table.file) same p.viewed) q.viewed;
+          start = p.starts ∙ ap pointer_start same ∙ sym q.starts;
+          end = p.ends ∙ ap pointer_end same ∙ sym q.ends;
           manner = p.manners ∙ sym q.manners;
         },
       )
 
-  pub next-value-unique : (at : ℕ) (r s : ListedView) → ListedOf t at r → ListedOf t at s → (r.answer ≡ s.answer) × Same r.bytes s.bytes
-  next-value-unique at r s p q =
+  pub next_value_unique : (at : ℕ) (r s : ListedView) → ListedOf t at r → ListedOf t at s → (r.answer ≡ s.answer) × Same r.bytes s.bytes
+  next_value_unique at r s p q =
       let same : r.answer ≡ s.answer = p.answered ∙ sym q.answered in
-      (same, viewed-unique t.file _ _ _ _ (subst (λ (v : Valued). ListedIn t.file v r.bytes) same p.viewed) q.viewed)
+      (same, viewed_unique t.file _ _ _ _ (subst (λ (v : Valued). ListedIn t.file v r.bytes) same p.viewed) q.viewed)
 
-  pub next-child-unique : (key : List ℕ) (at : ℕ) (r s : ChildView) → ChildOf t key at r → ChildOf t key at s → (r.answer ≡ s.answer) × Same r.fragment s.fragment
-  next-child-unique key at r s p q =
+  pub next_child_unique : (key : List ℕ) (at : ℕ) (r s : ChildView) → ChildOf t key at r → ChildOf t key at s → (r.answer ≡ s.answer) × Same r.fragment s.fragment
+  next_child_unique key at r s p q =
       let same : r.answer ≡ s.answer = p.answered ∙ sym q.answered in
-      (same, viewed-unique t.file _ _ _ _ (subst (λ (c : Childed). ChildIn t.file c r.fragment) same p.viewed) q.viewed)
+      (same, viewed_unique t.file _ _ _ _ (subst (λ (c : Childed). ChildIn t.file c r.fragment) same p.viewed) q.viewed)
 
-  pub next-key-unique : (at : ℕ) (buffer : List ℕ) (r s : Listed) (left right : List ℕ) → KeyOf t at buffer r left → KeyOf t at buffer s right → (r ≡ s) × (left ≡ right)
-  next-key-unique at buffer r s left right p q = (p.answered ∙ sym q.answered, p.wrote ∙ sym q.wrote)
+  pub next_key_unique : (at : ℕ) (buffer : List ℕ) (r s : Listed) (left right : List ℕ) → KeyOf t at buffer r left → KeyOf t at buffer s right → (r ≡ s) × (left ≡ right)
+  next_key_unique at buffer r s left right p q = (p.answered ∙ sym q.answered, p.wrote ∙ sym q.wrote)
 
-  pub check-unique : (r s : Checked) → r ≡ checkTable (mannerOf t.manner) t.file.now t.start t.end → s ≡ checkTable (mannerOf t.manner) t.file.now t.start t.end → r ≡ s
-  check-unique r s p q = p ∙ sym q
+  pub check_unique : (r s : Checked) → r ≡ check_table (manner_of t.manner) t.file.now t.start t.end → s ≡ check_table (manner_of t.manner) t.file.now t.start t.end → r ≡ s
+  check_unique r s p q = p ∙ sym q

@@ -2,12 +2,12 @@
 use Rattle.std.specs.Prelude.{ℕ, ◌≡◌, List, length}
 use Rattle.std.specs.Borrow.{Bor}
 use Rattle.read_find.specs.declared.manner.Manner.{Manner}
-use Rattle.read_find.specs.Find.{mannerOf}
-use Rattle.layout.specs.Table.{openTable}
-use Rattle.read.specs.Lookup.{lookupValue, lookupTable}
-use Rattle.read.specs.Layered.{marked, layeredValue}
+use Rattle.read_find.specs.Find.{manner_of}
+use Rattle.layout.specs.Table.{open_table}
+use Rattle.read.specs.Lookup.{lookup_value, lookup_table}
+use Rattle.read.specs.Layered.{marked, layered_value}
 use Rattle.read_listing.specs.Listing.{value_at, key_at, listed, written}
-use Rattle.read_listing.specs.Children.{nextChild}
+use Rattle.read_listing.specs.Children.{next_child}
 use Rattle.read_listing.specs.declared.listing.Listed.{Listed}
 use Rattle.view.specs.declared.table.TableView.{TableView}
 use Rattle.view.specs.declared.table.OpenedView.{OpenedView}
@@ -16,32 +16,32 @@ use Rattle.view.specs.declared.table.LayeredView.{LayeredView}
 use Rattle.view.specs.declared.table.NestedView.{NestedView}
 use Rattle.view.specs.declared.table.ListedView.{ListedView}
 use Rattle.view.specs.declared.table.ChildView.{ChildView}
-use Rattle.view_part.specs.Part.{ValueIn, ofSource, ListedIn, ChildIn, OpenedIn, NestedIn, openedPointer, pointerStart, pointerEnd}
+use Rattle.view_part.specs.Part.{ValueIn, of_source, ListedIn, ChildIn, OpenedIn, NestedIn, opened_pointer, pointer_start, pointer_end}
 
 -- an opening of a file at a pointer, to be read in a manner
 pub record OpenedOf (file : Bor (List ℕ)) (start end : ℕ) (manner : Manner) (r : OpenedView) : Type 0 where
-  pub answered : r.answer ≡ openTable file.now start end
+  pub answered : r.answer ≡ open_table file.now start end
   pub viewed : OpenedIn file r.answer r.table.file
-  pub starts : r.table.start ≡ openedPointer r.answer start
-  pub ends : r.table.end ≡ openedPointer r.answer end
+  pub starts : r.table.start ≡ opened_pointer r.answer start
+  pub ends : r.table.end ≡ opened_pointer r.answer end
   pub manners : r.table.manner ≡ manner
 
 -- a lookup of a value in the table t
 pub record ValueOf (t : TableView) (key : List ℕ) (r : ValueView) : Type 0 where
-  pub answered : r.answer ≡ lookupValue (mannerOf t.manner) t.file.now t.start t.end key
+  pub answered : r.answer ≡ lookup_value (manner_of t.manner) t.file.now t.start t.end key
   pub viewed : ValueIn t.file r.answer r.bytes
 
 -- a lookup of a value in the owner's table, and in the district's under it
 pub record LayeredOf (owner district : TableView) (key : List ℕ) (r : LayeredView) : Type 0 where
-  pub answered : marked r.answer r.from ≡ layeredValue (mannerOf owner.manner) (mannerOf district.manner) owner.file.now owner.start owner.end district.file.now district.start district.end key
-  pub viewed : ValueIn (ofSource r.from owner.file district.file) r.answer r.bytes
+  pub answered : marked r.answer r.from ≡ layered_value (manner_of owner.manner) (manner_of district.manner) owner.file.now owner.start owner.end district.file.now district.start district.end key
+  pub viewed : ValueIn (of_source r.from owner.file district.file) r.answer r.bytes
 
 -- a lookup of a nested table in the table t, to be read in the same manner
 pub record NestedOf (t : TableView) (key : List ℕ) (r : NestedView) : Type 0 where
-  pub answered : r.answer ≡ lookupTable (mannerOf t.manner) t.file.now t.start t.end key
+  pub answered : r.answer ≡ lookup_table (manner_of t.manner) t.file.now t.start t.end key
   pub viewed : NestedIn t.file r.answer r.table.file
-  pub starts : r.table.start ≡ pointerStart r.answer
-  pub ends : r.table.end ≡ pointerEnd r.answer
+  pub starts : r.table.start ≡ pointer_start r.answer
+  pub ends : r.table.end ≡ pointer_end r.answer
   pub manners : r.table.manner ≡ t.manner
 
 -- a value listing of the table t from a position on
@@ -51,7 +51,7 @@ pub record ListedOf (t : TableView) (at : ℕ) (r : ListedView) : Type 0 where
 
 -- the child at a position of the container under a key, in the table t
 pub record ChildOf (t : TableView) (key : List ℕ) (at : ℕ) (r : ChildView) : Type 0 where
-  pub answered : r.answer ≡ nextChild (mannerOf t.manner) t.file.now t.start t.end key at
+  pub answered : r.answer ≡ next_child (manner_of t.manner) t.file.now t.start t.end key at
   pub viewed : ChildIn t.file r.answer r.fragment
 
 -- a key listing of the table t at a position, into a lent buffer; `left` is what the buffer then holds

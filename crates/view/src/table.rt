@@ -1,8 +1,8 @@
 // A table as a view that borrows its file. Each function takes the view apart and calls functions over slices and numbers: no branch, no arithmetic,
 // no loop. A view holds no proof that it is good: each call opens the table again, so a view of any numbers is harmless.
 ghost use Rattle.std.specs.Prelude.{◌≡◌};
-ghost use Rattle.read_find.specs.Find.{mannerOf};
-ghost use Rattle.check_rules.specs.Rules.{checkTable};
+ghost use Rattle.read_find.specs.Find.{manner_of};
+ghost use Rattle.check_rules.specs.Rules.{check_table};
 ghost use Rattle.view.specs.Views.{OpenedOf, ValueOf, LayeredOf, NestedOf, ListedOf, ChildOf, KeyOf};
 
 use check_rules::checked::Checked;
@@ -172,7 +172,7 @@ impl<'a> TableView<'a> {
 
     // The check of the table.
     pub fn check(self) -> Checked
-        ensures { result ≡ checkTable (mannerOf self.entry.manner) self.entry.file.now self.entry.start self.entry.end }
+        ensures { result ≡ check_table (manner_of self.entry.manner) self.entry.file.now self.entry.start self.entry.end }
     {
         check_table::check::check_table(self.file, self.start, self.end, self.manner)
     }

@@ -1,6 +1,6 @@
 // From two files to a value's bytes by way of the views. No parameter or result is a view, so a caller needs no proof written by hand.
-ghost use Rattle.read_find.specs.Find.{mannerOf};
-ghost use Rattle.read.specs.Layered.{layeredValue};
+ghost use Rattle.read_find.specs.Find.{manner_of};
+ghost use Rattle.read.specs.Layered.{layered_value};
 ghost use Rattle.view_part.specs.Part.{LayeredIn};
 
 use read_find::manner::Manner;
@@ -18,7 +18,7 @@ pub fn layered_bytes<'a, 'k>(
     omanner: Manner,
     dmanner: Manner,
 ) -> &'a [u8]
-    ensures { LayeredIn owner.entry district.entry (layeredValue (mannerOf omanner) (mannerOf dmanner) owner.now ostart oend district.now dstart dend key.now) result }
+    ensures { LayeredIn owner.entry district.entry (layered_value (manner_of omanner) (manner_of dmanner) owner.now ostart oend district.now dstart dend key.now) result }
 {
     let own = open_view(owner, ostart, oend, omanner);
     let under = open_view(district, dstart, dend, dmanner);

@@ -8,43 +8,43 @@ use borrow.Author.Tests.{le-ltb, lt-ltb}
 use Rattle.words.specs.Choice.{pick}
 use Rattle.read.specs.declared.layered.Source.{Source}
 use Rattle.read.specs.declared.layered.Layered.{Layered}
-use Rattle.view_part.specs.Part.{Viewed, stretchAt, stretchOf, Stretch, ValueIn, ofSource, LayeredIn}
+use Rattle.view_part.specs.Part.{Viewed, stretch_at, stretch_of, Stretch, ValueIn, of_source, LayeredIn}
 
-pub viewed-same : (file r : Bor (List ℕ)) (at place : ℕ) (bytes content : List ℕ) → at ≡ place → bytes ≡ content → Viewed file r at bytes → Viewed file r place content
-viewed-same file r at place bytes content a b viewed =
+pub viewed_same : (file r : Bor (List ℕ)) (at place : ℕ) (bytes content : List ℕ) → at ≡ place → bytes ≡ content → Viewed file r at bytes → Viewed file r place content
+viewed_same file r at place bytes content a b viewed =
     subst (λ (n : ℕ). Viewed file r n content) a (subst (λ (xs : List ℕ). Viewed file r at xs) b viewed)
 
-pub stretch-same : (file r : Bor (List ℕ)) (start end from to : ℕ) → from ≡ start → to ≡ end → Stretch file from to r → Stretch file start end r
-stretch-same file r start end from to s e viewed =
+pub stretch_same : (file r : Bor (List ℕ)) (start end from to : ℕ) → from ≡ start → to ≡ end → Stretch file from to r → Stretch file start end r
+stretch_same file r start end from to s e viewed =
     subst (λ (n : ℕ). Stretch file n end r) s (subst (λ (n : ℕ). Stretch file from n r) e viewed)
 
 -- the part of the file that the mark names
-pub source-part : (owner district r : Bor (List ℕ)) (layered : Layered) (from : Source) → layered.from ≡ from → ValueIn (ofSource from owner district) layered.looked r → LayeredIn owner district layered r
-source-part owner district r layered from mark seen = subst (λ (s : Source). ValueIn (ofSource s owner district) layered.looked r) (sym mark) seen
+pub source_part : (owner district r : Bor (List ℕ)) (layered : Layered) (from : Source) → layered.from ≡ from → ValueIn (of_source from owner district) layered.looked r → LayeredIn owner district layered r
+source_part owner district r layered from mark seen = subst (λ (s : Source). ValueIn (of_source s owner district) layered.looked r) (sym mark) seen
 
 module _ (file : List ℕ) (start end : ℕ) (ordered : start ≤ end) (inside : end ≤ length file) where
-  pub stretch-at : stretchAt file start end ≡ start
-  unfolding stretchAt pick
-  stretch-at = simp (le-ltb _ _ ordered, le-ltb _ _ inside)
+  pub stretch_at_lem : stretch_at file start end ≡ start
+  unfolding stretch_at pick
+  stretch_at_lem = simp (le-ltb _ _ ordered, le-ltb _ _ inside)
 
-  pub stretch-of : stretchOf file start end ≡ take (end - start) (drop start file)
-  unfolding stretchOf pick
-  stretch-of = simp (le-ltb _ _ ordered, le-ltb _ _ inside)
+  pub stretch_of_lem : stretch_of file start end ≡ take (end - start) (drop start file)
+  unfolding stretch_of pick
+  stretch_of_lem = simp (le-ltb _ _ ordered, le-ltb _ _ inside)
 
 module _ (file r : Bor (List ℕ)) (start end : ℕ) where
-  pub stretch-above : end < start → Viewed file r 0 [] → Stretch file start end r
-  unfolding stretchAt stretchOf pick
-  stretch-above above none = simp (lt-ltb _ _ above) none
+  pub stretch_above : end < start → Viewed file r 0 [] → Stretch file start end r
+  unfolding stretch_at stretch_of pick
+  stretch_above above none = simp (lt-ltb _ _ above) none
 
-  pub stretch-past : start ≤ end → length file.now < end → Viewed file r 0 [] → Stretch file start end r
-  unfolding stretchAt stretchOf pick
-  stretch-past ordered past none = simp (le-ltb _ _ ordered, lt-ltb _ _ past) none
+  pub stretch_past : start ≤ end → length file.now < end → Viewed file r 0 [] → Stretch file start end r
+  unfolding stretch_at stretch_of pick
+  stretch_past ordered past none = simp (le-ltb _ _ ordered, lt-ltb _ _ past) none
 
   -- a stretch that lies in the file, both ways
   module _ (ordered : start ≤ end) (inside : end ≤ length file.now) where
-    pub stretch-in : Viewed file r start (take (end - start) (drop start file.now)) → Stretch file start end r
-    unfolding stretchAt stretchOf pick
-    stretch-in viewed = simp (le-ltb _ _ ordered, le-ltb _ _ inside) viewed
+    pub stretch_in : Viewed file r start (take (end - start) (drop start file.now)) → Stretch file start end r
+    unfolding stretch_at stretch_of pick
+    stretch_in viewed = simp (le-ltb _ _ ordered, le-ltb _ _ inside) viewed
 
-    pub stretch-out : Stretch file start end r → Viewed file r start (take (end - start) (drop start file.now))
-    stretch-out viewed = viewed-same file r _ _ _ _ (stretch-at file.now start end ordered inside) (stretch-of file.now start end ordered inside) viewed
+    pub stretch_out : Stretch file start end r → Viewed file r start (take (end - start) (drop start file.now))
+    stretch_out viewed = viewed_same file r _ _ _ _ (stretch_at_lem file.now start end ordered inside) (stretch_of_lem file.now start end ordered inside) viewed

@@ -16,83 +16,83 @@ pub record Viewed (file r : Bor (List ℕ)) (at : ℕ) (bytes : List ℕ) : Type
   pub holds : r.now ≡ bytes
 
 -- where the bytes from start up to end lie; 0 where they are not in the file
-unfoldable pub stretchAt : List ℕ → ℕ → ℕ → ℕ
-stretchAt file start end = pick (ltb end start) 0 (pick (ltb (length file) end) 0 start)
+unfoldable pub stretch_at : List ℕ → ℕ → ℕ → ℕ
+stretch_at file start end = pick (ltb end start) 0 (pick (ltb (length file) end) 0 start)
 
 -- the bytes from start up to end; none where they are not in the file
-unfoldable pub stretchOf : List ℕ → ℕ → ℕ → List ℕ
-stretchOf file start end = pick (ltb end start) [] (pick (ltb (length file) end) [] (take (end - start) (drop start file)))
+unfoldable pub stretch_of : List ℕ → ℕ → ℕ → List ℕ
+stretch_of file start end = pick (ltb end start) [] (pick (ltb (length file) end) [] (take (end - start) (drop start file)))
 
 -- a slice is the stretch from start up to end
 abbrev pub Stretch : Bor (List ℕ) → ℕ → ℕ → Bor (List ℕ) → Type 0
-Stretch file start end r = Viewed file r (stretchAt file.now start end) (stretchOf file.now start end)
+Stretch file start end r = Viewed file r (stretch_at file.now start end) (stretch_of file.now start end)
 
 -- start and end of the pointer that a lookup answers; 0 and 0 on a refusal
-abbrev pub pointerStart : Looked → ℕ
-pointerStart (Looked.Pointer start end) = start
-pointerStart (Looked.Refused why) = 0
+abbrev pub pointer_start : Looked → ℕ
+pointer_start (Looked.Pointer start end) = start
+pointer_start (Looked.Refused why) = 0
 
-abbrev pub pointerEnd : Looked → ℕ
-pointerEnd (Looked.Pointer start end) = end
-pointerEnd (Looked.Refused why) = 0
+abbrev pub pointer_end : Looked → ℕ
+pointer_end (Looked.Pointer start end) = end
+pointer_end (Looked.Refused why) = 0
 
 -- a value that was looked up
 abbrev pub ValueIn : Bor (List ℕ) → Looked → Bor (List ℕ) → Type 0
-ValueIn file looked r = Stretch file (pointerStart looked) (pointerEnd looked) r
+ValueIn file looked r = Stretch file (pointer_start looked) (pointer_end looked) r
 
 -- the owner's or the district's, as the mark says
-abbrev pub ofSource : {A : Type 0} → Source → A → A → A
-ofSource Source.Owner own under = own
-ofSource Source.District own under = under
+abbrev pub of_source : {A : Type 0} → Source → A → A → A
+of_source Source.Owner own under = own
+of_source Source.District own under = under
 
 -- a value that was looked up in two tables: it lies in the file of the one that answered
 abbrev pub LayeredIn : Bor (List ℕ) → Bor (List ℕ) → Layered → Bor (List ℕ) → Type 0
-LayeredIn owner district layered r = ValueIn (ofSource layered.from owner district) layered.looked r
+LayeredIn owner district layered r = ValueIn (of_source layered.from owner district) layered.looked r
 
 -- start and end of the pointer of a listed value; 0 and 0 on a refusal
-abbrev pub listedStart : Valued → ℕ
-listedStart (Valued.Value index start end next) = start
-listedStart (Valued.Unopened why index next) = 0
-listedStart (Valued.Refused why) = 0
+abbrev pub listed_start : Valued → ℕ
+listed_start (Valued.Value index start end next) = start
+listed_start (Valued.Unopened why index next) = 0
+listed_start (Valued.Refused why) = 0
 
-abbrev pub listedEnd : Valued → ℕ
-listedEnd (Valued.Value index start end next) = end
-listedEnd (Valued.Unopened why index next) = 0
-listedEnd (Valued.Refused why) = 0
+abbrev pub listed_end : Valued → ℕ
+listed_end (Valued.Value index start end next) = end
+listed_end (Valued.Unopened why index next) = 0
+listed_end (Valued.Refused why) = 0
 
 -- a value that was listed
 abbrev pub ListedIn : Bor (List ℕ) → Valued → Bor (List ℕ) → Type 0
-ListedIn file valued r = Stretch file (listedStart valued) (listedEnd valued) r
+ListedIn file valued r = Stretch file (listed_start valued) (listed_end valued) r
 
 -- start and end of a listed child's fragment; 0 and 0 on a refusal
-abbrev pub childStart : Childed → ℕ
-childStart (Childed.Child index kind start end next) = start
-childStart (Childed.Refused why) = 0
+abbrev pub child_start : Childed → ℕ
+child_start (Childed.Child index kind start end next) = start
+child_start (Childed.Refused why) = 0
 
-abbrev pub childEnd : Childed → ℕ
-childEnd (Childed.Child index kind start end next) = end
-childEnd (Childed.Refused why) = 0
+abbrev pub child_end : Childed → ℕ
+child_end (Childed.Child index kind start end next) = end
+child_end (Childed.Refused why) = 0
 
 -- the fragment of a child that was listed
 abbrev pub ChildIn : Bor (List ℕ) → Childed → Bor (List ℕ) → Type 0
-ChildIn file childed r = Stretch file (childStart childed) (childEnd childed) r
+ChildIn file childed r = Stretch file (child_start childed) (child_end childed) r
 
 -- start or end of the pointer to a table that opened; 0 on a refusal
-abbrev pub openedPointer : Opened → ℕ → ℕ
-openedPointer (Opened.Table table) number = number
-openedPointer (Opened.Refused why) number = 0
+abbrev pub opened_pointer : Opened → ℕ → ℕ
+opened_pointer (Opened.Table table) number = number
+opened_pointer (Opened.Refused why) number = 0
 
 -- the file of a table that opened, or of a nested table; none on a refusal
-abbrev pub openedFile : Opened → List ℕ → List ℕ
-openedFile (Opened.Table table) file = file
-openedFile (Opened.Refused why) file = []
+abbrev pub opened_file : Opened → List ℕ → List ℕ
+opened_file (Opened.Table table) file = file
+opened_file (Opened.Refused why) file = []
 
-abbrev pub nestedFile : Looked → List ℕ → List ℕ
-nestedFile (Looked.Pointer start end) file = file
-nestedFile (Looked.Refused why) file = []
+abbrev pub nested_file : Looked → List ℕ → List ℕ
+nested_file (Looked.Pointer start end) file = file
+nested_file (Looked.Refused why) file = []
 
 abbrev pub OpenedIn : Bor (List ℕ) → Opened → Bor (List ℕ) → Type 0
-OpenedIn file opened r = Viewed file r 0 (openedFile opened file.now)
+OpenedIn file opened r = Viewed file r 0 (opened_file opened file.now)
 
 abbrev pub NestedIn : Bor (List ℕ) → Looked → Bor (List ℕ) → Type 0
-NestedIn file looked r = Viewed file r 0 (nestedFile looked file.now)
+NestedIn file looked r = Viewed file r 0 (nested_file looked file.now)

@@ -1,6 +1,6 @@
 // The parts of a lent file and the numbers that a view is made of, from an answer. A refusal's part is `&file[0..0]`, its numbers are 0.
 ghost use Rattle.std.specs.Prelude.{◌≡◌, []};
-ghost use Rattle.view_part.specs.Part.{Viewed, Stretch, ValueIn, LayeredIn, ListedIn, ChildIn, OpenedIn, NestedIn, openedPointer, pointerStart, pointerEnd, listedStart, listedEnd, childStart, childEnd};
+ghost use Rattle.view_part.specs.Part.{Viewed, Stretch, ValueIn, LayeredIn, ListedIn, ChildIn, OpenedIn, NestedIn, opened_pointer, pointer_start, pointer_end, listed_start, listed_end, child_start, child_end};
 
 use layout::table::Opened;
 use read::layered::{Layered, Source};
@@ -32,7 +32,7 @@ pub fn stretch<'a>(file: &'a [u8], start: u32, end: u32) -> &'a [u8]
 
 // Start and end of the pointer that a lookup answers.
 pub fn pointer_start(looked: Looked) -> u32
-    ensures { result ≡ pointerStart looked }
+    ensures { result ≡ pointer_start looked }
 {
     match looked {
         Looked::Pointer { start, end: _ } => start,
@@ -41,7 +41,7 @@ pub fn pointer_start(looked: Looked) -> u32
 }
 
 pub fn pointer_end(looked: Looked) -> u32
-    ensures { result ≡ pointerEnd looked }
+    ensures { result ≡ pointer_end looked }
 {
     match looked {
         Looked::Pointer { start: _, end } => end,
@@ -51,7 +51,7 @@ pub fn pointer_end(looked: Looked) -> u32
 
 // Start and end of the pointer that value listing answers.
 pub fn listed_start(valued: Valued) -> u32
-    ensures { result ≡ listedStart valued }
+    ensures { result ≡ listed_start valued }
 {
     match valued {
         Valued::Value {
@@ -70,7 +70,7 @@ pub fn listed_start(valued: Valued) -> u32
 }
 
 pub fn listed_end(valued: Valued) -> u32
-    ensures { result ≡ listedEnd valued }
+    ensures { result ≡ listed_end valued }
 {
     match valued {
         Valued::Value {
@@ -90,7 +90,7 @@ pub fn listed_end(valued: Valued) -> u32
 
 // Start and end of the fragment of a child that was listed.
 pub fn child_start(childed: Childed) -> u32
-    ensures { result ≡ childStart childed }
+    ensures { result ≡ child_start childed }
 {
     match childed {
         Childed::Child {
@@ -105,7 +105,7 @@ pub fn child_start(childed: Childed) -> u32
 }
 
 pub fn child_end(childed: Childed) -> u32
-    ensures { result ≡ childEnd childed }
+    ensures { result ≡ child_end childed }
 {
     match childed {
         Childed::Child {
@@ -187,7 +187,7 @@ pub fn opened_part<'a>(file: &'a [u8], opened: Opened) -> &'a [u8]
 
 // A table's start or end, which is `number`, where the table opened.
 pub fn opened_pointer(opened: Opened, number: u32) -> u32
-    ensures { result ≡ openedPointer opened number }
+    ensures { result ≡ opened_pointer opened number }
 {
     match opened {
         Opened::Table(_) => number,

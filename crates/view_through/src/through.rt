@@ -1,8 +1,8 @@
 // From a file to a value's bytes by way of the views. No parameter or result is a view, so a caller needs no proof written by hand.
-ghost use Rattle.read_find.specs.Find.{mannerOf};
-ghost use Rattle.read.specs.Lookup.{lookupValue};
+ghost use Rattle.read_find.specs.Find.{manner_of};
+ghost use Rattle.read.specs.Lookup.{lookup_value};
 ghost use Rattle.view_part.specs.Part.{ValueIn};
-ghost use Rattle.view.specs.Through.{nestedValue};
+ghost use Rattle.view.specs.Through.{nested_value};
 
 use read_find::manner::Manner;
 use view::table::open_view;
@@ -15,7 +15,7 @@ pub fn value_bytes<'a, 'k>(
     key: &'k [u8],
     manner: Manner,
 ) -> &'a [u8]
-    ensures { ValueIn file.entry (lookupValue (mannerOf manner) file.now start end key.now) result }
+    ensures { ValueIn file.entry (lookup_value (manner_of manner) file.now start end key.now) result }
 {
     let opened = open_view(file, start, end, manner);
     let value = opened.table.value(key);
@@ -31,7 +31,7 @@ pub fn nested_bytes<'a, 't, 'k>(
     key: &'k [u8],
     manner: Manner,
 ) -> &'a [u8]
-    ensures { ValueIn file.entry (nestedValue (mannerOf manner) file.now start end table.now key.now) result }
+    ensures { ValueIn file.entry (nested_value (manner_of manner) file.now start end table.now key.now) result }
 {
     let opened = open_view(file, start, end, manner);
     let nested = opened.table.nested(table);

@@ -11,22 +11,22 @@ use borrow.Author.Tests.{ltb-true, ltb-false}
 use lib.ListN.{length, get_or, take, drop, set, length-take, length-drop, get_or-eq_default}
 use lib.Seq.{drop-cons, get_or-take, get_or-drop}
 use Rattle.words.specs.Store.{part, put_at}
-use Rattle.words.specs.Field.{littleEndian, spelled, field, halfAt, wordAt, longAt}
-use Rattle.words.proofs.StoreLaws.{part-put, part-before, part-after, part-part}
+use Rattle.words.specs.Field.{little_endian, spelled, field, half_at, word_at, long_at}
+use Rattle.words.proofs.StoreLaws.{part-put, part-before, part_after, part-part}
 
 -- a field is its first byte and 256 times the field of the others
 pub field_step : (n : ℕ) (bytes : List ℕ) (at next : ℕ) → next ≡ at + 1 → at < length bytes
     → field (suc n) bytes at ≡ get_or bytes at 0 + 256 * field n bytes next
-unfolding field littleEndian
+unfolding field little_endian
 field_step n bytes at next e h = rw (e, add-one, drop-cons bytes at 0)
 
 pub field-none : (bytes : List ℕ) (at : ℕ) → field 0 bytes at ≡ 0
-unfolding field littleEndian
+unfolding field little_endian
 field-none bytes at = refl
 
 -- a field of two and one of four, byte by byte
-pub half-bytes : (bytes : List ℕ) (at : ℕ) → at + 2 ≤ length bytes → halfAt bytes at ≡ get_or bytes at 0 + 256 * get_or bytes (at + 1) 0
-half-bytes bytes at h =
+pub half_bytes : (bytes : List ℕ) (at : ℕ) → at + 2 ≤ length bytes → half_at bytes at ≡ get_or bytes at 0 + 256 * get_or bytes (at + 1) 0
+half_bytes bytes at h =
     omega (
       arith,
       field_step 1 bytes at (at + 1) refl (omega arith),
@@ -35,7 +35,7 @@ half-bytes bytes at h =
     )
 
 pub word_bytes : (bytes : List ℕ) (at : ℕ) → at + 4 ≤ length bytes
-    → wordAt bytes at ≡ get_or bytes at 0 + 256 * get_or bytes (at + 1) 0 + 65536 * get_or bytes (at + 2) 0 + 16777216 * get_or bytes (at + 3) 0
+    → word_at bytes at ≡ get_or bytes at 0 + 256 * get_or bytes (at + 1) 0 + 65536 * get_or bytes (at + 2) 0 + 16777216 * get_or bytes (at + 3) 0
 word_bytes bytes at h =
     omega (
       arith,
@@ -47,8 +47,8 @@ word_bytes bytes at h =
     )
 
 -- a field of eight is two of four
-pub long-words : (bytes : List ℕ) (at : ℕ) → at + 8 ≤ length bytes → longAt bytes at ≡ wordAt bytes at + 4294967296 * wordAt bytes (at + 4)
-long-words bytes at h =
+pub long_words : (bytes : List ℕ) (at : ℕ) → at + 8 ≤ length bytes → long_at bytes at ≡ word_at bytes at + 4294967296 * word_at bytes (at + 4)
+long_words bytes at h =
     omega (
       arith,
       field_step 7 bytes at (at + 1) refl (omega arith),
@@ -64,20 +64,20 @@ unfolding spelled
 length-spelled zero v = refl
 length-spelled (suc n) v = ap suc (length-spelled n (v / 256))
 
-pub little-endian-spelled : (n v : ℕ) → v < 256 ^ n → littleEndian (spelled n v) ≡ v
-unfolding littleEndian spelled
-little-endian-spelled zero v h = omega arith
-little-endian-spelled (suc n) v h = omega (arith, little-endian-spelled n (v / 256) (omega arith))
+pub little_endian-spelled : (n v : ℕ) → v < 256 ^ n → little_endian (spelled n v) ≡ v
+unfolding little_endian spelled
+little_endian-spelled zero v h = omega arith
+little_endian-spelled (suc n) v h = omega (arith, little_endian-spelled n (v / 256) (omega arith))
 
 -- what straight-line code leaves is the definition's store
-pub two-stores : (out : List ℕ) (at v : ℕ) → set (set out at (v % 256)) (at + 1) (v / 256 % 256) ≡ put_at out at (spelled 2 v)
+pub two_stores : (out : List ℕ) (at v : ℕ) → set (set out at (v % 256)) (at + 1) (v / 256 % 256) ≡ put_at out at (spelled 2 v)
 unfolding put_at spelled
-two-stores out at v = rw add-one
+two_stores out at v = rw add-one
 
-pub four-stores : (out : List ℕ) (at v : ℕ)
+pub four_stores : (out : List ℕ) (at v : ℕ)
     → set (set (set (set out at (v % 256)) (at + 1) (v / 256 % 256)) (at + 2) (v / 65536 % 256)) (at + 3) (v / 16777216 % 256) ≡ put_at out at (spelled 4 v)
 unfolding put_at spelled
-four-stores out at v =
+four_stores out at v =
     let i1 : at + 1 ≡ suc at = omega arith in
     let i2 : at + 2 ≡ suc (suc at) = omega arith in
     let i3 : at + 3 ≡ suc (suc (suc at)) = omega arith in
@@ -89,32 +89,32 @@ four-stores out at v =
 pub field_put : (n : ℕ) (out : List ℕ) (at v : ℕ) → at + n ≤ length out → v < 256 ^ n → field n (put_at out at (spelled n v)) at ≡ v
 unfolding field
 field_put n out at v fits small =
-    ap littleEndian (rw (length-spelled n v) at (part-put out at (spelled n v) (rw (length-spelled n v) fits))) ∙ little-endian-spelled n v small
+    ap little_endian (rw (length-spelled n v) at (part-put out at (spelled n v) (rw (length-spelled n v) fits))) ∙ little_endian-spelled n v small
 
 -- reading a field before a store, or behind it
 pub field-before : (n : ℕ) (out : List ℕ) (at : ℕ) (vs : List ℕ) (k : ℕ) → k + n ≤ at → field n (put_at out at vs) k ≡ field n out k
 unfolding field
-field-before n out at vs k h = ap littleEndian (part-before out at vs k n h)
+field-before n out at vs k h = ap little_endian (part-before out at vs k n h)
 
-pub field-after : (n : ℕ) (out : List ℕ) (at : ℕ) (vs : List ℕ) (k : ℕ) → at + length vs ≤ k → field n (put_at out at vs) k ≡ field n out k
+pub field_after : (n : ℕ) (out : List ℕ) (at : ℕ) (vs : List ℕ) (k : ℕ) → at + length vs ≤ k → field n (put_at out at vs) k ≡ field n out k
 unfolding field
-field-after n out at vs k h = ap littleEndian (part-after out at vs k n h)
+field_after n out at vs k h = ap little_endian (part_after out at vs k n h)
 
 -- a field of a part of a file is a field of the file, further on
 pub field-part : (n : ℕ) (bytes : List ℕ) (start size at : ℕ) → at + n ≤ size → field n (part bytes start size) at ≡ field n bytes (start + at)
 unfolding field
-field-part n bytes start size at h = ap littleEndian (part-part bytes start size at n h)
+field-part n bytes start size at h = ap little_endian (part-part bytes start size at n h)
 
 -- a field of bytes is below 256 ^ n. What is known of every slice gives `all`: `c.shared-slice-known.given` is of this form
-little-endian-below : (bytes : List ℕ) (n : ℕ) → length bytes ≤ n → ((i : ℕ) → get_or bytes i 0 < 256) → littleEndian bytes < 256 ^ n
-unfolding littleEndian
-little-endian-below [] n h all = one-le-pow n 256 (omega arith)
-little-endian-below (b ∷ bytes) zero h all = absurd (omega arith)
-little-endian-below (b ∷ bytes) (suc n) h all = omega (arith, all 0, little-endian-below bytes n (omega arith) (λ i. all (suc i)))
+little_endian_below : (bytes : List ℕ) (n : ℕ) → length bytes ≤ n → ((i : ℕ) → get_or bytes i 0 < 256) → little_endian bytes < 256 ^ n
+unfolding little_endian
+little_endian_below [] n h all = one-le-pow n 256 (omega arith)
+little_endian_below (b ∷ bytes) zero h all = absurd (omega arith)
+little_endian_below (b ∷ bytes) (suc n) h all = omega (arith, all 0, little_endian_below bytes n (omega arith) (λ i. all (suc i)))
 
 -- a stretch of bytes is bytes
-pub stretch-bytes : (n at : ℕ) (bytes : List ℕ) → ((i : ℕ) → get_or bytes i 0 < 256) → (i : ℕ) → get_or (take n (drop at bytes)) i 0 < 256
-stretch-bytes n at bytes all i = go (ltb i n) refl
+pub stretch_bytes : (n at : ℕ) (bytes : List ℕ) → ((i : ℕ) → get_or bytes i 0 < 256) → (i : ℕ) → get_or (take n (drop at bytes)) i 0 < 256
+stretch_bytes n at bytes all i = go (ltb i n) refl
   where
     go : (t : Bool) → ltb i n ≡ t → get_or (take n (drop at bytes)) i 0 < 256
     go true e = let h : i < n = ltb-true i n e in rw (get_or-take n (drop at bytes) i 0, get_or-drop at bytes i 0) (all (at + i))
@@ -125,25 +125,25 @@ stretch-bytes n at bytes all i = go (ltb i n) refl
 pub field_below : (n : ℕ) (bytes : List ℕ) (at : ℕ) → ((i : ℕ) → get_or bytes i 0 < 256) → field n bytes at < 256 ^ n
 unfolding field
 field_below n bytes at all =
-    little-endian-below (take n (drop at bytes)) n (omega (arith, length-take n (drop at bytes))) (stretch-bytes n at bytes all)
+    little_endian_below (take n (drop at bytes)) n (omega (arith, length-take n (drop at bytes))) (stretch_bytes n at bytes all)
 
 -- ---- a number says which bytes spell it
 
-little-endian-same : (a b : List ℕ) → length a ≡ length b → ((i : ℕ) → get_or a i 0 < 256) → ((i : ℕ) → get_or b i 0 < 256) → littleEndian a ≡ littleEndian b → a ≡ b
-unfolding littleEndian
-little-endian-same [] [] e ha hb same = refl
-little-endian-same [] (y ∷ b) e ha hb same = absurd (omega arith)
-little-endian-same (x ∷ a) [] e ha hb same = absurd (omega arith)
-little-endian-same (x ∷ a) (y ∷ b) e ha hb same =
+little_endian_same : (a b : List ℕ) → length a ≡ length b → ((i : ℕ) → get_or a i 0 < 256) → ((i : ℕ) → get_or b i 0 < 256) → little_endian a ≡ little_endian b → a ≡ b
+unfolding little_endian
+little_endian_same [] [] e ha hb same = refl
+little_endian_same [] (y ∷ b) e ha hb same = absurd (omega arith)
+little_endian_same (x ∷ a) [] e ha hb same = absurd (omega arith)
+little_endian_same (x ∷ a) (y ∷ b) e ha hb same =
     let first : x ≡ y = omega (arith, ha 0, hb 0) in
-    let others : littleEndian a ≡ littleEndian b = omega (arith, ha 0, hb 0) in
-    cc (first, little-endian-same a b (omega arith) (λ i. ha (suc i)) (λ i. hb (suc i)) others)
+    let others : little_endian a ≡ little_endian b = omega (arith, ha 0, hb 0) in
+    cc (first, little_endian_same a b (omega arith) (λ i. ha (suc i)) (λ i. hb (suc i)) others)
 
 -- stretches of bytes that are one number are the same bytes
-pub field-same : (n : ℕ) (a b : List ℕ) (at : ℕ) → at + n ≤ length a → at + n ≤ length b → ((i : ℕ) → get_or a i 0 < 256) → ((i : ℕ) → get_or b i 0 < 256)
+pub field_same : (n : ℕ) (a b : List ℕ) (at : ℕ) → at + n ≤ length a → at + n ≤ length b → ((i : ℕ) → get_or a i 0 < 256) → ((i : ℕ) → get_or b i 0 < 256)
     → field n a at ≡ field n b at → part a at n ≡ part b at n
 unfolding field
-field-same n a b at fa fb ha hb same =
-    little-endian-same (take n (drop at a)) (take n (drop at b))
+field_same n a b at fa fb ha hb same =
+    little_endian_same (take n (drop at a)) (take n (drop at b))
     (omega (arith, length-take n (drop at a), length-take n (drop at b), length-drop at a, length-drop at b))
-    (stretch-bytes n at a ha) (stretch-bytes n at b hb) same
+    (stretch_bytes n at a ha) (stretch_bytes n at b hb) same

@@ -32,15 +32,15 @@ put-sets l at [] = refl
 put-sets l at (v ∷ vs) = put-sets (set l at v) (suc at) vs
 
 -- where it fits: what stood before it, what is stored, and what stood behind it
-pub put-parts : (l : List ℕ) (at : ℕ) (vs : List ℕ) → at + length vs ≤ length l → put_at l at vs ≡ take at l ++ vs ++ drop (at + length vs) l
-put-parts l at vs fits = put-sets l at vs ∙ sets-eq vs l at fits
+pub put_parts : (l : List ℕ) (at : ℕ) (vs : List ℕ) → at + length vs ≤ length l → put_at l at vs ≡ take at l ++ vs ++ drop (at + length vs) l
+put_parts l at vs fits = put-sets l at vs ∙ sets-eq vs l at fits
 
 -- ---- reading after a store
 
 -- what was stored is there
 pub part-put : (l : List ℕ) (at : ℕ) (vs : List ℕ) → at + length vs ≤ length l → part (put_at l at vs) at (length vs) ≡ vs
 part-put l at vs fits =
-    rw (put-parts l at vs fits, append_assoc, drop_at (take at l) (vs ++ drop (at + length vs) l) at (length-take-le at l (omega arith)))
+    rw (put_parts l at vs fits, append_assoc, drop_at (take at l) (vs ++ drop (at + length vs) l) at (length-take-le at l (omega arith)))
     (take_at vs (drop (at + length vs) l) (length vs) refl)
 
 -- what lies before it stays
@@ -55,30 +55,30 @@ part-before l at (v ∷ vs) k n h =
     ∙ take-set-le n (drop k l) (at - k) v (omega arith)
 
 -- what lies behind it stays
-pub drop-after : (l : List ℕ) (at : ℕ) (vs : List ℕ) (k : ℕ) → at + length vs ≤ k → drop k (put_at l at vs) ≡ drop k l
+pub drop_after : (l : List ℕ) (at : ℕ) (vs : List ℕ) (k : ℕ) → at + length vs ≤ k → drop k (put_at l at vs) ≡ drop k l
 unfolding put_at
-drop-after l at [] k h = refl
-drop-after l at (v ∷ vs) k h = drop-after (set l at v) (suc at) vs k (omega arith) ∙ drop-set-lt k l at v (omega arith)
+drop_after l at [] k h = refl
+drop_after l at (v ∷ vs) k h = drop_after (set l at v) (suc at) vs k (omega arith) ∙ drop-set-lt k l at v (omega arith)
 
-pub part-after : (l : List ℕ) (at : ℕ) (vs : List ℕ) (k n : ℕ) → at + length vs ≤ k → part (put_at l at vs) k n ≡ part l k n
-part-after l at vs k n h = ap (take n) (drop-after l at vs k h)
+pub part_after : (l : List ℕ) (at : ℕ) (vs : List ℕ) (k n : ℕ) → at + length vs ≤ k → part (put_at l at vs) k n ≡ part l k n
+part_after l at vs k n h = ap (take n) (drop_after l at vs k h)
 
 pub take-before : (l : List ℕ) (at : ℕ) (vs : List ℕ) (n : ℕ) → n ≤ at → take n (put_at l at vs) ≡ take n l
 take-before l at vs n h = part-before l at vs 0 n (omega arith)
 
 -- one element: stored, before, behind
-pub get-put : (l : List ℕ) (at : ℕ) (vs : List ℕ) (j : ℕ) → at + length vs ≤ length l → j < length vs → get_or (put_at l at vs) (at + j) 0 ≡ get_or vs j 0
-get-put l at vs j fits h =
+pub get_put : (l : List ℕ) (at : ℕ) (vs : List ℕ) (j : ℕ) → at + length vs ≤ length l → j < length vs → get_or (put_at l at vs) (at + j) 0 ≡ get_or vs j 0
+get_put l at vs j fits h =
     sym (get_or-drop at (put_at l at vs) j 0) ∙ sym (get_or-take (length vs) (drop at (put_at l at vs)) j 0 h) ∙ ap (λ (m : List ℕ). get_or m j 0) (part-put l at vs fits)
 
-pub get-before : (l : List ℕ) (at : ℕ) (vs : List ℕ) (i : ℕ) → i < at → get_or (put_at l at vs) i 0 ≡ get_or l i 0
-get-before l at vs i h =
+pub get_before : (l : List ℕ) (at : ℕ) (vs : List ℕ) (i : ℕ) → i < at → get_or (put_at l at vs) i 0 ≡ get_or l i 0
+get_before l at vs i h =
     sym (get_or-take at (put_at l at vs) i 0 h) ∙ ap (λ (m : List ℕ). get_or m i 0) (take-before l at vs at (omega arith)) ∙ get_or-take at l i 0 h
 
 pub get_after : (l : List ℕ) (at : ℕ) (vs : List ℕ) (i : ℕ) → at + length vs ≤ i → get_or (put_at l at vs) i 0 ≡ get_or l i 0
 get_after l at vs i h =
     let i0 : i ≡ i + 0 = omega arith in
-    ap (λ (k : ℕ). get_or (put_at l at vs) k 0) i0 ∙ sym (get_or-drop i (put_at l at vs) 0 0) ∙ ap (λ (m : List ℕ). get_or m 0 0) (drop-after l at vs i h)
+    ap (λ (k : ℕ). get_or (put_at l at vs) k 0) i0 ∙ sym (get_or-drop i (put_at l at vs) 0 0) ∙ ap (λ (m : List ℕ). get_or m 0 0) (drop_after l at vs i h)
     ∙ get_or-drop i l 0 0 ∙ ap (λ (k : ℕ). get_or l k 0) (sym i0)
 
 -- ---- several stores
@@ -96,8 +96,8 @@ pub put_then : (l : List ℕ) (at : ℕ) (a b : List ℕ) {m n : List ℕ} {mid 
 put_then l at a b e p q = q ∙ rw (p, e, put-append)
 
 -- one element more
-pub put-snoc : (l : List ℕ) (at : ℕ) (a : List ℕ) (v : ℕ) → put_at l at (a ++ (v ∷ [])) ≡ set (put_at l at a) (at + length a) v
-put-snoc l at a v = put-append l at a (v ∷ []) ∙ put_one (put_at l at a) (at + length a) v
+pub put_snoc : (l : List ℕ) (at : ℕ) (a : List ℕ) (v : ℕ) → put_at l at (a ++ (v ∷ [])) ≡ set (put_at l at a) (at + length a) v
+put_snoc l at a v = put-append l at a (v ∷ []) ∙ put_one (put_at l at a) (at + length a) v
 
 -- one element set before a store
 put-set : (l : List ℕ) (i j v : ℕ) (b : List ℕ) → i < j → put_at (set l i v) j b ≡ set (put_at l j b) i v
@@ -107,11 +107,11 @@ put-set l i j v (w ∷ b) h =
     ap (λ (m : List ℕ). put_at m (suc j) b) (set_comm l i j v w (λ e. omega arith)) ∙ put-set (set l j w) i (suc j) v b (omega arith)
 
 -- two stores apart: the one that is made first has no bearing
-pub put-comm : (l : List ℕ) (i : ℕ) (a : List ℕ) (j : ℕ) (b : List ℕ) → i + length a ≤ j → put_at (put_at l i a) j b ≡ put_at (put_at l j b) i a
+pub put_comm : (l : List ℕ) (i : ℕ) (a : List ℕ) (j : ℕ) (b : List ℕ) → i + length a ≤ j → put_at (put_at l i a) j b ≡ put_at (put_at l j b) i a
 unfolding put_at
-put-comm l i [] j b h = refl
-put-comm l i (v ∷ a) j b h =
-    put-comm (set l i v) (suc i) a j b (omega (arith, add-suc i (length a)))
+put_comm l i [] j b h = refl
+put_comm l i (v ∷ a) j b h =
+    put_comm (set l i v) (suc i) a j b (omega (arith, add-suc i (length a)))
     ∙ ap (λ (m : List ℕ). put_at m (suc i) a) (put-set l i j v b (omega (arith, add-suc i (length a))))
 
 -- a store into a front part that is lent by itself, seen in the whole
@@ -129,14 +129,14 @@ put_front n l at (v ∷ vs) h =
 pub copy_start : (l : List ℕ) (at : ℕ) (src : List ℕ) → l ≡ put_at l at (take 0 src)
 copy_start l at src = sym (put-none l at)
 
-pub copy-turn : (l : List ℕ) (at : ℕ) (src : List ℕ) (j : ℕ) → j < length src
+pub copy_turn : (l : List ℕ) (at : ℕ) (src : List ℕ) (j : ℕ) → j < length src
     → set (put_at l at (take j src)) (at + j) (get_or src j 0) ≡ put_at l at (take (j + 1) src)
-copy-turn l at src j h =
+copy_turn l at src j h =
     let size : length (take j src) ≡ j = length-take-le j src (omega arith) in
-    rw (add-one, take-suc src j 0 h, put-snoc, size)
+    rw (add-one, take-suc src j 0 h, put_snoc, size)
 
-pub copy-end : (l : List ℕ) (at : ℕ) (src : List ℕ) (j : ℕ) → length src ≤ j → put_at l at (take j src) ≡ put_at l at src
-copy-end l at src j h = rw (take_all j src h)
+pub copy_end : (l : List ℕ) (at : ℕ) (src : List ℕ) (j : ℕ) → length src ≤ j → put_at l at (take j src) ≡ put_at l at src
+copy_end l at src j h = rw (take_all j src h)
 
 -- ---- copies of one element
 
@@ -144,17 +144,17 @@ pub length-copies : (n v : ℕ) → length (copies n v) ≡ n
 unfolding copies
 length-copies n v = length-replicate n v
 
-pub get-copies : (n v i : ℕ) → i < n → get_or (copies n v) i 0 ≡ v
+pub get_copies : (n v i : ℕ) → i < n → get_or (copies n v) i 0 ≡ v
 unfolding copies
-get-copies n v i h = get_or-replicate n i v 0 h
+get_copies n v i h = get_or-replicate n i v 0 h
 
 -- one more
-pub fill-turn : (l : List ℕ) (at n v i : ℕ) → i < n → set (put_at l at (take i (copies n v))) (at + i) v ≡ put_at l at (take (i + 1) (copies n v))
-fill-turn l at n v i h =
-    ap (set (put_at l at (take i (copies n v))) (at + i)) (sym (get-copies n v i h)) ∙ copy-turn l at (copies n v) i (omega (arith, length-copies n v))
+pub fill_turn : (l : List ℕ) (at n v i : ℕ) → i < n → set (put_at l at (take i (copies n v))) (at + i) v ≡ put_at l at (take (i + 1) (copies n v))
+fill_turn l at n v i h =
+    ap (set (put_at l at (take i (copies n v))) (at + i)) (sym (get_copies n v i h)) ∙ copy_turn l at (copies n v) i (omega (arith, length-copies n v))
 
 pub fill_end : (l : List ℕ) (at n v i : ℕ) → n ≤ i → put_at l at (take i (copies n v)) ≡ put_at l at (copies n v)
-fill_end l at n v i h = copy-end l at (copies n v) i (omega (arith, length-copies n v))
+fill_end l at n v i h = copy_end l at (copies n v) i (omega (arith, length-copies n v))
 
 pub length-zeros : (n : ℕ) → length (zeros n) ≡ n
 length-zeros n = length-copies n 0

@@ -5,6 +5,6 @@ unfoldable pub all_below : (ℕ → Bool) → ℕ → Bool
 all_below test zero = true
 all_below test (suc n) = all_below test n && test n
 
-unfoldable pub someBelow : (ℕ → Bool) → ℕ → Bool
-someBelow test zero = false
-someBelow test (suc n) = someBelow test n || test n
+unfoldable pub some_below : (ℕ → Bool) → ℕ → Bool
+some_below test zero = false
+some_below test (suc n) = some_below test n || test n

@@ -3,9 +3,9 @@ use Rattle.std.specs.Prelude.{ℕ, zero, suc, ◌+◌, ◌*◌, ◌/◌, ◌%◌
 use Rattle.words.specs.Store.{part}
 
 -- the number that bytes spell, lowest first
-unfoldable pub littleEndian : List ℕ → ℕ
-littleEndian [] = 0
-littleEndian (b ∷ bytes) = b + 256 * littleEndian bytes
+unfoldable pub little_endian : List ℕ → ℕ
+little_endian [] = 0
+little_endian (b ∷ bytes) = b + 256 * little_endian bytes
 
 -- the n lowest bytes of a number, lowest first
 unfoldable pub spelled : ℕ → ℕ → List ℕ
@@ -14,13 +14,13 @@ spelled (suc n) v = v % 256 ∷ spelled n (v / 256)
 
 -- the field of n bytes at `at`
 unfoldable pub field : ℕ → List ℕ → ℕ → ℕ
-field n bytes at = littleEndian (part bytes at n)
+field n bytes at = little_endian (part bytes at n)
 
-abbrev pub halfAt : List ℕ → ℕ → ℕ
-halfAt = field 2
+abbrev pub half_at : List ℕ → ℕ → ℕ
+half_at = field 2
 
-abbrev pub wordAt : List ℕ → ℕ → ℕ
-wordAt = field 4
+abbrev pub word_at : List ℕ → ℕ → ℕ
+word_at = field 4
 
-abbrev pub longAt : List ℕ → ℕ → ℕ
-longAt = field 8
+abbrev pub long_at : List ℕ → ℕ → ℕ
+long_at = field 8

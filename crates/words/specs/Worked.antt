@@ -1,17 +1,17 @@
 -- Numbers by hand that the definitions compute.
 use Rattle.std.specs.Prelude.{◌≡◌, refl, true, false}
-use Rattle.words.specs.Bits.{bloomCount, bloomShift, bitSet}
+use Rattle.words.specs.Bits.{bloom_count, bloom_shift, bit_set}
 
 -- a first word: 27 bits count, five are the shift
-pub counts : (bloomCount 0x07FFFFFF ≡ 134217727) × (bloomCount 0x08000000 ≡ 0) × (bloomCount 0xFFFFFFFF ≡ 134217727)
-unfolding bloomCount
+pub counts : (bloom_count 0x07FFFFFF ≡ 134217727) × (bloom_count 0x08000000 ≡ 0) × (bloom_count 0xFFFFFFFF ≡ 134217727)
+unfolding bloom_count
 counts = (refl, refl, refl)
 
-pub shifts : (bloomShift 0x07FFFFFF ≡ 0) × (bloomShift 0x28000000 ≡ 5) × (bloomShift 0xFFFFFFFF ≡ 31)
-unfolding bloomShift
+pub shifts : (bloom_shift 0x07FFFFFF ≡ 0) × (bloom_shift 0x28000000 ≡ 5) × (bloom_shift 0xFFFFFFFF ≡ 31)
+unfolding bloom_shift
 shifts = (refl, refl, refl)
 
 -- bits are counted from the lowest
-pub bits : (bitSet 0x80000001 0 ≡ true) × (bitSet 0x80000001 1 ≡ false) × (bitSet 0x80000001 31 ≡ true)
-unfolding bitSet
+pub bits : (bit_set 0x80000001 0 ≡ true) × (bit_set 0x80000001 1 ≡ false) × (bit_set 0x80000001 31 ≡ true)
+unfolding bit_set
 bits = (refl, refl, refl)

@@ -1,6 +1,6 @@
 // Little-endian numbers in a slice: 16, 32 and 64 bits wide.
 ghost use Rattle.std.specs.Prelude.{◌≡◌, ◌+◌, ◌≤◌, length};
-ghost use Rattle.words.specs.Field.{halfAt, wordAt, longAt, spelled};
+ghost use Rattle.words.specs.Field.{half_at, word_at, long_at, spelled};
 ghost use Rattle.words.specs.Store.{put_at};
 
 use crate::wide::{byte_half, byte_word, word_long};
@@ -8,7 +8,7 @@ use crate::wide::{byte_half, byte_word, word_long};
 // The four bytes from `at` on, as a number, lowest byte first.
 pub fn word_at(file: &[u8], at: usize) -> u32
     requires { at + 4 ≤ length file.now }
-    ensures { result ≡ wordAt file.now at }
+    ensures { result ≡ word_at file.now at }
 {
     let b0 = byte_word(file[at]);
     let b1 = byte_word(file[at + 1]);
@@ -20,7 +20,7 @@ pub fn word_at(file: &[u8], at: usize) -> u32
 // The eight bytes from `at` on, as a number, lowest byte first.
 pub fn long_at(file: &[u8], at: usize) -> u64
     requires { at + 8 ≤ length file.now }
-    ensures { result ≡ longAt file.now at }
+    ensures { result ≡ long_at file.now at }
 {
     let low = word_long(word_at(file, at));
     let high = word_long(word_at(file, at + 4));
@@ -30,7 +30,7 @@ pub fn long_at(file: &[u8], at: usize) -> u64
 // The two bytes from `at` on, as a number, lowest byte first.
 pub fn half_at(file: &[u8], at: usize) -> u16
     requires { at + 2 ≤ length file.now }
-    ensures { result ≡ halfAt file.now at }
+    ensures { result ≡ half_at file.now at }
 {
     let b0 = byte_half(file[at]);
     let b1 = byte_half(file[at + 1]);

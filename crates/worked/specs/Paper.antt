@@ -1,8 +1,8 @@
 -- P1 to P12 of document 01, 'Worked numbers': the table. That every line of it holds is shown in proofs/Paper.antt.
 use Rattle.std.specs.Prelude.{ℕ, ◌≡◌, List, [], ◌∷◌}
-use Rattle.key_hash.specs.Hash.{hashOf}
+use Rattle.key_hash.specs.Hash.{hash_of}
 use Rattle.words.specs.Align.{aligned}
-use Rattle.words.specs.Bits.{bloomCount}
+use Rattle.words.specs.Bits.{bloom_count}
 use Rattle.key_order.specs.Prefix.{prefixes}
 
 -- a line of the table, what is asked and what is answered
@@ -14,9 +14,9 @@ pub data Line : Type 0 where
 
 -- what a line says
 abbrev pub Holds : Line → Type 0
-Holds (Line.hash key answer) = hashOf key ≡ answer
+Holds (Line.hash key answer) = hash_of key ≡ answer
 Holds (Line.align offset alignment answer) = aligned offset alignment ≡ answer
-Holds (Line.blooms first answer) = bloomCount first ≡ answer
+Holds (Line.blooms first answer) = bloom_count first ≡ answer
 Holds (Line.splits separator key answer) = prefixes separator key ≡ answer
 
 abbrev pub AllHold : List Line → Type 0

@@ -9,158 +9,158 @@ use lib.Dec.{ltb}
 use lib.ListN.{length, take, drop}
 use Rattle.words.specs.Choice.{pick}
 use Rattle.words.specs.Store.{put_at}
-use Rattle.words.proofs.ChoiceLaws.{pick_true, pick-false, or-one}
+use Rattle.words.proofs.ChoiceLaws.{pick_true, pick-false, or_one}
 use Rattle.words.proofs.StoreLaws.{put_front}
-use Rattle.layout.specs.Limits.{longestFile, deepest, mostTables, mostFilter}
+use Rattle.layout.specs.Limits.{longest_file, deepest, most_tables, most_filter}
 use Rattle.layout.specs.declared.refusal.Refusal.{Refusal}
 use Rattle.layout.specs.declared.refusal.Refusal.TheVariants.{MemoryBroken, TableUnknown, TooManyFilterWords, EmptyKey, ImageTooLong}
-use Rattle.build_rules.specs.Valid.{fullyValid}
-use Rattle.layout.specs.Sizes.{headerSize, chunkSize}
-use Rattle.write_parts.specs.Numbered.{slotCount, numberedImage}
+use Rattle.build_rules.specs.Valid.{fully_valid}
+use Rattle.layout.specs.Sizes.{header_size, chunk_size}
+use Rattle.write_parts.specs.Numbered.{slot_count, numbered_image}
 use Rattle.write_numbers.specs.Roster.{state_of}
 use Rattle.write.specs.declared.Written.{Written}
-use Rattle.build_tables.specs.Table.{freeStanding}
-use Rattle.write.specs.Write.{hasEmpty, tooLong, imageFor, writeAnswer, laidBy, imageAfter}
-use Rattle.write.specs.Answer.{sizeAnswer, fitAnswer, tableAnswer}
+use Rattle.build_tables.specs.Table.{free_standing}
+use Rattle.write.specs.Write.{has_empty, too_long, image_for, write_answer, laid_by, image_after}
+use Rattle.write.specs.Answer.{size_answer, fit_answer, table_answer}
 use Rattle.write_slots.specs.NumberedAs.{NumberedAs}
-use Rattle.write.proofs.NumberedLaws.{numbered-image, numbered-count}
+use Rattle.write.proofs.NumberedLaws.{numbered_image_lem, numbered_count}
 
 -- ---- an answer, and what it lays
 
 pub record Given (answer r : Written) (image before after : List ℕ) : Type 0 where
   pub answers : r ≡ answer
-  pub lays : after ≡ laidBy answer image before
+  pub lays : after ≡ laid_by answer image before
 
-nothing-laid : (why : Refusal) (image before : List ℕ) → before ≡ laidBy (Written.Refused why) image before
-unfolding laidBy
-nothing-laid why image before = refl
+nothing_laid : (why : Refusal) (image before : List ℕ) → before ≡ laid_by (Written.Refused why) image before
+unfolding laid_by
+nothing_laid why image before = refl
 
 refused : (answer : Written) (image before : List ℕ) (why : Refusal) → Written.Refused why ≡ answer → Given answer (Written.Refused why) image before before
-refused answer image before why e = record { answers = e; lays = nothing-laid why image before ∙ ap (λ (a : Written). laidBy a image before) e }
+refused answer image before why e = record { answers = e; lays = nothing_laid why image before ∙ ap (λ (a : Written). laid_by a image before) e }
 
-all_laid : (start end size : ℕ) (image before : List ℕ) → put_at before 0 image ≡ laidBy (Written.Image start end size) image before
-unfolding laidBy
+all_laid : (start end size : ℕ) (image before : List ℕ) → put_at before 0 image ≡ laid_by (Written.Image start end size) image before
+unfolding laid_by
 all_laid start end size image before = refl
 
 -- ---- by size
 
 module _ (filter room count size : ℕ) where
-  size-long : longestFile < size → Written.Refused ImageTooLong ≡ sizeAnswer filter room count size
-  unfolding sizeAnswer tooLong
-  size-long h = sym (pick_true (Written.Refused ImageTooLong) (Written.Image headerSize (headerSize + chunkSize filter count) size) (ap (λ (b : Bool). b || ltb room size) (lt-ltb _ _ h)))
+  size_long : longest_file < size → Written.Refused ImageTooLong ≡ size_answer filter room count size
+  unfolding size_answer too_long
+  size_long h = sym (pick_true (Written.Refused ImageTooLong) (Written.Image header_size (header_size + chunk_size filter count) size) (ap (λ (b : Bool). b || ltb room size) (lt-ltb _ _ h)))
 
-  size-wide : room < size → Written.Refused ImageTooLong ≡ sizeAnswer filter room count size
-  unfolding sizeAnswer tooLong
-  size-wide h = sym (pick_true (Written.Refused ImageTooLong) (Written.Image headerSize (headerSize + chunkSize filter count) size) (or-one (ltb longestFile size) (ltb room size) (lt-ltb _ _ h)))
+  size_wide : room < size → Written.Refused ImageTooLong ≡ size_answer filter room count size
+  unfolding size_answer too_long
+  size_wide h = sym (pick_true (Written.Refused ImageTooLong) (Written.Image header_size (header_size + chunk_size filter count) size) (or_one (ltb longest_file size) (ltb room size) (lt-ltb _ _ h)))
 
-  size_fits : size ≤ longestFile → size ≤ room → Written.Image 24 (headerSize + chunkSize filter count) size ≡ sizeAnswer filter room count size
-  unfolding sizeAnswer tooLong
-  size_fits h k = sym (pick-false (Written.Refused ImageTooLong) (Written.Image headerSize (headerSize + chunkSize filter count) size) (ap (λ (b : Bool). b || ltb room size) (le-ltb _ _ h) ∙ le-ltb _ _ k))
+  size_fits : size ≤ longest_file → size ≤ room → Written.Image 24 (header_size + chunk_size filter count) size ≡ size_answer filter room count size
+  unfolding size_answer too_long
+  size_fits h k = sym (pick-false (Written.Refused ImageTooLong) (Written.Image header_size (header_size + chunk_size filter count) size) (ap (λ (b : Bool). b || ltb room size) (le-ltb _ _ h) ∙ le-ltb _ _ k))
 
-chunk-is : (filter count : ℕ) → 24 + (8 + 4 * filter + 28 * count) ≡ headerSize + chunkSize filter count
-unfolding chunkSize
-chunk-is filter count = refl
+chunk_is : (filter count : ℕ) → 24 + (8 + 4 * filter + 28 * count) ≡ header_size + chunk_size filter count
+unfolding chunk_size
+chunk_is filter count = refl
 
 module _ (filter : ℕ) (numbered ar before : List ℕ) (t : ℕ) where
   -- the answer from the numbered table
   abbrev pub FromNumbered : Written → List ℕ → Type 0
-  FromNumbered r after = Given (fitAnswer filter numbered ar t (length before)) r (numberedImage filter numbered ar t) before after
+  FromNumbered r after = Given (fit_answer filter numbered ar t (length before)) r (numbered_image filter numbered ar t) before after
 
-  pub numbered-long : longestFile < length (numberedImage filter numbered ar t) → FromNumbered (Written.Refused ImageTooLong) before
-  unfolding fitAnswer
-  numbered-long h = refused _ (numberedImage filter numbered ar t) before ImageTooLong (size-long filter (length before) (slotCount numbered t) (length (numberedImage filter numbered ar t)) h)
+  pub numbered_long : longest_file < length (numbered_image filter numbered ar t) → FromNumbered (Written.Refused ImageTooLong) before
+  unfolding fit_answer
+  numbered_long h = refused _ (numbered_image filter numbered ar t) before ImageTooLong (size_long filter (length before) (slot_count numbered t) (length (numbered_image filter numbered ar t)) h)
 
-  pub numbered-wide : length before < length (numberedImage filter numbered ar t) → FromNumbered (Written.Refused ImageTooLong) before
-  unfolding fitAnswer
-  numbered-wide h = refused _ (numberedImage filter numbered ar t) before ImageTooLong (size-wide filter (length before) (slotCount numbered t) (length (numberedImage filter numbered ar t)) h)
+  pub numbered_wide : length before < length (numbered_image filter numbered ar t) → FromNumbered (Written.Refused ImageTooLong) before
+  unfolding fit_answer
+  numbered_wide h = refused _ (numbered_image filter numbered ar t) before ImageTooLong (size_wide filter (length before) (slot_count numbered t) (length (numbered_image filter numbered ar t)) h)
 
-  pub numbered-laid : (size count : ℕ) (after : List ℕ) → size ≡ length (numberedImage filter numbered ar t) → size ≤ longestFile → size ≤ length before → count ≡ slotCount numbered t
-      → after ≡ put_at before 0 (numberedImage filter numbered ar t) → FromNumbered (Written.Image 24 (24 + (8 + 4 * filter + 28 * count)) size) after
-  unfolding fitAnswer
-  numbered-laid size count after es h k ec ea =
-      let e : Written.Image 24 (24 + (8 + 4 * filter + 28 * count)) size ≡ sizeAnswer filter (length before) (slotCount numbered t) (length (numberedImage filter numbered ar t)) =
-      ap (λ (n : ℕ). Written.Image 24 n size) (chunk-is filter count) ∙ size_fits filter (length before) count size h k ∙ ap (λ (n : ℕ). sizeAnswer filter (length before) n size) ec
-      ∙ ap (λ (n : ℕ). sizeAnswer filter (length before) (slotCount numbered t) n) es in
+  pub numbered_laid : (size count : ℕ) (after : List ℕ) → size ≡ length (numbered_image filter numbered ar t) → size ≤ longest_file → size ≤ length before → count ≡ slot_count numbered t
+      → after ≡ put_at before 0 (numbered_image filter numbered ar t) → FromNumbered (Written.Image 24 (24 + (8 + 4 * filter + 28 * count)) size) after
+  unfolding fit_answer
+  numbered_laid size count after es h k ec ea =
+      let e : Written.Image 24 (24 + (8 + 4 * filter + 28 * count)) size ≡ size_answer filter (length before) (slot_count numbered t) (length (numbered_image filter numbered ar t)) =
+      ap (λ (n : ℕ). Written.Image 24 n size) (chunk_is filter count) ∙ size_fits filter (length before) count size h k ∙ ap (λ (n : ℕ). size_answer filter (length before) n size) ec
+      ∙ ap (λ (n : ℕ). size_answer filter (length before) (slot_count numbered t) n) es in
       record {
         answers = e;
-        lays = ea ∙ all_laid 24 (24 + (8 + 4 * filter + 28 * count)) size (numberedImage filter numbered ar t) before ∙ ap (λ (a : Written). laidBy a (numberedImage filter numbered ar t) before) e;
+        lays = ea ∙ all_laid 24 (24 + (8 + 4 * filter + 28 * count)) size (numbered_image filter numbered ar t) before ∙ ap (λ (a : Written). laid_by a (numbered_image filter numbered ar t) before) e;
       }
 
 -- ---- the part of the buffer that is lent
 
-pub laid-front : (size : ℕ) (before part image : List ℕ) → length image ≤ size → part ≡ put_at (take size before) 0 image → part ++ drop size before ≡ put_at before 0 image
-laid-front size before part image h e = ap (λ (l : List ℕ). l ++ drop size before) e ∙ put_front size before 0 image (omega arith)
+pub laid_front : (size : ℕ) (before part image : List ℕ) → length image ≤ size → part ≡ put_at (take size before) 0 image → part ++ drop size before ≡ put_at before 0 image
+laid_front size before part image h e = ap (λ (l : List ℕ). l ++ drop size before) e ∙ put_front size before 0 image (omega arith)
 
 -- ---- from the roster
 
 module _ (rule : ℕ → ℕ) (filter : ℕ) (ws ar before : List ℕ) (t : ℕ) where
   -- the answer once no key is empty, once the table is known, and once the memory is valid
-  abbrev answerNamed : Written
-  answerNamed = sizeAnswer filter (length before) (length (state_of ws ar t).members) (length (imageFor rule filter ws ar t))
+  abbrev answer_named : Written
+  answer_named = size_answer filter (length before) (length (state_of ws ar t).members) (length (image_for rule filter ws ar t))
 
-  abbrev answerKnown : Written
-  answerKnown = pick (ltb mostFilter filter) (Written.Refused TooManyFilterWords) (tableAnswer rule filter ws ar t (length before))
+  abbrev answer_known : Written
+  answer_known = pick (ltb most_filter filter) (Written.Refused TooManyFilterWords) (table_answer rule filter ws ar t (length before))
 
-  abbrev answerValid : Written
-  answerValid = pick (freeStanding ws t) answerKnown (Written.Refused TableUnknown)
+  abbrev answer_valid : Written
+  answer_valid = pick (free_standing ws t) answer_known (Written.Refused TableUnknown)
 
   abbrev pub FromTable : Written → List ℕ → Type 0
-  FromTable r after = Given (tableAnswer rule filter ws ar t (length before)) r (imageFor rule filter ws ar t) before after
+  FromTable r after = Given (table_answer rule filter ws ar t (length before)) r (image_for rule filter ws ar t) before after
 
-  pub table_empty : {told : Bool} → told ≡ hasEmpty (state_of ws ar) deepest t → told ≡ true → FromTable (Written.Refused EmptyKey) before
-  unfolding tableAnswer
-  table_empty is e = refused _ (imageFor rule filter ws ar t) before EmptyKey (sym (pick_true (Written.Refused EmptyKey) answerNamed (sym is ∙ e)))
+  pub table_empty : {told : Bool} → told ≡ has_empty (state_of ws ar) deepest t → told ≡ true → FromTable (Written.Refused EmptyKey) before
+  unfolding table_answer
+  table_empty is e = refused _ (image_for rule filter ws ar t) before EmptyKey (sym (pick_true (Written.Refused EmptyKey) answer_named (sym is ∙ e)))
 
-  pub table-indexed : {told : Bool} → told ≡ hasEmpty (state_of ws ar) deepest t → told ≡ false → (numbered after : List ℕ) (r : Written) → NumberedAs rule ws ar numbered → t < mostTables
-      → r ≡ fitAnswer filter numbered ar t (length before) → after ≡ laidBy (fitAnswer filter numbered ar t (length before)) (numberedImage filter numbered ar t) before → FromTable r after
-  unfolding tableAnswer fitAnswer
-  table-indexed is none numbered after r s l e f =
-      let image : numberedImage filter numbered ar t ≡ imageFor rule filter ws ar t = numbered-image filter ws ar numbered s t l in
-      let same : sizeAnswer filter (length before) (slotCount numbered t) (length (numberedImage filter numbered ar t)) ≡ pick (hasEmpty (state_of ws ar) deepest t) (Written.Refused EmptyKey) answerNamed =
-      ap (λ (n : ℕ). sizeAnswer filter (length before) n (length (numberedImage filter numbered ar t))) (numbered-count filter ws ar numbered s t l)
-      ∙ ap (λ (x : List ℕ). sizeAnswer filter (length before) (length (state_of ws ar t).members) (length x)) image
-      ∙ sym (pick-false (Written.Refused EmptyKey) answerNamed (sym is ∙ none)) in
+  pub table_indexed : {told : Bool} → told ≡ has_empty (state_of ws ar) deepest t → told ≡ false → (numbered after : List ℕ) (r : Written) → NumberedAs rule ws ar numbered → t < most_tables
+      → r ≡ fit_answer filter numbered ar t (length before) → after ≡ laid_by (fit_answer filter numbered ar t (length before)) (numbered_image filter numbered ar t) before → FromTable r after
+  unfolding table_answer fit_answer
+  table_indexed is none numbered after r s l e f =
+      let image : numbered_image filter numbered ar t ≡ image_for rule filter ws ar t = numbered_image_lem filter ws ar numbered s t l in
+      let same : size_answer filter (length before) (slot_count numbered t) (length (numbered_image filter numbered ar t)) ≡ pick (has_empty (state_of ws ar) deepest t) (Written.Refused EmptyKey) answer_named =
+      ap (λ (n : ℕ). size_answer filter (length before) n (length (numbered_image filter numbered ar t))) (numbered_count filter ws ar numbered s t l)
+      ∙ ap (λ (x : List ℕ). size_answer filter (length before) (length (state_of ws ar t).members) (length x)) image
+      ∙ sym (pick-false (Written.Refused EmptyKey) answer_named (sym is ∙ none)) in
       record {
         answers = e ∙ same;
-        lays = f ∙ ap (λ (a : Written). laidBy a (numberedImage filter numbered ar t) before) same
-            ∙ ap (λ (x : List ℕ). laidBy (pick (hasEmpty (state_of ws ar) deepest t) (Written.Refused EmptyKey) answerNamed) x before) image;
+        lays = f ∙ ap (λ (a : Written). laid_by a (numbered_image filter numbered ar t) before) same
+            ∙ ap (λ (x : List ℕ). laid_by (pick (has_empty (state_of ws ar) deepest t) (Written.Refused EmptyKey) answer_named) x before) image;
       }
 
   -- ---- the whole answer
 
   abbrev pub FromWrite : Written → List ℕ → Type 0
-  FromWrite r after = Given (writeAnswer rule filter ws ar t (length before)) r (imageFor rule filter ws ar t) before after
+  FromWrite r after = Given (write_answer rule filter ws ar t (length before)) r (image_for rule filter ws ar t) before after
 
-  write-is : writeAnswer rule filter ws ar t (length before) ≡ pick (fullyValid ws ar) answerValid (Written.Refused MemoryBroken)
-  unfolding writeAnswer tableAnswer sizeAnswer
-  write-is = refl
+  write_is : write_answer rule filter ws ar t (length before) ≡ pick (fully_valid ws ar) answer_valid (Written.Refused MemoryBroken)
+  unfolding write_answer table_answer size_answer
+  write_is = refl
 
-  pub write-broken : fullyValid ws ar ≡ false → FromWrite (Written.Refused MemoryBroken) before
-  write-broken e = refused _ (imageFor rule filter ws ar t) before MemoryBroken (sym (write-is ∙ pick-false answerValid (Written.Refused MemoryBroken) e))
+  pub write-broken : fully_valid ws ar ≡ false → FromWrite (Written.Refused MemoryBroken) before
+  write-broken e = refused _ (image_for rule filter ws ar t) before MemoryBroken (sym (write_is ∙ pick-false answer_valid (Written.Refused MemoryBroken) e))
 
-  module _ (ok : fullyValid ws ar ≡ true) where
-    write-valid : writeAnswer rule filter ws ar t (length before) ≡ answerValid
-    write-valid = write-is ∙ pick_true answerValid (Written.Refused MemoryBroken) ok
+  module _ (ok : fully_valid ws ar ≡ true) where
+    write-valid : write_answer rule filter ws ar t (length before) ≡ answer_valid
+    write-valid = write_is ∙ pick_true answer_valid (Written.Refused MemoryBroken) ok
 
-    pub write-unknown : freeStanding ws t ≡ false → FromWrite (Written.Refused TableUnknown) before
-    write-unknown e = refused _ (imageFor rule filter ws ar t) before TableUnknown (sym (write-valid ∙ pick-false answerKnown (Written.Refused TableUnknown) e))
+    pub write_unknown : free_standing ws t ≡ false → FromWrite (Written.Refused TableUnknown) before
+    write_unknown e = refused _ (image_for rule filter ws ar t) before TableUnknown (sym (write-valid ∙ pick-false answer_known (Written.Refused TableUnknown) e))
 
-    module _ (free : freeStanding ws t ≡ true) where
-      write_known : writeAnswer rule filter ws ar t (length before) ≡ answerKnown
-      write_known = write-valid ∙ pick_true answerKnown (Written.Refused TableUnknown) free
+    module _ (free : free_standing ws t ≡ true) where
+      write_known : write_answer rule filter ws ar t (length before) ≡ answer_known
+      write_known = write-valid ∙ pick_true answer_known (Written.Refused TableUnknown) free
 
-      pub write-many : mostFilter < filter → FromWrite (Written.Refused TooManyFilterWords) before
-      write-many h =
-          refused _ (imageFor rule filter ws ar t) before TooManyFilterWords
-          (sym (write_known ∙ pick_true (Written.Refused TooManyFilterWords) (tableAnswer rule filter ws ar t (length before)) (lt-ltb _ _ h)))
+      pub write_many : most_filter < filter → FromWrite (Written.Refused TooManyFilterWords) before
+      write_many h =
+          refused _ (image_for rule filter ws ar t) before TooManyFilterWords
+          (sym (write_known ∙ pick_true (Written.Refused TooManyFilterWords) (table_answer rule filter ws ar t (length before)) (lt-ltb _ _ h)))
 
-      pub index-and-write : filter ≤ mostFilter → (r : Written) (after : List ℕ) → r ≡ tableAnswer rule filter ws ar t (length before)
-          → after ≡ laidBy (tableAnswer rule filter ws ar t (length before)) (imageFor rule filter ws ar t) before → FromWrite r after
-      index-and-write h r after er ea =
-          let same : tableAnswer rule filter ws ar t (length before) ≡ writeAnswer rule filter ws ar t (length before) =
-          sym (write_known ∙ pick-false (Written.Refused TooManyFilterWords) (tableAnswer rule filter ws ar t (length before)) (le-ltb _ _ h)) in
-          record { answers = er ∙ same; lays = ea ∙ ap (λ (a : Written). laidBy a (imageFor rule filter ws ar t) before) same }
+      pub index_and_write : filter ≤ most_filter → (r : Written) (after : List ℕ) → r ≡ table_answer rule filter ws ar t (length before)
+          → after ≡ laid_by (table_answer rule filter ws ar t (length before)) (image_for rule filter ws ar t) before → FromWrite r after
+      index_and_write h r after er ea =
+          let same : table_answer rule filter ws ar t (length before) ≡ write_answer rule filter ws ar t (length before) =
+          sym (write_known ∙ pick-false (Written.Refused TooManyFilterWords) (table_answer rule filter ws ar t (length before)) (le-ltb _ _ h)) in
+          record { answers = er ∙ same; lays = ea ∙ ap (λ (a : Written). laid_by a (image_for rule filter ws ar t) before) same }
 
-  pub image-after : laidBy (writeAnswer rule filter ws ar t (length before)) (imageFor rule filter ws ar t) before ≡ imageAfter rule filter ws ar t before
-  unfolding imageAfter
-  image-after = refl
+  pub image_after_lem : laid_by (write_answer rule filter ws ar t (length before)) (image_for rule filter ws ar t) before ≡ image_after rule filter ws ar t before
+  unfolding image_after
+  image_after_lem = refl

@@ -2,61 +2,61 @@
 -- builder stays as it was.
 use Rattle.std.specs.Prelude.{ℕ, zero, suc, ◌+◌, Bool, false, ◌||◌, List, [], eqb, ltb, length, get_or}
 use Rattle.words.specs.Choice.{pick}
-use Rattle.words.specs.Below.{someBelow}
+use Rattle.words.specs.Below.{some_below}
 use Rattle.words.specs.Store.{put_at}
-use Rattle.layout.specs.Limits.{longestFile, deepest, mostFilter}
+use Rattle.layout.specs.Limits.{longest_file, deepest, most_filter}
 use Rattle.layout.specs.Refusal.{number}
 use Rattle.layout.specs.declared.refusal.Refusal.TheVariants.{MemoryBroken, TableUnknown, TooManyFilterWords, EmptyKey, ImageTooLong}
 use Rattle.model.specs.Table.{Content, State}
-use Rattle.build_rules.specs.Valid.{fullyValid}
-use Rattle.build_tables.specs.Table.{freeStanding}
-use Rattle.layout.specs.Sizes.{headerSize, chunkSize}
+use Rattle.build_rules.specs.Valid.{fully_valid}
+use Rattle.build_tables.specs.Table.{free_standing}
+use Rattle.layout.specs.Sizes.{header_size, chunk_size}
 use Rattle.image.specs.Image.{image_of}
 use Rattle.write_numbers.specs.Roster.{state_of}
 use Rattle.write.specs.declared.Written.{Written}
 
 -- what an item holds, if it holds a table, has an empty key
-unfoldable pub emptyHeld : (ℕ → Bool) → Content → Bool
-emptyHeld empty (Content.bytes value) = false
-emptyHeld empty (Content.nested t) = empty t
-emptyHeld empty Content.container = false
+unfoldable pub empty_held : (ℕ → Bool) → Content → Bool
+empty_held empty (Content.bytes value) = false
+empty_held empty (Content.nested t) = empty t
+empty_held empty Content.container = false
 
 -- an item with the empty key stands in table t or in those nested in it, as deep as d goes
-unfoldable pub hasEmpty : State → ℕ → ℕ → Bool
-hasEmpty state zero t = false
-hasEmpty state (suc d) t =
-    someBelow (λ k. eqb (length ((state t).key (get_or (state t).members k 0))) 0 || emptyHeld (λ u. hasEmpty state d u) ((state t).content (get_or (state t).members k 0)))
+unfoldable pub has_empty : State → ℕ → ℕ → Bool
+has_empty state zero t = false
+has_empty state (suc d) t =
+    some_below (λ k. eqb (length ((state t).key (get_or (state t).members k 0))) 0 || empty_held (λ u. has_empty state d u) ((state t).content (get_or (state t).members k 0)))
     (length (state t).members)
 
 -- what is to be laid, by a rule for a byte of the hash and with so many filter words in every table
-unfoldable pub imageFor : (ℕ → ℕ) → ℕ → List ℕ → List ℕ → ℕ → List ℕ
-imageFor rule filter ws ar t = image_of rule filter (state_of ws ar) t
+unfoldable pub image_for : (ℕ → ℕ) → ℕ → List ℕ → List ℕ → ℕ → List ℕ
+image_for rule filter ws ar t = image_of rule filter (state_of ws ar) t
 
 -- an image is longer than a buffer, or than a file may be
-unfoldable pub tooLong : ℕ → ℕ → Bool
-tooLong room size = ltb longestFile size || ltb room size
+unfoldable pub too_long : ℕ → ℕ → Bool
+too_long room size = ltb longest_file size || ltb room size
 
 -- the answer: the root pointer, which covers the table chunk, and the image's length
-unfoldable pub writeAnswer : (ℕ → ℕ) → ℕ → List ℕ → List ℕ → ℕ → ℕ → Written
-writeAnswer rule filter ws ar t room =
-    pick (fullyValid ws ar)
-    (pick (freeStanding ws t)
-    (pick (ltb mostFilter filter) (Written.Refused TooManyFilterWords)
-    (pick (hasEmpty (state_of ws ar) deepest t) (Written.Refused EmptyKey)
-    (pick (tooLong room (length (imageFor rule filter ws ar t))) (Written.Refused ImageTooLong)
-    (Written.Image headerSize (headerSize + chunkSize filter (length (state_of ws ar t).members)) (length (imageFor rule filter ws ar t))))))
+unfoldable pub write_answer : (ℕ → ℕ) → ℕ → List ℕ → List ℕ → ℕ → ℕ → Written
+write_answer rule filter ws ar t room =
+    pick (fully_valid ws ar)
+    (pick (free_standing ws t)
+    (pick (ltb most_filter filter) (Written.Refused TooManyFilterWords)
+    (pick (has_empty (state_of ws ar) deepest t) (Written.Refused EmptyKey)
+    (pick (too_long room (length (image_for rule filter ws ar t))) (Written.Refused ImageTooLong)
+    (Written.Image header_size (header_size + chunk_size filter (length (state_of ws ar t).members)) (length (image_for rule filter ws ar t))))))
     (Written.Refused TableUnknown))
     (Written.Refused MemoryBroken)
 
 -- the buffer: the image at its front, all else as it was; a refusal writes nothing
-unfoldable pub laidBy : Written → List ℕ → List ℕ → List ℕ
-laidBy (Written.Image start end size) image buffer = put_at buffer 0 image
-laidBy (Written.Refused why) image buffer = buffer
+unfoldable pub laid_by : Written → List ℕ → List ℕ → List ℕ
+laid_by (Written.Image start end size) image buffer = put_at buffer 0 image
+laid_by (Written.Refused why) image buffer = buffer
 
-unfoldable pub imageAfter : (ℕ → ℕ) → ℕ → List ℕ → List ℕ → ℕ → List ℕ → List ℕ
-imageAfter rule filter ws ar t buffer = laidBy (writeAnswer rule filter ws ar t (length buffer)) (imageFor rule filter ws ar t) buffer
+unfoldable pub image_after : (ℕ → ℕ) → ℕ → List ℕ → List ℕ → ℕ → List ℕ → List ℕ
+image_after rule filter ws ar t buffer = laid_by (write_answer rule filter ws ar t (length buffer)) (image_for rule filter ws ar t) buffer
 
 -- the document's number; 0 for a success
-unfoldable pub writtenNumber : Written → ℕ
-writtenNumber (Written.Image start end size) = 0
-writtenNumber (Written.Refused why) = number why
+unfoldable pub written_number : Written → ℕ
+written_number (Written.Image start end size) = 0
+written_number (Written.Refused why) = number why

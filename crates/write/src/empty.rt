@@ -1,12 +1,12 @@
 // The search for an empty key in a table and in those nested in it: a table and an item call each other, and the depth left falls.
 ghost use Rattle.std.specs.Prelude.{◌≡◌, true, ◌<◌};
-ghost use Rattle.key_hash.specs.Hash.{ruleOf};
-ghost use Rattle.build_memory.specs.Memory.{itemTotal};
-ghost use Rattle.build_rules.specs.Valid.{fullyValid};
+ghost use Rattle.key_hash.specs.Hash.{rule_of};
+ghost use Rattle.build_memory.specs.Memory.{item_total};
+ghost use Rattle.build_rules.specs.Valid.{fully_valid};
 ghost use Rattle.write_numbers.specs.Roster.{state_of, Rostered};
-ghost use Rattle.layout.specs.Limits.{mostTables};
-ghost use Rattle.write.specs.Write.{hasEmpty};
-ghost use Rattle.write.specs.Empty.{itemEmpty};
+ghost use Rattle.layout.specs.Limits.{most_tables};
+ghost use Rattle.write.specs.Write.{has_empty};
+ghost use Rattle.write.specs.Empty.{item_empty};
 
 use build_memory::fields::{GUEST, KEY_SIZE, KIND, item_word};
 use key_hash::hash::Form;
@@ -23,10 +23,10 @@ pub fn has_empty(
     depth: usize,
     form: Form,
 ) -> bool
-    requires arena_value { fullyValid words.now arena.now ≡ true }
-    requires rostered { Rostered (ruleOf form) words.now arena.now roster.now }
-    requires table_lt_most_tables { table < mostTables }
-    ensures { result ≡ hasEmpty (state_of words.now arena.now) depth table }
+    requires arena_value { fully_valid words.now arena.now ≡ true }
+    requires rostered { Rostered (rule_of form) words.now arena.now roster.now }
+    requires table_lt_most_tables { table < most_tables }
+    ensures { result ≡ has_empty (state_of words.now arena.now) depth table }
 {
     if depth == 0 {
         return false;
@@ -54,10 +54,10 @@ fn item_empty(
     depth: usize,
     form: Form,
 ) -> bool
-    requires arena_value { fullyValid words.now arena.now ≡ true }
-    requires rostered { Rostered (ruleOf form) words.now arena.now roster.now }
-    requires item_bound { item < itemTotal words.now }
-    ensures { result ≡ itemEmpty words.now arena.now depth item }
+    requires arena_value { fully_valid words.now arena.now ≡ true }
+    requires rostered { Rostered (rule_of form) words.now arena.now roster.now }
+    requires item_bound { item < item_total words.now }
+    ensures { result ≡ item_empty words.now arena.now depth item }
 {
     if item_word(words, item, KEY_SIZE) == 0 {
         return true;

@@ -1,13 +1,13 @@
 // A write: the judgement of the memory, the table, the number of filter words, empty keys, the image's length; then the image.
 ghost use Rattle.std.specs.Prelude.{◌≡◌, true, ◌<◌, ◌≤◌, length};
-ghost use Rattle.key_hash.specs.Hash.{ruleOf};
+ghost use Rattle.key_hash.specs.Hash.{rule_of};
 ghost use Rattle.words.specs.Store.{put_at};
-ghost use Rattle.layout.specs.Limits.{mostTables, mostFilter, longestFile};
-ghost use Rattle.build_rules.specs.Valid.{fullyValid};
-ghost use Rattle.write_parts.specs.Numbered.{numberedImage, NumberedFits};
+ghost use Rattle.layout.specs.Limits.{most_tables, most_filter, longest_file};
+ghost use Rattle.build_rules.specs.Valid.{fully_valid};
+ghost use Rattle.write_parts.specs.Numbered.{numbered_image, NumberedFits};
 ghost use Rattle.write_numbers.specs.Roster.{Rostered};
-ghost use Rattle.write.specs.Write.{imageFor, writeAnswer, laidBy, imageAfter};
-ghost use Rattle.write.specs.Answer.{fitAnswer, tableAnswer};
+ghost use Rattle.write.specs.Write.{image_for, write_answer, laid_by, image_after};
+ghost use Rattle.write.specs.Answer.{fit_answer, table_answer};
 
 use crate::Written;
 use crate::empty::has_empty;
@@ -36,9 +36,9 @@ fn lay_into(
     filter: usize,
 )
     requires numbered_fits { NumberedFits numbered.now arena.now }
-    requires table_lt_most_tables { (table < mostTables) × (filter ≤ mostFilter) × (size ≡ length (numberedImage filter numbered.now arena.now table)) }
-    requires size_in_bounds { (size ≤ length image.old) × (size ≤ longestFile) }
-    ensures { image.new ≡ put_at image.old 0 (numberedImage filter numbered.now arena.now table) }
+    requires table_lt_most_tables { (table < most_tables) × (filter ≤ most_filter) × (size ≡ length (numbered_image filter numbered.now arena.now table)) }
+    requires size_in_bounds { (size ≤ length image.old) × (size ≤ longest_file) }
+    ensures { image.new ≡ put_at image.old 0 (numbered_image filter numbered.now arena.now table) }
 {
     lay_image(numbered, arena, table, &mut image[..size], filter);
 }
@@ -52,9 +52,9 @@ fn write_if_fits(
     filter: usize,
 ) -> Written
     requires numbered_fits { NumberedFits numbered.now arena.now }
-    requires table_lt_most_tables { (table < mostTables) × (filter ≤ mostFilter) }
-    ensures value { result ≡ fitAnswer filter numbered.now arena.now table (length image.old) }
-    ensures image_after { image.new ≡ laidBy (fitAnswer filter numbered.now arena.now table (length image.old)) (numberedImage filter numbered.now arena.now table) image.old }
+    requires table_lt_most_tables { (table < most_tables) × (filter ≤ most_filter) }
+    ensures value { result ≡ fit_answer filter numbered.now arena.now table (length image.old) }
+    ensures image_after { image.new ≡ laid_by (fit_answer filter numbered.now arena.now table (length image.old)) (numbered_image filter numbered.now arena.now table) image.old }
 {
     let Measured::End(size) = measure(numbered, arena, table, filter) else {
         return Written::Refused(Refusal::ImageTooLong);
@@ -82,11 +82,11 @@ fn write_unless_empty(
     form: Form,
     filter: usize,
 ) -> Written
-    requires arena_value { fullyValid words.now arena.now ≡ true }
-    requires rostered { Rostered (ruleOf form) words.now arena.now roster.now }
-    requires table_lt_most_tables { (table < mostTables) × (filter ≤ mostFilter) }
-    ensures value { result ≡ tableAnswer (ruleOf form) filter words.now arena.now table (length image.old) }
-    ensures image_after { image.new ≡ laidBy (tableAnswer (ruleOf form) filter words.now arena.now table (length image.old)) (imageFor (ruleOf form) filter words.now arena.now table) image.old }
+    requires arena_value { fully_valid words.now arena.now ≡ true }
+    requires rostered { Rostered (rule_of form) words.now arena.now roster.now }
+    requires table_lt_most_tables { (table < most_tables) × (filter ≤ most_filter) }
+    ensures value { result ≡ table_answer (rule_of form) filter words.now arena.now table (length image.old) }
+    ensures image_after { image.new ≡ laid_by (table_answer (rule_of form) filter words.now arena.now table (length image.old)) (image_for (rule_of form) filter words.now arena.now table) image.old }
 {
     if has_empty(words, arena, roster, table, DEEPEST, form) {
         return Written::Refused(Refusal::EmptyKey);
@@ -106,11 +106,11 @@ fn index_and_write(
     form: Form,
     filter: usize,
 ) -> Written
-    requires arena_value { fullyValid words.old arena.now ≡ true }
-    requires table_lt_most_tables { (table < mostTables) × (filter ≤ mostFilter) }
+    requires arena_value { fully_valid words.old arena.now ≡ true }
+    requires table_lt_most_tables { (table < most_tables) × (filter ≤ most_filter) }
     ensures words_unchanged { words.new ≡ words.old }
-    ensures value { result ≡ tableAnswer (ruleOf form) filter words.old arena.now table (length image.old) }
-    ensures image_after { image.new ≡ laidBy (tableAnswer (ruleOf form) filter words.old arena.now table (length image.old)) (imageFor (ruleOf form) filter words.old arena.now table) image.old }
+    ensures value { result ≡ table_answer (rule_of form) filter words.old arena.now table (length image.old) }
+    ensures image_after { image.new ≡ laid_by (table_answer (rule_of form) filter words.old arena.now table (length image.old)) (image_for (rule_of form) filter words.old arena.now table) image.old }
 {
     let mut roster = [0usize; ROSTER_SIZE];
     roster_all(words, arena, &mut roster, form);
@@ -128,8 +128,8 @@ pub fn write(
     filter: u32,
 ) -> Written
     ensures words_unchanged { words.new ≡ words.old }
-    ensures value { result ≡ writeAnswer (ruleOf form) filter words.old arena.now table (length image.old) }
-    ensures image_after { image.new ≡ imageAfter (ruleOf form) filter words.old arena.now table image.old }
+    ensures value { result ≡ write_answer (rule_of form) filter words.old arena.now table (length image.old) }
+    ensures image_after { image.new ≡ image_after (rule_of form) filter words.old arena.now table image.old }
 {
     if !judge_fully(words, arena) {
         return Written::Refused(Refusal::MemoryBroken);

@@ -6,18 +6,18 @@ use native.Mathlib.Omega.{arith}
 use lib.ListN.{length, length-append}
 use Rattle.words.specs.Store.{put_at, zeros}
 use Rattle.words.proofs.StoreLaws.{length-zeros}
-use Rattle.layout.specs.Sizes.{headerSize}
+use Rattle.layout.specs.Sizes.{header_size}
 use Rattle.layout.specs.Limits.{deepest}
 use Rattle.image.specs.Laid.{Laid}
-use Rattle.write_parts.specs.Numbered.{numberedBytes, numberedImage}
+use Rattle.write_parts.specs.Numbered.{numbered_bytes, numbered_image}
 use Rattle.words.proofs.StoreLaws.{put_then}
 
 module _ (filter : ℕ) (numbered arena : List ℕ) (root : ℕ) where
-  pub length-image : length (numberedImage filter numbered arena root) ≡ headerSize + length (numberedBytes filter numbered arena deepest root headerSize)
-  unfolding numberedImage
-  length-image = length-append (zeros 24) (numberedBytes filter numbered arena 8 root 24) ∙ ap (λ (n : ℕ). n + length (numberedBytes filter numbered arena 8 root 24)) (length-zeros 24)
+  pub length-image : length (numbered_image filter numbered arena root) ≡ header_size + length (numbered_bytes filter numbered arena deepest root header_size)
+  unfolding numbered_image
+  length-image = length-append (zeros 24) (numbered_bytes filter numbered arena 8 root 24) ∙ ap (λ (n : ℕ). n + length (numbered_bytes filter numbered arena 8 root 24)) (length-zeros 24)
 
-  pub image-laid : (l : List ℕ) {m n : List ℕ} {end : ℕ} → m ≡ put_at l 0 (zeros headerSize) → Laid m n headerSize (numberedBytes filter numbered arena deepest root headerSize) end
-      → n ≡ put_at l 0 (numberedImage filter numbered arena root)
-  unfolding numberedImage
-  image-laid l p laid = put_then l 0 (zeros 24) (numberedBytes filter numbered arena 8 root 24) (omega (arith, length-zeros 24)) p laid.image-is
+  pub image_laid : (l : List ℕ) {m n : List ℕ} {end : ℕ} → m ≡ put_at l 0 (zeros header_size) → Laid m n header_size (numbered_bytes filter numbered arena deepest root header_size) end
+      → n ≡ put_at l 0 (numbered_image filter numbered arena root)
+  unfolding numbered_image
+  image_laid l p laid = put_then l 0 (zeros 24) (numbered_bytes filter numbered arena 8 root 24) (omega (arith, length-zeros 24)) p laid.image_is

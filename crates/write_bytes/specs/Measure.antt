@@ -2,9 +2,9 @@
 use Rattle.std.specs.Prelude.{ℕ, List, ltb, length}
 use Rattle.words.specs.Choice.{pick}
 use Rattle.words.specs.Store.{put_at}
-use Rattle.layout.specs.Limits.{longestFile}
+use Rattle.layout.specs.Limits.{longest_file}
 use Rattle.write_bytes.specs.declared.Measured.{Measured}
 
 -- where what is measured ends, unless that is past the most bytes that an image may have
 unfoldable pub measured : ℕ → Measured
-measured end = pick (ltb longestFile end) Measured.TooLong (Measured.End end)
+measured end = pick (ltb longest_file end) Measured.TooLong (Measured.End end)

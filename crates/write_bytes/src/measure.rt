@@ -1,8 +1,8 @@
 // A table measured before a byte of it is laid: two functions that call each other as in laying, without an image.
 ghost use Rattle.std.specs.Prelude.{◌≡◌, ◌+◌, ◌≤◌, ◌<◌, length};
-ghost use Rattle.layout.specs.Limits.{longestFile, mostTables, mostItems, mostFilter};
-ghost use Rattle.write_parts.specs.Numbered.{numberedBytes, NumberedFits};
-ghost use Rattle.write_parts.specs.Slot.{slotItem};
+ghost use Rattle.layout.specs.Limits.{longest_file, most_tables, most_items, most_filter};
+ghost use Rattle.write_parts.specs.Numbered.{numbered_bytes, NumberedFits};
+ghost use Rattle.write_parts.specs.Slot.{slot_item};
 ghost use Rattle.write_bytes.specs.Measure.{measured};
 
 use crate::Measured;
@@ -23,8 +23,8 @@ pub fn measure_table(
     filter: usize,
 ) -> Measured
     requires numbered_fits { NumberedFits numbered.now arena.now }
-    requires table_lt_most_tables { (table < mostTables) × (at ≤ longestFile) × (filter ≤ mostFilter) }
-    ensures { result ≡ measured (at + length (numberedBytes filter numbered.now arena.now depth table at)) }
+    requires table_lt_most_tables { (table < most_tables) × (at ≤ longest_file) × (filter ≤ most_filter) }
+    ensures { result ≡ measured (at + length (numbered_bytes filter numbered.now arena.now depth table at)) }
 {
     if depth == 0 {
         return Measured::End(at);
@@ -58,8 +58,8 @@ fn measure_item(
     filter: usize,
 ) -> Measured
     requires numbered_fits { NumberedFits numbered.now arena.now }
-    requires slot_lt_most_items { (slot < mostItems) × (at ≤ longestFile) × (filter ≤ mostFilter) }
-    ensures { result ≡ measured (at + length (slotItem (numberedBytes filter numbered.now arena.now depth) numbered.now arena.now slot at)) }
+    requires slot_lt_most_items { (slot < most_items) × (at ≤ longest_file) × (filter ≤ most_filter) }
+    ensures { result ≡ measured (at + length (slot_item (numbered_bytes filter numbered.now arena.now depth) numbered.now arena.now slot at)) }
 {
     let start = value_start(numbered, slot, at);
     if LONGEST_FILE < start {

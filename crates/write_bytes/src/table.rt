@@ -2,10 +2,10 @@
 ghost use Rattle.std.specs.Prelude.{◌+◌, ◌≤◌, ◌<◌, length};
 ghost use Rattle.words.specs.Store.{put_at};
 ghost use Rattle.image.specs.Laid.{Laid};
-ghost use Rattle.layout.specs.Limits.{longestFile, mostTables, mostItems, mostFilter};
-ghost use Rattle.layout.specs.Sizes.{recordSize};
-ghost use Rattle.write_parts.specs.Numbered.{numberedBytes, NumberedFits};
-ghost use Rattle.write_parts.specs.Slot.{slotStart, slotRecord, slotItem};
+ghost use Rattle.layout.specs.Limits.{longest_file, most_tables, most_items, most_filter};
+ghost use Rattle.layout.specs.Sizes.{record_size};
+ghost use Rattle.write_parts.specs.Numbered.{numbered_bytes, NumberedFits};
+ghost use Rattle.write_parts.specs.Slot.{slot_start, slot_record, slot_item};
 
 use layout::kind::TABLE_KIND;
 use layout::sizes::{BUCKET_SIZE, FILTER_SIZE, HEAD_SIZE, RECORD_SIZE};
@@ -26,9 +26,9 @@ pub fn lay_table(
     filter: usize,
 ) -> usize
     requires numbered_fits { NumberedFits numbered.now arena.now }
-    requires table_lt_most_tables { (table < mostTables) × (filter ≤ mostFilter) }
-    requires at_in_bounds { (at + length (numberedBytes filter numbered.now arena.now depth table at) ≤ length image.old) × (length image.old ≤ longestFile) }
-    ensures { Laid image.old image.new at (numberedBytes filter numbered.now arena.now depth table at) result }
+    requires table_lt_most_tables { (table < most_tables) × (filter ≤ most_filter) }
+    requires at_in_bounds { (at + length (numbered_bytes filter numbered.now arena.now depth table at) ≤ length image.old) × (length image.old ≤ longest_file) }
+    ensures { Laid image.old image.new at (numbered_bytes filter numbered.now arena.now depth table at) result }
 {
     if depth == 0 {
         return at;
@@ -69,9 +69,9 @@ fn lay_item(
     filter: usize,
 ) -> usize
     requires numbered_fits { NumberedFits numbered.now arena.now }
-    requires slot_lt_most_items { (slot < mostItems) × (to + recordSize ≤ at) × (filter ≤ mostFilter) }
-    requires at_in_bounds { (at + length (slotItem (numberedBytes filter numbered.now arena.now depth) numbered.now arena.now slot at) ≤ length image.old) × (length image.old ≤ longestFile) }
-    ensures { Laid (put_at image.old to (slotRecord numbered.now filter slot at (slotStart numbered.now slot at))) image.new at (slotItem (numberedBytes filter numbered.now arena.now depth) numbered.now arena.now slot at) result }
+    requires slot_lt_most_items { (slot < most_items) × (to + record_size ≤ at) × (filter ≤ most_filter) }
+    requires at_in_bounds { (at + length (slot_item (numbered_bytes filter numbered.now arena.now depth) numbered.now arena.now slot at) ≤ length image.old) × (length image.old ≤ longest_file) }
+    ensures { Laid (put_at image.old to (slot_record numbered.now filter slot at (slot_start numbered.now slot at))) image.new at (slot_item (numbered_bytes filter numbered.now arena.now depth) numbered.now arena.now slot at) result }
 {
     let start = value_start(numbered, slot, at);
     lay_record(numbered, image, slot, to, at, start, filter);

@@ -10,87 +10,87 @@ use lib.ListN.{length, get_or, drop, set, length-set, length-drop}
 use borrow.Rule.Slice.PartMut.{put_mid, post_of, Post-is}
 use lib.Seq.{get_or-set_same, get_or-set_other, drop-drop, drop-length, take_all}
 use Rattle.words.specs.Store.{part, put_at}
-use Rattle.words.proofs.StoreLaws.{put-parts, part-put, get-put, get-before}
+use Rattle.words.proofs.StoreLaws.{put_parts, part-put, get_put, get_before}
 use Rattle.model.specs.Table.{Has}
-use Rattle.layout.specs.Limits.{mostItems, mostTables}
-use Rattle.build_memory.specs.Memory.{itemTotal, itemTable}
-use Rattle.image.specs.Index.{hashesOf, bucketStart, byIndex, item_of, laidIndex}
-use Rattle.image.proofs.IndexLaws.{length-hashes, length-by-index, numbering}
+use Rattle.layout.specs.Limits.{most_items, most_tables}
+use Rattle.build_memory.specs.Memory.{item_total, item_table}
+use Rattle.image.specs.Index.{hashes_of, bucket_start, by_index, item_of, laid_index}
+use Rattle.image.proofs.IndexLaws.{length_hashes, length-by_index, numbering}
 use Rattle.write_order.specs.Chain.{starts}
-use Rattle.write_order.specs.Items.{AllBelow, indicesPut}
-use Rattle.write_order.proofs.ChainLaws.{length-starts, starts-at}
-use Rattle.write_order.proofs.ItemLaws.{indices-of}
+use Rattle.write_order.specs.Items.{AllBelow, indices_put}
+use Rattle.write_order.proofs.ChainLaws.{length-starts, starts_at}
+use Rattle.write_order.proofs.ItemLaws.{indices_of}
 use Rattle.write_numbers.specs.Roster.{state_of}
-use Rattle.write_numbers.specs.Fill.{allOfTable, firstSlotOf, Fit, Fits, IndexedAs, Put, Sized, Filled}
-use Rattle.write_numbers.proofs.OfTableLaws.{slot_next, slot_apart, slot-few}
-use Rattle.write_numbers.proofs.StateLaws.{state-members, state-below, state-once, state-table, state-has}
+use Rattle.write_numbers.specs.Fill.{all_of_table, first_slot_of, Fit, Fits, IndexedAs, Put, Sized, Filled}
+use Rattle.write_numbers.proofs.OfTableLaws.{slot_next, slot_apart, slot_few}
+use Rattle.write_numbers.proofs.StateLaws.{state_members, state_below, state_once, state_table, state_has}
 
 -- ---- one table
 
 module _ (ws ar : List ℕ) (t : ℕ) where
-  by-index-has : (rule : ℕ → ℕ) (k : ℕ) → k < length (byIndex rule (state_of ws ar t)) → Has (state_of ws ar t).members (get_or (byIndex rule (state_of ws ar t)) k 0)
-  by-index-has rule k h = (numbering rule (state_of ws ar t) (state-once ws ar t)).has k (omega (arith, length-by-index rule (state_of ws ar t)))
+  by_index_has : (rule : ℕ → ℕ) (k : ℕ) → k < length (by_index rule (state_of ws ar t)) → Has (state_of ws ar t).members (get_or (by_index rule (state_of ws ar t)) k 0)
+  by_index_has rule k h = (numbering rule (state_of ws ar t) (state_once ws ar t)).has k (omega (arith, length-by_index rule (state_of ws ar t)))
 
-  by-index-below : (rule : ℕ → ℕ) (n : ℕ) → itemTotal ws ≤ n → AllBelow n (byIndex rule (state_of ws ar t))
+  by_index_below : (rule : ℕ → ℕ) (n : ℕ) → item_total ws ≤ n → AllBelow n (by_index rule (state_of ws ar t))
   unfolding AllBelow
-  by-index-below rule n few k h = omega (arith, state-below ws ar t _ (by-index-has rule k h))
+  by_index_below rule n few k h = omega (arith, state_below ws ar t _ (by_index_has rule k h))
 
-  members-long : length (state_of ws ar t).members ≡ length (allOfTable ws t)
-  members-long = ap length (state-members ws ar t)
+  members_long : length (state_of ws ar t).members ≡ length (all_of_table ws t)
+  members_long = ap length (state_members ws ar t)
 
 -- words lent from `first` on, with vs stored at their front, and put back
 put-tail : (l vs : List ℕ) (first : ℕ) {tail : List ℕ} → first + length vs ≤ length l → tail ≡ put_at (part l first (length l - first)) 0 vs → put_mid first (length l - first) l tail ≡ put_at l first vs
 put-tail l vs first fits e =
     let none : post_of first (length l - first) l ≡ [] = Post-is first (length l) l (omega arith) ∙ drop-length l in
-    let behind : drop (0 + length vs) (drop first l) ≡ drop (first + length vs) l = drop-drop (0 + length vs) first l ∙ ap (λ (n : ℕ). drop n l) (plus-zero (length vs)) in
+    let behind : drop (0 + length vs) (drop first l) ≡ drop (first + length vs) l = drop-drop (0 + length vs) first l ∙ ap (λ (n : ℕ). drop n l) (plus_zero (length vs)) in
     let whole : part l first (length l - first) ≡ drop first l = take_all (length l - first) (drop first l) (omega (arith, length-drop first l)) in
-    rw (none, append-nil, e, whole, put-parts (drop first l) 0 vs (omega (arith, length-drop first l)), behind, put-parts l first vs fits, append_assoc)
+    rw (none, append-nil, e, whole, put_parts (drop first l) 0 vs (omega (arith, length-drop first l)), behind, put_parts l first vs fits, append_assoc)
   where
-    plus-zero : (n : ℕ) → first + (0 + n) ≡ first + n
-    plus-zero n = omega arith
+    plus_zero : (n : ℕ) → first + (0 + n) ≡ first + n
+    plus_zero n = omega arith
 
 module _ {rule : ℕ → ℕ} (ws ar : List ℕ) (t first n : ℕ) (slots slots' buckets buckets' : List ℕ) (fit : Fit ws) (fits : Fits ws t first)
-    (in-slots : length slots ≡ mostItems) (in-buckets : length buckets ≡ mostItems)
+    (in-slots : length slots ≡ most_items) (in-buckets : length buckets ≡ most_items)
     (l : IndexedAs rule ws ar t n (part slots first (length slots - first)) slots' (part buckets first (length buckets - first)) buckets') where
-  pub indexed-count : n ≡ length (allOfTable ws t)
-  indexed-count = l.count ∙ members-long ws ar t
+  pub indexed_count : n ≡ length (all_of_table ws t)
+  indexed_count = l.count ∙ members_long ws ar t
 
-  long : length (byIndex rule (state_of ws ar t)) ≡ n
-  long = length-by-index rule (state_of ws ar t) ∙ sym l.count
+  long : length (by_index rule (state_of ws ar t)) ≡ n
+  long = length-by_index rule (state_of ws ar t) ∙ sym l.count
 
-  slots-put : put_mid first (length slots - first) slots slots' ≡ put_at slots first (byIndex rule (state_of ws ar t))
-  slots-put = put-tail slots (byIndex rule (state_of ws ar t)) first (omega (arith, long, indexed-count, fits)) l.items-are
+  slots_put : put_mid first (length slots - first) slots slots' ≡ put_at slots first (by_index rule (state_of ws ar t))
+  slots_put = put-tail slots (by_index rule (state_of ws ar t)) first (omega (arith, long, indexed_count, fits)) l.items_are
 
-  buckets-put : put_mid first (length buckets - first) buckets buckets' ≡ put_at buckets first (starts (hashesOf rule (state_of ws ar t)))
-  buckets-put = put-tail buckets (starts (hashesOf rule (state_of ws ar t))) first
-      (omega (arith, length-starts (hashesOf rule (state_of ws ar t)), length-hashes rule (state_of ws ar t), l.count, indexed-count, fits)) l.firsts-are
+  buckets-put : put_mid first (length buckets - first) buckets buckets' ≡ put_at buckets first (starts (hashes_of rule (state_of ws ar t)))
+  buckets-put = put-tail buckets (starts (hashes_of rule (state_of ws ar t))) first
+      (omega (arith, length-starts (hashes_of rule (state_of ws ar t)), length_hashes rule (state_of ws ar t), l.count, indexed_count, fits)) l.firsts_are
 
   -- the items in the slots of the table
-  pub slots-part : part (put_mid first (length slots - first) slots slots') first (first + n - first) ≡ byIndex rule (state_of ws ar t)
-  slots-part = let size : first + n - first ≡ length (byIndex rule (state_of ws ar t)) = omega (arith, long) in
-      rw (slots-put, size) (part-put slots first (byIndex rule (state_of ws ar t)) (omega (arith, long, indexed-count, fits)))
+  pub slots_part : part (put_mid first (length slots - first) slots slots') first (first + n - first) ≡ by_index rule (state_of ws ar t)
+  slots_part = let size : first + n - first ≡ length (by_index rule (state_of ws ar t)) = omega (arith, long) in
+      rw (slots_put, size) (part-put slots first (by_index rule (state_of ws ar t)) (omega (arith, long, indexed_count, fits)))
 
-  pub slots-below : (most : ℕ) → mostItems ≤ most → AllBelow most (byIndex rule (state_of ws ar t))
-  slots-below most h = by-index-below ws ar t rule most (omega (arith, fit.few))
+  pub slots_below : (most : ℕ) → most_items ≤ most → AllBelow most (by_index rule (state_of ws ar t))
+  slots_below most h = by_index_below ws ar t rule most (omega (arith, fit.few))
 
-  pub put_all : (indices indices' items : List ℕ) → items ≡ byIndex rule (state_of ws ar t) → indices' ≡ indicesPut indices items (length items)
+  pub put_all : (indices indices' items : List ℕ) → items ≡ by_index rule (state_of ws ar t) → indices' ≡ indices_put indices items (length items)
       → Put rule ws ar t first n slots (put_mid first (length slots - first) slots slots') indices indices' buckets (put_mid first (length buckets - first) buckets buckets')
   put_all indices indices' items is en = record {
     count = l.count;
-    slots-are = slots-put;
-    buckets-are = buckets-put;
-    indices-are = en ∙ ap (λ (m : List ℕ). indicesPut indices m (length m)) is;
+    slots_are = slots_put;
+    buckets_are = buckets-put;
+    indices_are = en ∙ ap (λ (m : List ℕ). indices_put indices m (length m)) is;
   }
 
 -- ---- one table more
 
 -- an item that is not among those that get an index keeps the one that it has
-indices-other : (indices items : List ℕ) (i n : ℕ) → n ≤ length items → ((k : ℕ) → k < length items → get_or items k 0 ≡ i → ⊥)
-    → get_or (indicesPut indices items n) i 0 ≡ get_or indices i 0
-unfolding indicesPut
-indices-other indices items i zero h ne = refl
-indices-other indices items i (suc n) h ne =
-    get_or-set_other (indicesPut indices items n) (get_or items n 0) i n 0 (λ e. ne n (omega arith) (sym e)) ∙ indices-other indices items i n (omega arith) ne
+indices_other : (indices items : List ℕ) (i n : ℕ) → n ≤ length items → ((k : ℕ) → k < length items → get_or items k 0 ≡ i → ⊥)
+    → get_or (indices_put indices items n) i 0 ≡ get_or indices i 0
+unfolding indices_put
+indices_other indices items i zero h ne = refl
+indices_other indices items i (suc n) h ne =
+    get_or-set_other (indices_put indices items n) (get_or items n 0) i n 0 (λ e. ne n (omega arith) (sym e)) ∙ indices_other indices items i n (omega arith) ne
 
 -- what holds below t, and of t, holds below t + 1
 more : (P : ℕ → Type 0) (t : ℕ) → ((u : ℕ) → u < t → P u) → P t → (u : ℕ) → u < t + 1 → P u
@@ -100,74 +100,74 @@ more P t below here u h =
 
 pub filled_none : {rule : ℕ → ℕ} (ws ar heads slots indices buckets : List ℕ) → Filled rule ws ar 0 heads slots indices buckets
 filled_none ws ar heads slots indices buckets = record {
-  starts-are = λ t h. absurd (omega arith);
-  counts-are = λ t h. absurd (omega arith);
-  items-are = λ t k h l. absurd (omega arith);
-  buckets-are = λ t b h l. absurd (omega arith);
-  indices-are = λ i l h. absurd (omega arith);
+  starts_are = λ t h. absurd (omega arith);
+  counts_are = λ t h. absurd (omega arith);
+  items_are = λ t k h l. absurd (omega arith);
+  buckets_are = λ t b h l. absurd (omega arith);
+  indices_are = λ i l h. absurd (omega arith);
 }
 
-module _ {rule : ℕ → ℕ} (ws ar : List ℕ) (t first n : ℕ) (heads slots slots' indices indices' buckets buckets' : List ℕ) (fit : Fit ws) (low : t < mostTables)
-    (long : length heads ≡ 128) (size : Sized slots indices buckets) (at : first ≡ firstSlotOf ws t)
+module _ {rule : ℕ → ℕ} (ws ar : List ℕ) (t first n : ℕ) (heads slots slots' indices indices' buckets buckets' : List ℕ) (fit : Fit ws) (low : t < most_tables)
+    (long : length heads ≡ 128) (size : Sized slots indices buckets) (at : first ≡ first_slot_of ws t)
     (p : Put rule ws ar t first n slots slots' indices indices' buckets buckets') (f : Filled rule ws ar t heads slots indices buckets) where
-  more-count : n ≡ length (allOfTable ws t)
-  more-count = p.count ∙ members-long ws ar t
+  more_count : n ≡ length (all_of_table ws t)
+  more_count = p.count ∙ members_long ws ar t
 
-  pub put-few : first + n ≤ mostItems
-  put-few = omega (arith, more-count, slot-few ws t, fit.few)
+  pub put_few : first + n ≤ most_items
+  put_few = omega (arith, more_count, slot_few ws t, fit.few)
 
-  pub put_next : first + n ≡ firstSlotOf ws (t + 1)
-  put_next = omega (arith, more-count, slot_next ws t)
+  pub put_next : first + n ≡ first_slot_of ws (t + 1)
+  put_next = omega (arith, more_count, slot_next ws t)
 
-  more-fits : first + length (state_of ws ar t).members ≤ mostItems
-  more-fits = omega (arith, slot-few ws t, fit.few, members-long ws ar t)
+  more_fits : first + length (state_of ws ar t).members ≤ most_items
+  more_fits = omega (arith, slot_few ws t, fit.few, members_long ws ar t)
 
-  more-before : (u k : ℕ) → u < t → k < length (state_of ws ar u).members → firstSlotOf ws u + k < first
-  more-before u k l h = omega (arith, slot_apart ws u t l, members-long ws ar u)
+  more_before : (u k : ℕ) → u < t → k < length (state_of ws ar u).members → first_slot_of ws u + k < first
+  more_before u k l h = omega (arith, slot_apart ws u t l, members_long ws ar u)
 
-  more-items : (k : ℕ) → k < length (state_of ws ar t).members → get_or slots' (firstSlotOf ws t + k) 0 ≡ item_of rule (state_of ws ar t) k
+  more_items : (k : ℕ) → k < length (state_of ws ar t).members → get_or slots' (first_slot_of ws t + k) 0 ≡ item_of rule (state_of ws ar t) k
   unfolding item_of
-  more-items k h =
-      let long = length-by-index rule (state_of ws ar t) in
-      ap (λ (l : List ℕ). get_or l (firstSlotOf ws t + k) 0) p.slots-are ∙ ap (λ (s : ℕ). get_or (put_at slots first (byIndex rule (state_of ws ar t))) (s + k) 0) (sym at)
-      ∙ get-put slots first (byIndex rule (state_of ws ar t)) k (omega (arith, more-fits, size.of_slots)) (omega arith)
+  more_items k h =
+      let long = length-by_index rule (state_of ws ar t) in
+      ap (λ (l : List ℕ). get_or l (first_slot_of ws t + k) 0) p.slots_are ∙ ap (λ (s : ℕ). get_or (put_at slots first (by_index rule (state_of ws ar t))) (s + k) 0) (sym at)
+      ∙ get_put slots first (by_index rule (state_of ws ar t)) k (omega (arith, more_fits, size.of_slots)) (omega arith)
 
-  more-buckets : (b : ℕ) → b < length (state_of ws ar t).members → get_or buckets' (firstSlotOf ws t + b) 0 ≡ bucketStart (hashesOf rule (state_of ws ar t)) b
-  more-buckets b h =
-      let hashes = length-hashes rule (state_of ws ar t) in
-      let long = length-starts (hashesOf rule (state_of ws ar t)) in
-      ap (λ (l : List ℕ). get_or l (firstSlotOf ws t + b) 0) p.buckets-are
-      ∙ ap (λ (s : ℕ). get_or (put_at buckets first (starts (hashesOf rule (state_of ws ar t)))) (s + b) 0) (sym at)
-      ∙ get-put buckets first (starts (hashesOf rule (state_of ws ar t))) b (omega (arith, more-fits, size.of-buckets)) (omega arith)
-      ∙ starts-at (hashesOf rule (state_of ws ar t)) b (omega arith)
+  more_buckets : (b : ℕ) → b < length (state_of ws ar t).members → get_or buckets' (first_slot_of ws t + b) 0 ≡ bucket_start (hashes_of rule (state_of ws ar t)) b
+  more_buckets b h =
+      let hashes = length_hashes rule (state_of ws ar t) in
+      let long = length-starts (hashes_of rule (state_of ws ar t)) in
+      ap (λ (l : List ℕ). get_or l (first_slot_of ws t + b) 0) p.buckets_are
+      ∙ ap (λ (s : ℕ). get_or (put_at buckets first (starts (hashes_of rule (state_of ws ar t)))) (s + b) 0) (sym at)
+      ∙ get_put buckets first (starts (hashes_of rule (state_of ws ar t))) b (omega (arith, more_fits, size.of_buckets)) (omega arith)
+      ∙ starts_at (hashes_of rule (state_of ws ar t)) b (omega arith)
 
-  more-of-table : (i : ℕ) → i < itemTotal ws → itemTable ws i ≡ t → get_or indices' i 0 ≡ laidIndex rule (state_of ws ar (itemTable ws i)) i
-  more-of-table i l e =
-      ap (λ (m : List ℕ). get_or m i 0) p.indices-are
-      ∙ indices-of rule (state_of ws ar t) indices (state-once ws ar t) (by-index-below ws ar t rule (length indices) (omega (arith, fit.few, size.of-indices))) i (state-has ws ar t i l e)
-      ∙ ap (λ (u : ℕ). laidIndex rule (state_of ws ar u) i) (sym e)
+  more_of_table : (i : ℕ) → i < item_total ws → item_table ws i ≡ t → get_or indices' i 0 ≡ laid_index rule (state_of ws ar (item_table ws i)) i
+  more_of_table i l e =
+      ap (λ (m : List ℕ). get_or m i 0) p.indices_are
+      ∙ indices_of rule (state_of ws ar t) indices (state_once ws ar t) (by_index_below ws ar t rule (length indices) (omega (arith, fit.few, size.of_indices))) i (state_has ws ar t i l e)
+      ∙ ap (λ (u : ℕ). laid_index rule (state_of ws ar u) i) (sym e)
 
-  more-kept : (i : ℕ) → itemTable ws i < t → get_or indices' i 0 ≡ get_or indices i 0
-  more-kept i l =
-      ap (λ (m : List ℕ). get_or m i 0) p.indices-are
-      ∙ indices-other indices (byIndex rule (state_of ws ar t)) i (length (byIndex rule (state_of ws ar t))) (omega arith)
-      (λ k h e. let ofTable : itemTable ws i ≡ t = ap (itemTable ws) (sym e) ∙ state-table ws ar t _ (by-index-has ws ar t rule k h) in omega arith)
+  more_kept : (i : ℕ) → item_table ws i < t → get_or indices' i 0 ≡ get_or indices i 0
+  more_kept i l =
+      ap (λ (m : List ℕ). get_or m i 0) p.indices_are
+      ∙ indices_other indices (by_index rule (state_of ws ar t)) i (length (by_index rule (state_of ws ar t))) (omega arith)
+      (λ k h e. let of_table : item_table ws i ≡ t = ap (item_table ws) (sym e) ∙ state_table ws ar t _ (by_index_has ws ar t rule k h) in omega arith)
 
   pub filled_more : Filled rule ws ar (t + 1) (set (set heads (2 * t) first) (2 * t + 1) n) slots' indices' buckets'
   filled_more = record {
-    starts-are = more (λ (u : ℕ). get_or (set (set heads (2 * t) first) (2 * t + 1) n) (2 * u) 0 ≡ firstSlotOf ws u) t
-        (λ u l. get_or-set_other (set heads (2 * t) first) (2 * t + 1) (2 * u) n 0 (λ e. omega arith) ∙ get_or-set_other heads (2 * t) (2 * u) first 0 (λ e. omega arith) ∙ f.starts-are u l)
+    starts_are = more (λ (u : ℕ). get_or (set (set heads (2 * t) first) (2 * t + 1) n) (2 * u) 0 ≡ first_slot_of ws u) t
+        (λ u l. get_or-set_other (set heads (2 * t) first) (2 * t + 1) (2 * u) n 0 (λ e. omega arith) ∙ get_or-set_other heads (2 * t) (2 * u) first 0 (λ e. omega arith) ∙ f.starts_are u l)
         (get_or-set_other (set heads (2 * t) first) (2 * t + 1) (2 * t) n 0 (λ e. omega arith) ∙ get_or-set_same heads (2 * t) first 0 (omega arith) ∙ at);
-    counts-are = more (λ (u : ℕ). get_or (set (set heads (2 * t) first) (2 * t + 1) n) (2 * u + 1) 0 ≡ length (state_of ws ar u).members) t
-        (λ u l. get_or-set_other (set heads (2 * t) first) (2 * t + 1) (2 * u + 1) n 0 (λ e. omega arith) ∙ get_or-set_other heads (2 * t) (2 * u + 1) first 0 (λ e. omega arith) ∙ f.counts-are u l)
+    counts_are = more (λ (u : ℕ). get_or (set (set heads (2 * t) first) (2 * t + 1) n) (2 * u + 1) 0 ≡ length (state_of ws ar u).members) t
+        (λ u l. get_or-set_other (set heads (2 * t) first) (2 * t + 1) (2 * u + 1) n 0 (λ e. omega arith) ∙ get_or-set_other heads (2 * t) (2 * u + 1) first 0 (λ e. omega arith) ∙ f.counts_are u l)
         (get_or-set_same (set heads (2 * t) first) (2 * t + 1) n 0 (omega (arith, length-set heads (2 * t) first)) ∙ p.count);
-    items-are = λ u k h. more (λ (u : ℕ). k < length (state_of ws ar u).members → get_or slots' (firstSlotOf ws u + k) 0 ≡ item_of rule (state_of ws ar u) k) t
-        (λ u l h. ap (λ (m : List ℕ). get_or m (firstSlotOf ws u + k) 0) p.slots-are ∙ get-before slots first _ (firstSlotOf ws u + k) (more-before u k l h) ∙ f.items-are u k l h)
-        (more-items k) u h;
-    buckets-are = λ u b h. more (λ (u : ℕ). b < length (state_of ws ar u).members → get_or buckets' (firstSlotOf ws u + b) 0 ≡ bucketStart (hashesOf rule (state_of ws ar u)) b) t
-        (λ u l h. ap (λ (m : List ℕ). get_or m (firstSlotOf ws u + b) 0) p.buckets-are ∙ get-before buckets first _ (firstSlotOf ws u + b) (more-before u b l h) ∙ f.buckets-are u b l h)
-        (more-buckets b) u h;
-    indices-are = λ i l h. more (λ (u : ℕ). itemTable ws i ≡ u → get_or indices' i 0 ≡ laidIndex rule (state_of ws ar (itemTable ws i)) i) t
-        (λ u less e. more-kept i (omega arith) ∙ f.indices-are i l (omega arith))
-        (more-of-table i l) (itemTable ws i) h refl;
+    items_are = λ u k h. more (λ (u : ℕ). k < length (state_of ws ar u).members → get_or slots' (first_slot_of ws u + k) 0 ≡ item_of rule (state_of ws ar u) k) t
+        (λ u l h. ap (λ (m : List ℕ). get_or m (first_slot_of ws u + k) 0) p.slots_are ∙ get_before slots first _ (first_slot_of ws u + k) (more_before u k l h) ∙ f.items_are u k l h)
+        (more_items k) u h;
+    buckets_are = λ u b h. more (λ (u : ℕ). b < length (state_of ws ar u).members → get_or buckets' (first_slot_of ws u + b) 0 ≡ bucket_start (hashes_of rule (state_of ws ar u)) b) t
+        (λ u l h. ap (λ (m : List ℕ). get_or m (first_slot_of ws u + b) 0) p.buckets_are ∙ get_before buckets first _ (first_slot_of ws u + b) (more_before u b l h) ∙ f.buckets_are u b l h)
+        (more_buckets b) u h;
+    indices_are = λ i l h. more (λ (u : ℕ). item_table ws i ≡ u → get_or indices' i 0 ≡ laid_index rule (state_of ws ar (item_table ws i)) i) t
+        (λ u less e. more_kept i (omega arith) ∙ f.indices_are i l (omega arith))
+        (more_of_table i l) (item_table ws i) h refl;
   }

@@ -1,10 +1,10 @@
 // The roster of all tables: their slots stand one behind the other.
 ghost use Rattle.std.specs.Prelude.{◌≡◌, true, length};
-ghost use Rattle.key_hash.specs.Hash.{ruleOf};
-ghost use Rattle.layout.specs.Limits.{mostTables};
-ghost use Rattle.build_rules.specs.Valid.{fullyValid};
-ghost use Rattle.write_parts.specs.Numbered.{slotsFrom};
-ghost use Rattle.write_numbers.specs.Roster.{rosterSize, Rostered};
+ghost use Rattle.key_hash.specs.Hash.{rule_of};
+ghost use Rattle.layout.specs.Limits.{most_tables};
+ghost use Rattle.build_rules.specs.Valid.{fully_valid};
+ghost use Rattle.write_parts.specs.Numbered.{slots_from};
+ghost use Rattle.write_numbers.specs.Roster.{roster_size, Rostered};
 ghost use Rattle.write_numbers.specs.Fill.{Judged, Fits, Sized, Put, Filled};
 
 use crate::collect::has_items;
@@ -30,7 +30,7 @@ fn put_table(
     requires judged { Judged words.old arena.now × Fits words.old t first }
     requires sized { Sized slots.old indices.old buckets.old }
     ensures words_unchanged { words.new ≡ words.old }
-    ensures put { Put (ruleOf form) words.old arena.now t first result slots.old slots.new indices.old indices.new buckets.old buckets.new }
+    ensures put { Put (rule_of form) words.old arena.now t first result slots.old slots.new indices.old indices.new buckets.old buckets.new }
 {
     if !has_items(words, t) {
         return 0;
@@ -57,10 +57,10 @@ fn fill(
     buckets: &mut [usize],
     form: Form,
 )
-    requires judged { Judged words.old arena.now × (length heads.old ≡ slotsFrom) }
+    requires judged { Judged words.old arena.now × (length heads.old ≡ slots_from) }
     requires sized { Sized slots.old indices.old buckets.old }
     ensures words_unchanged { words.new ≡ words.old }
-    ensures filled { Filled (ruleOf form) words.old arena.now mostTables heads.new slots.new indices.new buckets.new }
+    ensures filled { Filled (rule_of form) words.old arena.now most_tables heads.new slots.new indices.new buckets.new }
 {
     let mut t = 0;
     let mut first = 0;
@@ -75,10 +75,10 @@ fn fill(
 
 // The roster of all tables. The words are used for links, and are as they were.
 pub fn roster_all(words: &mut [usize], arena: &[u8], roster: &mut [usize], form: Form)
-    requires arena_value { fullyValid words.old arena.now ≡ true }
-    requires roster_len { length roster.old ≡ rosterSize }
+    requires arena_value { fully_valid words.old arena.now ≡ true }
+    requires roster_len { length roster.old ≡ roster_size }
     ensures words_unchanged { words.new ≡ words.old }
-    ensures rostered { Rostered (ruleOf form) words.old arena.now roster.new }
+    ensures rostered { Rostered (rule_of form) words.old arena.now roster.new }
 {
     let mut heads = [0usize; SLOTS_FROM];
     let mut slots = [0usize; MOST_ITEMS];

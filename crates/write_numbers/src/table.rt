@@ -1,7 +1,7 @@
 // The items of one table by laid index, and the words of its buckets.
 ghost use Rattle.std.specs.Prelude.{◌≡◌, ◌≤◌, length};
-ghost use Rattle.key_hash.specs.Hash.{ruleOf};
-ghost use Rattle.write_numbers.specs.Fill.{allOfTable, Judged, IndexedAs};
+ghost use Rattle.key_hash.specs.Hash.{rule_of};
+ghost use Rattle.write_numbers.specs.Fill.{all_of_table, Judged, IndexedAs};
 
 use crate::collect::collect;
 use key_hash::hash::Form;
@@ -18,9 +18,9 @@ pub fn index_table(
     firsts: &mut [usize],
     form: Form,
 ) -> usize
-    requires { Judged words.old arena.now × (length (allOfTable words.old t) ≤ length items.old) × (length (allOfTable words.old t) ≤ length firsts.old) }
+    requires { Judged words.old arena.now × (length (all_of_table words.old t) ≤ length items.old) × (length (all_of_table words.old t) ≤ length firsts.old) }
     ensures words_unchanged { words.new ≡ words.old }
-    ensures indexed_as { IndexedAs (ruleOf form) words.old arena.now t result items.old items.new firsts.old firsts.new }
+    ensures indexed_as { IndexedAs (rule_of form) words.old arena.now t result items.old items.new firsts.old firsts.new }
 {
     let mut members = [0usize; MOST_ITEMS];
     let n = collect(words, t, &mut members);

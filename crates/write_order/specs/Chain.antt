@@ -2,19 +2,19 @@
 use Rattle.std.specs.Prelude.{◌≡◌, ℕ, ◌+◌, ◌<◌, ◌≤◌, List, [], ◌∷◌, eqb, length, get_or, set, take, drop}
 use Rattle.words.specs.Choice.{pick}
 use Rattle.words.specs.Store.{part, put_at}
-use Rattle.layout.specs.Limits.{mostItems}
+use Rattle.layout.specs.Limits.{most_items}
 use Rattle.layout.specs.Item.{no_item}
 use Rattle.model.specs.Table.{times, Has}
 use Rattle.key_hash.specs.declared.hash.Form.{Form}
-use Rattle.build_memory.specs.Memory.{linksFrom, leastWords, key_of}
+use Rattle.build_memory.specs.Memory.{links_from, least_words, key_of}
 use Rattle.build_memory.specs.Meaning.{listed}
-use Rattle.image.specs.Index.{run, bucketStart}
-use Rattle.write_order.specs.Fall.{falling, lastAbove, inBucket, joined}
-use Rattle.write_order.specs.Items.{hashFor}
+use Rattle.image.specs.Index.{run, bucket_start}
+use Rattle.write_order.specs.Fall.{falling, last_above, in_bucket, joined}
+use Rattle.write_order.specs.Items.{hash_for}
 
 -- the words of all buckets
 unfoldable pub starts : List ℕ → List ℕ
-starts hashes = listed (bucketStart hashes) (length hashes)
+starts hashes = listed (bucket_start hashes) (length hashes)
 
 -- every word is `no_item`
 unfoldable pub Empty : List ℕ → Type 0
@@ -49,7 +49,7 @@ pub record Ended (links : List ℕ) (h room at : ℕ) : Type 0 where
 pub record DrainedOf (links links' order order' : List ℕ) (at end : ℕ) (l : List ℕ) : Type 0 where
   pub end_is : end ≡ at + length l
   pub order_is : order' ≡ put_at order at l
-  pub links-is : links' ≡ cleared links l
+  pub links_is : links' ≡ cleared links l
 
 -- the same for whatever the chain from h holds
 unfoldable pub Drained : List ℕ → List ℕ → List ℕ → List ℕ → ℕ → ℕ → ℕ → Type 0
@@ -71,28 +71,28 @@ pub record HasChains (n : ℕ) (heads links : List ℕ) : Type 0 where
 -- the lists of n chains are in `order`, one behind the other, and where each starts is in `firsts`
 pub record Indexed (lists : ℕ → List ℕ) (n : ℕ) (order order' firsts firsts' : List ℕ) : Type 0 where
   pub order_is : order' ≡ put_at order 0 (joined lists n)
-  pub firsts-is : firsts' ≡ put_at firsts 0 (listed (λ (b : ℕ). length (joined lists b)) n)
+  pub firsts_is : firsts' ≡ put_at firsts 0 (listed (λ (b : ℕ). length (joined lists b)) n)
 
 -- room for n items, of which there are not too many
 pub record Rooms (n : ℕ) (order firsts : List ℕ) : Type 0 where
-  pub few : n ≤ mostItems
+  pub few : n ≤ most_items
   pub in_order : n ≤ length order
-  pub in-firsts : n ≤ length firsts
+  pub in_firsts : n ≤ length firsts
 
 -- ---- chains of items, through the links of a builder's words
 
-abbrev pub linksOf : List ℕ → List ℕ
-linksOf words = part words linksFrom mostItems
+abbrev pub links_of : List ℕ → List ℕ
+links_of words = part words links_from most_items
 
 -- words that differ in their links alone
 unfoldable pub ButLinks : List ℕ → List ℕ → Type 0
-ButLinks words words' = (take linksFrom words' ≡ take linksFrom words) × (drop leastWords words' ≡ drop leastWords words)
+ButLinks words words' = (take links_from words' ≡ take links_from words) × (drop least_words words' ≡ drop least_words words)
 
 -- a chain starts at h, which is not too long
 pub record Bounded (links : List ℕ) (h : ℕ) : Type 0 where
   pub items : List ℕ
   pub chain : Chain links h items
-  pub few : length items ≤ mostItems
+  pub few : length items ≤ most_items
 
 -- item i put behind item `last` of the chain from `head`, or at its front
 unfoldable pub linked : List ℕ → ℕ → ℕ → ℕ → List ℕ
@@ -105,13 +105,13 @@ headed heads b last i = pick (eqb last no_item) (set heads b i) heads
 unfoldable pub Placed : (ℕ → List ℕ) → List ℕ → List ℕ → ℕ → ℕ → List ℕ → List ℕ → Type 0
 Placed key links heads b i links' heads' =
     (l : List ℕ) → Chain links (get_or heads b 0) l
-    → (links' ≡ linked links (get_or heads b 0) (lastAbove key i no_item l) i) × (heads' ≡ headed heads b (lastAbove key i no_item l) i)
+    → (links' ≡ linked links (get_or heads b 0) (last_above key i no_item l) i) × (heads' ≡ headed heads b (last_above key i no_item l) i)
 
 -- those of the first k members that are in bucket b, by falling keys; there are as many buckets as members
-unfoldable pub chainOf : Form → List ℕ → List ℕ → List ℕ → ℕ → ℕ → List ℕ
-chainOf form words arena members k b = falling (key_of words arena) (inBucket (hashFor form words arena) (length members) b) members k
+unfoldable pub chain_of : Form → List ℕ → List ℕ → List ℕ → ℕ → ℕ → List ℕ
+chain_of form words arena members k b = falling (key_of words arena) (in_bucket (hash_for form words arena) (length members) b) members k
 
 -- every bucket's chain holds its items of the first k members, and the link of any other item is empty
 pub record ChainedBy (form : Form) (words arena members : List ℕ) (k : ℕ) (heads links : List ℕ) : Type 0 where
-  pub chain : (b : ℕ) → b < length members → Chain links (get_or heads b 0) (chainOf form words arena members k b)
+  pub chain : (b : ℕ) → b < length members → Chain links (get_or heads b 0) (chain_of form words arena members k b)
   pub clear : (x : ℕ) → x < length links → times x (take k members) ≡ 0 → get_or links x 0 ≡ no_item

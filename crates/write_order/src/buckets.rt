@@ -2,8 +2,8 @@
 // in them; `index_by_bucket` chains ranks, each at the front of its bucket: `hashes` has the hash of each rank.
 ghost use Rattle.std.specs.Prelude.{◌≡◌, ℕ, ◌≤◌, ◌<◌, List, length};
 ghost use Rattle.words.specs.Store.{put_at};
-ghost use Rattle.layout.specs.Limits.{mostItems};
-ghost use Rattle.image.specs.Index.{bucketOf, byBucket};
+ghost use Rattle.layout.specs.Limits.{most_items};
+ghost use Rattle.image.specs.Index.{bucket_of, by_bucket};
 ghost use Rattle.write_order.specs.Chain.{Chained, Chains, HasChains, Indexed, Ended, Drained, Empty, EmptyFrom, Rooms, starts};
 
 use build_memory::fields::EMPTY;
@@ -12,14 +12,14 @@ use layout::limits::MOST_ITEMS;
 // The bucket of a rank.
 fn bucket_of(hashes: &[usize], place: usize) -> usize
     requires { place < length hashes.now }
-    ensures { (result ≡ bucketOf hashes.now place) × (result < length hashes.now) }
+    ensures { (result ≡ bucket_of hashes.now place) × (result < length hashes.now) }
 {
     hashes[place] % hashes.len()
 }
 
 // Puts each rank, in ascending order, at the front of its bucket's chain.
 fn chain_all(hashes: &[usize], heads: &mut [usize], links: &mut [usize])
-    requires hashes_len_bound { (length hashes.now ≤ mostItems) × (length hashes.now ≤ length heads.old) × (length hashes.now ≤ length links.old) }
+    requires hashes_len_bound { (length hashes.now ≤ most_items) × (length hashes.now ≤ length heads.old) × (length hashes.now ≤ length links.old) }
     requires empty { Empty heads.old × Empty links.old }
     ensures chained { Chained hashes.now (length hashes.now) heads.new links.new }
     ensures empty_from { EmptyFrom (length hashes.now) links.new }
@@ -62,7 +62,7 @@ pub fn index_all(
 )
     requires n_in_bounds { (n ≤ length heads.now) × Rooms n order.old firsts.old }
     requires has_chains { HasChains n heads.now links.old }
-    ensures by_index { (lists : ℕ → List ℕ) → Chains lists n heads.now links.old → Indexed lists n order.old order.new firsts.old firsts.new }
+    ensures by_index_lem { (lists : ℕ → List ℕ) → Chains lists n heads.now links.old → Indexed lists n order.old order.new firsts.old firsts.new }
     ensures empty { Empty links.new }
 {
     let mut b = 0;
@@ -83,7 +83,7 @@ pub fn index_by_bucket(
     firsts: &mut [usize],
 )
     requires { Rooms (length hashes.now) order.old firsts.old × (length hashes.now ≤ length links.old) × Empty links.old }
-    ensures order_after { order.new ≡ put_at order.old 0 (byBucket hashes.now) }
+    ensures order_after { order.new ≡ put_at order.old 0 (by_bucket hashes.now) }
     ensures firsts_after { firsts.new ≡ put_at firsts.old 0 (starts hashes.now) }
     ensures links_unchanged { links.new ≡ links.old }
 {

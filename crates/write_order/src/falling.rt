@@ -3,15 +3,15 @@
 ghost use Rattle.std.specs.Prelude.{◌≡◌, ℕ, ◌≤◌, ◌<◌, List, length, get_or};
 ghost use Rattle.words.specs.Store.{put_at};
 ghost use Rattle.key_order.specs.Order.{precedes};
-ghost use Rattle.layout.specs.Limits.{mostItems};
+ghost use Rattle.layout.specs.Limits.{most_items};
 ghost use Rattle.layout.specs.Item.{no_item};
 ghost use Rattle.model.specs.Table.{times};
-ghost use Rattle.build_memory.specs.Memory.{leastWords, key_of};
-ghost use Rattle.image.specs.Index.{byBucket};
+ghost use Rattle.build_memory.specs.Memory.{least_words, key_of};
+ghost use Rattle.image.specs.Index.{by_bucket};
 ghost use Rattle.write_order.specs.Key.{Known};
-ghost use Rattle.write_order.specs.Fall.{lastAbove};
-ghost use Rattle.write_order.specs.Items.{byRank, rankHashes, itemsAt};
-ghost use Rattle.write_order.specs.Chain.{Chain, Bounded, Placed, ChainedBy, Empty, Rooms, ButLinks, linksOf, starts};
+ghost use Rattle.write_order.specs.Fall.{last_above};
+ghost use Rattle.write_order.specs.Items.{by_rank, rank_hashes, items_at};
+ghost use Rattle.write_order.specs.Chain.{Chain, Bounded, Placed, ChainedBy, Empty, Rooms, ButLinks, links_of, starts};
 
 use crate::buckets::index_all;
 use crate::items::hash_of;
@@ -22,7 +22,7 @@ use layout::limits::MOST_ITEMS;
 
 // Whether the key of item a comes before that of item b.
 fn comes_before(words: &[usize], arena: &[u8], a: usize, b: usize) -> bool
-    requires { (leastWords ≤ length words.now) × (a < mostItems) × (b < mostItems) }
+    requires { (least_words ≤ length words.now) × (a < most_items) × (b < most_items) }
     ensures { result ≡ precedes (key_of words.now arena.now a) (key_of words.now arena.now b) }
 {
     less(key_of(words, arena, a), key_of(words, arena, b))
@@ -30,9 +30,9 @@ fn comes_before(words: &[usize], arena: &[u8], a: usize, b: usize) -> bool
 
 // The item of a chain behind which item i is put, or the empty mark: the last of those whose keys come behind that of i.
 fn last_above(words: &[usize], arena: &[u8], head: usize, i: usize) -> usize
-    requires { (leastWords ≤ length words.now) × (i < mostItems) × Bounded (linksOf words.now) head }
-    ensures by_index { (l : List ℕ) → Chain (linksOf words.now) head l → result ≡ lastAbove (key_of words.now arena.now) i no_item l }
-    ensures upper_bound { (result ≡ no_item → ⊥) → result < mostItems }
+    requires { (least_words ≤ length words.now) × (i < most_items) × Bounded (links_of words.now) head }
+    ensures by_index_lem { (l : List ℕ) → Chain (links_of words.now) head l → result ≡ last_above (key_of words.now arena.now) i no_item l }
+    ensures upper_bound { (result ≡ no_item → ⊥) → result < most_items }
 {
     let mut last = EMPTY;
     let mut p = head;
@@ -48,10 +48,10 @@ fn last_above(words: &[usize], arena: &[u8], head: usize, i: usize) -> usize
 
 // Puts item i into the chain of bucket b.
 fn chain_item(words: &mut [usize], arena: &[u8], heads: &mut [usize], b: usize, i: usize)
-    requires least_words_in_bounds { (leastWords ≤ length words.old) × (i < mostItems) × (b < length heads.old) }
-    requires bounded { Bounded (linksOf words.old) (get_or heads.old b 0) }
+    requires least_words_in_bounds { (least_words ≤ length words.old) × (i < most_items) × (b < length heads.old) }
+    requires bounded { Bounded (links_of words.old) (get_or heads.old b 0) }
     ensures but_links { ButLinks words.old words.new }
-    ensures placed { Placed (key_of words.old arena.now) (linksOf words.old) heads.old b i (linksOf words.new) heads.new }
+    ensures placed { Placed (key_of words.old arena.now) (links_of words.old) heads.old b i (links_of words.new) heads.new }
 {
     let last = last_above(words, arena, heads[b], i);
     if last == EMPTY {
@@ -73,10 +73,10 @@ fn chain_members(
     form: Form,
 )
     requires known { Known words.old members.now × ((x : ℕ) → times x members.now ≤ 1) }
-    requires members_len_bound { (length members.now ≤ mostItems) × (length members.now ≤ length heads.old) }
-    requires empty { Empty heads.old × Empty (linksOf words.old) }
+    requires members_len_bound { (length members.now ≤ most_items) × (length members.now ≤ length heads.old) }
+    requires empty { Empty heads.old × Empty (links_of words.old) }
     ensures but_links { ButLinks words.old words.new }
-    ensures chained_by { ChainedBy form words.old arena.now members.now (length members.now) heads.new (linksOf words.new) }
+    ensures chained_by { ChainedBy form words.old arena.now members.now (length members.now) heads.new (links_of words.new) }
 {
     let mut k = 0;
     while k < members.len() {
@@ -98,10 +98,10 @@ pub fn index_by_key(
     form: Form,
 )
     requires known { Known words.old members.now × ((x : ℕ) → times x members.now ≤ 1) }
-    requires rooms { Rooms (length members.now) items.old firsts.old × Empty (linksOf words.old) }
+    requires rooms { Rooms (length members.now) items.old firsts.old × Empty (links_of words.old) }
     ensures words_unchanged { words.new ≡ words.old }
-    ensures after { items.new ≡ put_at items.old 0 (itemsAt (byRank words.old arena.now members.now) (byBucket (rankHashes form words.old arena.now members.now))) }
-    ensures firsts_after { firsts.new ≡ put_at firsts.old 0 (starts (rankHashes form words.old arena.now members.now)) }
+    ensures after { items.new ≡ put_at items.old 0 (items_at (by_rank words.old arena.now members.now) (by_bucket (rank_hashes form words.old arena.now members.now))) }
+    ensures firsts_after { firsts.new ≡ put_at firsts.old 0 (starts (rank_hashes form words.old arena.now members.now)) }
 {
     let mut heads = [EMPTY; MOST_ITEMS];
     chain_members(words, arena, members, &mut heads, form);

@@ -1,8 +1,8 @@
 // Of items: the hash of one under a form, and the index of each.
 ghost use Rattle.std.specs.Prelude.{◌≡◌, ◌≤◌, ◌<◌, length};
-ghost use Rattle.layout.specs.Limits.{mostItems};
-ghost use Rattle.build_memory.specs.Memory.{leastWords};
-ghost use Rattle.write_order.specs.Items.{AllBelow, hashFor, indicesPut};
+ghost use Rattle.layout.specs.Limits.{most_items};
+ghost use Rattle.build_memory.specs.Memory.{least_words};
+ghost use Rattle.write_order.specs.Items.{AllBelow, hash_for, indices_put};
 
 use build_memory::fields::{HASH, item_word, key_of};
 use key_hash::hash::{Form, HASH_START, hash_on};
@@ -10,8 +10,8 @@ use words::wide::word_size;
 
 // The hash of item i under a form: the base form's is in its record, the other is made from its key.
 pub fn hash_of(words: &[usize], arena: &[u8], i: usize, form: Form) -> usize
-    requires { (leastWords ≤ length words.now) × (i < mostItems) }
-    ensures { result ≡ hashFor form words.now arena.now i }
+    requires { (least_words ≤ length words.now) × (i < most_items) }
+    ensures { result ≡ hash_for form words.now arena.now i }
 {
     match form {
         Form::Plain => item_word(words, i, HASH),
@@ -23,7 +23,7 @@ pub fn hash_of(words: &[usize], arena: &[u8], i: usize, form: Form) -> usize
 // Stores the index of each item of `items` at the item in `indices`.
 pub fn index_items(items: &[usize], indices: &mut [usize])
     requires { AllBelow (length indices.old) items.now }
-    ensures { indices.new ≡ indicesPut indices.old items.now (length items.now) }
+    ensures { indices.new ≡ indices_put indices.old items.now (length items.now) }
 {
     let mut k = 0;
     while k < items.len() {

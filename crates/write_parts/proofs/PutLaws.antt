@@ -12,60 +12,60 @@ use Rattle.words.proofs.StoreLaws.{put-none, put-append, length_part, put_then}
 use Rattle.words.proofs.FieldLaws.{length-spelled}
 use Rattle.image.specs.Laid.{Laid}
 use Rattle.image.specs.Plan.{word, words_of, first_word}
-use Rattle.image.proofs.PlanLaws.{length-words, words_more, words_same, fourth-word}
-use Rattle.layout.specs.Kind.{valueKind}
-use Rattle.write_parts.specs.Numbered.{slotsFrom, slotSize, childrenFrom, slotWord, slotHash, slotParent, slotFragment, slotFragmentSize, slotKind, slotValueWord, slotValueSize, slotBucket, childWord, slotCover}
-use Rattle.write_parts.specs.Slot.{headBytes, slotFilter, slotRecord, slotKey, plainValue}
+use Rattle.image.proofs.PlanLaws.{length_words, words_more, words_same, fourth_word}
+use Rattle.layout.specs.Kind.{value_kind}
+use Rattle.write_parts.specs.Numbered.{slots_from, slot_size, children_from, slot_word, slot_hash, slot_parent, slot_fragment, slot_fragment_size, slot_kind, slot_value_word, slot_value_size, slot_bucket, child_word, slot_cover}
+use Rattle.write_parts.specs.Slot.{head_bytes, slot_filter, slot_record, slot_key, plain_value}
 
 -- ---- words
 
-pub put-head : (l : List ℕ) (at filter count : ℕ) {m n : List ℕ} → m ≡ put_at l at (word (first_word filter)) → n ≡ put_at m (at + 4) (word count)
-    → n ≡ put_at l at (headBytes filter count)
-unfolding headBytes
-put-head l at filter count p q = put_then l at (word (first_word filter)) (word count) (ap (λ (n : ℕ). at + n) (sym (length-spelled 4 (first_word filter)))) p q
+pub put_head : (l : List ℕ) (at filter count : ℕ) {m n : List ℕ} → m ≡ put_at l at (word (first_word filter)) → n ≡ put_at m (at + 4) (word count)
+    → n ≡ put_at l at (head_bytes filter count)
+unfolding head_bytes
+put_head l at filter count p q = put_then l at (word (first_word filter)) (word count) (ap (λ (n : ℕ). at + n) (sym (length-spelled 4 (first_word filter)))) p q
 
-pub length-head : (filter count : ℕ) → length (headBytes filter count) ≡ 8
-unfolding headBytes
-length-head filter count = length-append (word (first_word filter)) (word count) ∙ omega (arith, length-spelled 4 (first_word filter), length-spelled 4 count)
+pub length_head : (filter count : ℕ) → length (head_bytes filter count) ≡ 8
+unfolding head_bytes
+length_head filter count = length-append (word (first_word filter)) (word count) ∙ omega (arith, length-spelled 4 (first_word filter), length-spelled 4 count)
 
 -- no word yet, and a word more
-pub words-start : (l : List ℕ) (at : ℕ) (f : ℕ → ℕ) → l ≡ put_at l at (words_of f 0)
+pub words_start : (l : List ℕ) (at : ℕ) (f : ℕ → ℕ) → l ≡ put_at l at (words_of f 0)
 unfolding words_of
-words-start l at f = sym (put-none l at)
+words_start l at f = sym (put-none l at)
 
-pub words-turn : (l : List ℕ) (at : ℕ) (f : ℕ → ℕ) (b : ℕ) {m n : List ℕ} {w : ℕ} → m ≡ put_at l at (words_of f b) → w ≡ f b → n ≡ put_at m (at + 4 * b) (word w)
+pub words_turn : (l : List ℕ) (at : ℕ) (f : ℕ → ℕ) (b : ℕ) {m n : List ℕ} {w : ℕ} → m ≡ put_at l at (words_of f b) → w ≡ f b → n ≡ put_at m (at + 4 * b) (word w)
     → n ≡ put_at l at (words_of f (b + 1))
-words-turn l at f b {m} {n} {w} p e q =
-    rw (words_more f b) (put_then l at (words_of f b) (word (f b)) (ap (λ (k : ℕ). at + k) (sym (length-words f b))) p (rw (← e) q))
+words_turn l at f b {m} {n} {w} p e q =
+    rw (words_more f b) (put_then l at (words_of f b) (word (f b)) (ap (λ (k : ℕ). at + k) (sym (length_words f b))) p (rw (← e) q))
 
-pub words-laid : (l : List ℕ) (at : ℕ) (f : ℕ → ℕ) (n b : ℕ) {m : List ℕ} → b ≡ n → m ≡ put_at l at (words_of f b) → Laid l m at (words_of f n) (at + 4 * n)
-words-laid l at f n b {m} e p = record {
-  end_is = ap (λ (k : ℕ). at + k) (sym (length-words f n));
-  image-is = p ∙ ap (λ (k : ℕ). put_at l at (words_of f k)) e;
+pub words_laid : (l : List ℕ) (at : ℕ) (f : ℕ → ℕ) (n b : ℕ) {m : List ℕ} → b ≡ n → m ≡ put_at l at (words_of f b) → Laid l m at (words_of f n) (at + 4 * n)
+words_laid l at f n b {m} e p = record {
+  end_is = ap (λ (k : ℕ). at + k) (sym (length_words f n));
+  image_is = p ∙ ap (λ (k : ℕ). put_at l at (words_of f k)) e;
 }
 
 -- bucket words and child words as they stand in a numbered table, by the way of one to the next
-pub bucket-is : (numbered : List ℕ) (first b : ℕ) → slotBucket numbered (first + b) ≡ get_or numbered (slotsFrom + slotSize * first + 7 + slotSize * b) 0
-unfolding slotWord
-bucket-is numbered first b = ap (λ (n : ℕ). get_or numbered n 0) (omega arith)
+pub bucket_is : (numbered : List ℕ) (first b : ℕ) → slot_bucket numbered (first + b) ≡ get_or numbered (slots_from + slot_size * first + 7 + slot_size * b) 0
+unfolding slot_word
+bucket_is numbered first b = ap (λ (n : ℕ). get_or numbered n 0) (omega arith)
 
-pub child-is : (numbered : List ℕ) (start j : ℕ) → childWord numbered (start + j) ≡ get_or numbered (childrenFrom + start + 1 * j) 0
-unfolding childWord
-child-is numbered start j = ap (λ (n : ℕ). get_or numbered n 0) (omega arith)
+pub child_is : (numbered : List ℕ) (start j : ℕ) → child_word numbered (start + j) ≡ get_or numbered (children_from + start + 1 * j) 0
+unfolding child_word
+child_is numbered start j = ap (λ (n : ℕ). get_or numbered n 0) (omega arith)
 
-pub length-filter : (numbered : List ℕ) (filter first count : ℕ) → length (slotFilter numbered filter first count) ≡ 4 * filter
-unfolding slotFilter
-length-filter numbered filter first count = length-words _ filter
+pub length_filter : (numbered : List ℕ) (filter first count : ℕ) → length (slot_filter numbered filter first count) ≡ 4 * filter
+unfolding slot_filter
+length_filter numbered filter first count = length_words _ filter
 
 -- a table's filter words behind its head, and its bucket words behind them
-pub front-laid : (numbered l : List ℕ) (filter first count at : ℕ) {k m n : List ℕ} {end : ℕ} → k ≡ put_at l at (headBytes filter count)
-    → m ≡ put_at k (at + 8) (slotFilter numbered filter first count)
-    → Laid m n (at + 8 + 4 * filter) (words_of (λ b. get_or numbered (slotsFrom + slotSize * first + 7 + slotSize * b) 0) count) end
-    → n ≡ put_at l at (headBytes filter count ++ (slotFilter numbered filter first count ++ words_of (λ b. slotBucket numbered (first + b)) count))
-front-laid numbered l filter first count at p q laid =
-    put_then l at (headBytes filter count) _ (ap (λ (n : ℕ). at + n) (sym (length-head filter count))) p
-    (put_then _ (at + 8) (slotFilter numbered filter first count) _ (ap (λ (n : ℕ). at + 8 + n) (sym (length-filter numbered filter first count))) q
-    (rw (words_same _ _ count (λ b _. bucket-is numbered first b)) laid.image-is))
+pub front_laid : (numbered l : List ℕ) (filter first count at : ℕ) {k m n : List ℕ} {end : ℕ} → k ≡ put_at l at (head_bytes filter count)
+    → m ≡ put_at k (at + 8) (slot_filter numbered filter first count)
+    → Laid m n (at + 8 + 4 * filter) (words_of (λ b. get_or numbered (slots_from + slot_size * first + 7 + slot_size * b) 0) count) end
+    → n ≡ put_at l at (head_bytes filter count ++ (slot_filter numbered filter first count ++ words_of (λ b. slot_bucket numbered (first + b)) count))
+front_laid numbered l filter first count at p q laid =
+    put_then l at (head_bytes filter count) _ (ap (λ (n : ℕ). at + n) (sym (length_head filter count))) p
+    (put_then _ (at + 8) (slot_filter numbered filter first count) _ (ap (λ (n : ℕ). at + 8 + n) (sym (length_filter numbered filter first count))) q
+    (rw (words_same _ _ count (λ b _. bucket_is numbered first b)) laid.image_is))
 
 -- ---- a record
 
@@ -81,64 +81,64 @@ put_three l to a b c {m} {n} {o} p q r =
 
 -- both halves of a record
 pub put_record : (filter : ℕ) (numbered l : List ℕ) (s to at start : ℕ) {hash parent size kind stop : ℕ} {m n : List ℕ}
-    → hash ≡ slotHash numbered s → parent ≡ slotParent numbered s → size ≡ slotFragmentSize numbered s → kind ≡ slotKind numbered s → stop ≡ start + slotCover filter numbered s
-    → slotFragmentSize numbered s < 65536 → slotKind numbered s < 256
+    → hash ≡ slot_hash numbered s → parent ≡ slot_parent numbered s → size ≡ slot_fragment_size numbered s → kind ≡ slot_kind numbered s → stop ≡ start + slot_cover filter numbered s
+    → slot_fragment_size numbered s < 65536 → slot_kind numbered s < 256
     → m ≡ put_at l to (word hash ++ (word parent ++ word at)) → n ≡ put_at m (to + 12) (word (size + 65536 * kind) ++ (word start ++ word stop))
-    → n ≡ put_at l to (slotRecord numbered filter s at start)
-unfolding slotRecord
+    → n ≡ put_at l to (slot_record numbered filter s at start)
+unfolding slot_record
 put_record filter numbered l s to at start {hash} {parent} {size} {kind} {stop} {m} {n} eh ep es ek et small few p q =
-    let front = word (slotHash numbered s) ++ (word (slotParent numbered s) ++ word at) in
-    let back = (spelled 2 (slotFragmentSize numbered s) ++ (slotKind numbered s ∷ 0 ∷ [])) ++ (word start ++ word (start + slotCover filter numbered s)) in
+    let front = word (slot_hash numbered s) ++ (word (slot_parent numbered s) ++ word at) in
+    let back = (spelled 2 (slot_fragment_size numbered s) ++ (slot_kind numbered s ∷ 0 ∷ [])) ++ (word start ++ word (start + slot_cover filter numbered s)) in
     let p' : m ≡ put_at l to front = rw (← eh, ← ep) p in
-    let q' : n ≡ put_at m (to + 12) back = rw (← fourth-word (slotFragmentSize numbered s) (slotKind numbered s) small few, ← es, ← ek, ← et) q in
-    put_then l to front back (ap (λ (k : ℕ). to + k) (sym (length_three (slotHash numbered s) (slotParent numbered s) at))) p' q'
+    let q' : n ≡ put_at m (to + 12) back = rw (← fourth_word (slot_fragment_size numbered s) (slot_kind numbered s) small few, ← es, ← ek, ← et) q in
+    put_then l to front back (ap (λ (k : ℕ). to + k) (sym (length_three (slot_hash numbered s) (slot_parent numbered s) at))) p' q'
     ∙ ap (put_at l to) (simp append_assoc)
 
 -- ---- a fragment
 
-pub part-laid : (l arena : List ℕ) (start size at : ℕ) {m : List ℕ} → start + size ≤ length arena → m ≡ put_at l at (part arena start size)
+pub part_laid : (l arena : List ℕ) (start size at : ℕ) {m : List ℕ} → start + size ≤ length arena → m ≡ put_at l at (part arena start size)
     → Laid l m at (part arena start size) (at + size)
-part-laid l arena start size at fits e = record { end_is = ap (λ (n : ℕ). at + n) (sym (length_part arena start size fits)); image-is = e }
+part_laid l arena start size at fits e = record { end_is = ap (λ (n : ℕ). at + n) (sym (length_part arena start size fits)); image_is = e }
 
-pub part_end : (numbered arena l : List ℕ) (s at : ℕ) {from size end : ℕ} {m : List ℕ} → from ≡ slotFragment numbered s → size ≡ slotFragmentSize numbered s
-    → slotFragment numbered s + slotFragmentSize numbered s ≤ length arena → Laid l m at (part arena from size) end → end ≡ at + slotFragmentSize numbered s
+pub part_end : (numbered arena l : List ℕ) (s at : ℕ) {from size end : ℕ} {m : List ℕ} → from ≡ slot_fragment numbered s → size ≡ slot_fragment_size numbered s
+    → slot_fragment numbered s + slot_fragment_size numbered s ≤ length arena → Laid l m at (part arena from size) end → end ≡ at + slot_fragment_size numbered s
 part_end numbered arena l s at {from} {size} {end} ef es fits laid =
-    let e : end ≡ at + length (part arena (slotFragment numbered s) (slotFragmentSize numbered s)) = rw (← ef, ← es) laid.end_is in
-    e ∙ ap (λ (n : ℕ). at + n) (length_part arena (slotFragment numbered s) (slotFragmentSize numbered s) fits)
+    let e : end ≡ at + length (part arena (slot_fragment numbered s) (slot_fragment_size numbered s)) = rw (← ef, ← es) laid.end_is in
+    e ∙ ap (λ (n : ℕ). at + n) (length_part arena (slot_fragment numbered s) (slot_fragment_size numbered s) fits)
 
 -- and the zeros behind it
-pub put-key : (numbered arena l : List ℕ) (s at start : ℕ) {from size end : ℕ} {m n : List ℕ} → from ≡ slotFragment numbered s → size ≡ slotFragmentSize numbered s
-    → slotFragment numbered s + slotFragmentSize numbered s ≤ length arena → Laid l m at (part arena from size) end → n ≡ put_at m end (zeros (start - end))
-    → n ≡ put_at l at (slotKey numbered arena s at start)
-unfolding slotKey
-put-key numbered arena l s at start {from} {size} {end} {m} {n} ef es fits laid q =
-    let bytes = part arena (slotFragment numbered s) (slotFragmentSize numbered s) in
-    let p : m ≡ put_at l at bytes = rw (← ef, ← es) laid.image-is in
+pub put_key_lem : (numbered arena l : List ℕ) (s at start : ℕ) {from size end : ℕ} {m n : List ℕ} → from ≡ slot_fragment numbered s → size ≡ slot_fragment_size numbered s
+    → slot_fragment numbered s + slot_fragment_size numbered s ≤ length arena → Laid l m at (part arena from size) end → n ≡ put_at m end (zeros (start - end))
+    → n ≡ put_at l at (slot_key numbered arena s at start)
+unfolding slot_key
+put_key_lem numbered arena l s at start {from} {size} {end} {m} {n} ef es fits laid q =
+    let bytes = part arena (slot_fragment numbered s) (slot_fragment_size numbered s) in
+    let p : m ≡ put_at l at bytes = rw (← ef, ← es) laid.image_is in
     let e : end ≡ at + length bytes = rw (← ef, ← es) laid.end_is in
-    let f : end ≡ at + slotFragmentSize numbered s = part_end numbered arena l s at ef es fits laid in
-    put_then l at bytes (zeros (start - (at + slotFragmentSize numbered s))) e p (q ∙ ap (λ (k : ℕ). put_at m end (zeros (start - k))) f)
+    let f : end ≡ at + slot_fragment_size numbered s = part_end numbered arena l s at ef es fits laid in
+    put_then l at bytes (zeros (start - (at + slot_fragment_size numbered s))) e p (q ∙ ap (λ (k : ℕ). put_at m end (zeros (start - k))) f)
 
 -- ---- a value that is no nested table
 
 module _ (numbered arena : List ℕ) (s : ℕ) where
-  pub plain-bytes : slotKind numbered s ≡ valueKind → plainValue numbered arena s ≡ part arena (slotValueWord numbered s) (slotValueSize numbered s)
-  unfolding plainValue pick
-  plain-bytes e = rw (eq-eqb (slotKind numbered s) 118 e)
+  pub plain-bytes : slot_kind numbered s ≡ value_kind → plain_value numbered arena s ≡ part arena (slot_value_word numbered s) (slot_value_size numbered s)
+  unfolding plain_value pick
+  plain-bytes e = rw (eq-eqb (slot_kind numbered s) 118 e)
 
-  pub plain-children : (slotKind numbered s ≡ valueKind → ⊥) → plainValue numbered arena s ≡ words_of (λ j. childWord numbered (slotValueWord numbered s + j)) (slotValueSize numbered s)
-  unfolding plainValue pick
-  plain-children n = rw (ne_eqb (slotKind numbered s) 118 n)
+  pub plain_children : (slot_kind numbered s ≡ value_kind → ⊥) → plain_value numbered arena s ≡ words_of (λ j. child_word numbered (slot_value_word numbered s + j)) (slot_value_size numbered s)
+  unfolding plain_value pick
+  plain_children n = rw (ne_eqb (slot_kind numbered s) 118 n)
 
-  pub length-bytes : slotKind numbered s ≡ valueKind → slotValueWord numbered s + slotValueSize numbered s ≤ length arena → length (plainValue numbered arena s) ≡ slotValueSize numbered s
-  length-bytes e fits = ap length (plain-bytes e) ∙ length_part arena (slotValueWord numbered s) (slotValueSize numbered s) fits
+  pub length-bytes : slot_kind numbered s ≡ value_kind → slot_value_word numbered s + slot_value_size numbered s ≤ length arena → length (plain_value numbered arena s) ≡ slot_value_size numbered s
+  length-bytes e fits = ap length (plain-bytes e) ∙ length_part arena (slot_value_word numbered s) (slot_value_size numbered s) fits
 
-  pub length-children : (slotKind numbered s ≡ valueKind → ⊥) → length (plainValue numbered arena s) ≡ 4 * slotValueSize numbered s
-  length-children n = ap length (plain-children n) ∙ length-words (λ j. childWord numbered (slotValueWord numbered s + j)) (slotValueSize numbered s)
+  pub length_children : (slot_kind numbered s ≡ value_kind → ⊥) → length (plain_value numbered arena s) ≡ 4 * slot_value_size numbered s
+  length_children n = ap length (plain_children n) ∙ length_words (λ j. child_word numbered (slot_value_word numbered s + j)) (slot_value_size numbered s)
 
-  pub bytes-laid : {l m : List ℕ} {at start size end : ℕ} → slotKind numbered s ≡ valueKind → start ≡ slotValueWord numbered s → size ≡ slotValueSize numbered s
-      → Laid l m at (part arena start size) end → Laid l m at (plainValue numbered arena s) end
-  bytes-laid k e f p = rw (plain-bytes k, ← e, ← f) p
+  pub bytes_laid : {l m : List ℕ} {at start size end : ℕ} → slot_kind numbered s ≡ value_kind → start ≡ slot_value_word numbered s → size ≡ slot_value_size numbered s
+      → Laid l m at (part arena start size) end → Laid l m at (plain_value numbered arena s) end
+  bytes_laid k e f p = rw (plain-bytes k, ← e, ← f) p
 
-  pub children-laid : {l m : List ℕ} {at start size end : ℕ} → (slotKind numbered s ≡ valueKind → ⊥) → start ≡ slotValueWord numbered s → size ≡ slotValueSize numbered s
-      → Laid l m at (words_of (λ j. get_or numbered (childrenFrom + start + 1 * j) 0) size) end → Laid l m at (plainValue numbered arena s) end
-  children-laid {start = start} {size = size} k e f p = rw (plain-children k) (rw (← e, ← f, words_same _ _ size (λ j _. child-is numbered start j)) p)
+  pub children_laid : {l m : List ℕ} {at start size end : ℕ} → (slot_kind numbered s ≡ value_kind → ⊥) → start ≡ slot_value_word numbered s → size ≡ slot_value_size numbered s
+      → Laid l m at (words_of (λ j. get_or numbered (children_from + start + 1 * j) 0) size) end → Laid l m at (plain_value numbered arena s) end
+  children_laid {start = start} {size = size} k e f p = rw (plain_children k) (rw (← e, ← f, words_same _ _ size (λ j _. child_is numbered start j)) p)

@@ -8,122 +8,122 @@
 use Rattle.std.specs.Prelude.{ℕ, zero, suc, ◌+◌, ◌*◌, ◌≤◌, ◌<◌, ◌^◌, ◌≡◌, List, [], ◌++◌, eqb, length, get_or}
 use Rattle.words.specs.Choice.{pick}
 use Rattle.words.specs.Store.{part, zeros}
-use Rattle.layout.specs.Limits.{mostItems, mostTables, deepest}
-use Rattle.layout.specs.Sizes.{headerSize, chunkSize}
-use Rattle.layout.specs.Kind.{valueKind, tableKind}
-use Rattle.image.specs.Plan.{Plan, words_of, planBytes}
+use Rattle.layout.specs.Limits.{most_items, most_tables, deepest}
+use Rattle.layout.specs.Sizes.{header_size, chunk_size}
+use Rattle.layout.specs.Kind.{value_kind, table_kind}
+use Rattle.image.specs.Plan.{Plan, words_of, plan_bytes}
 
 -- the words of a table
-abbrev pub headWords : ℕ
-headWords = 2
+abbrev pub head_words : ℕ
+head_words = 2
 
-abbrev pub slotsFrom : ℕ
-slotsFrom = headWords * mostTables
+abbrev pub slots_from : ℕ
+slots_from = head_words * most_tables
 
 -- the words of a slot
-abbrev pub slotSize : ℕ
-slotSize = 8
+abbrev pub slot_size : ℕ
+slot_size = 8
 
-abbrev pub childrenFrom : ℕ
-childrenFrom = slotsFrom + slotSize * mostItems
+abbrev pub children_from : ℕ
+children_from = slots_from + slot_size * most_items
 
-abbrev pub numberedSize : ℕ
-numberedSize = childrenFrom + mostItems
+abbrev pub numbered_size : ℕ
+numbered_size = children_from + most_items
 
 module _ (numbered : List ℕ) where
   unfoldable pub first_slot : ℕ → ℕ
-  first_slot t = get_or numbered (headWords * t) 0
+  first_slot t = get_or numbered (head_words * t) 0
 
-  unfoldable pub slotCount : ℕ → ℕ
-  slotCount t = get_or numbered (headWords * t + 1) 0
+  unfoldable pub slot_count : ℕ → ℕ
+  slot_count t = get_or numbered (head_words * t + 1) 0
 
   -- word `which` of slot s
-  unfoldable pub slotWord : ℕ → ℕ → ℕ
-  slotWord s which = get_or numbered (slotsFrom + slotSize * s + which) 0
+  unfoldable pub slot_word : ℕ → ℕ → ℕ
+  slot_word s which = get_or numbered (slots_from + slot_size * s + which) 0
 
   -- the eight by name, as src/numbered.rt has them; what 5 and 6 say goes by kind
-  abbrev pub slotHash : ℕ → ℕ
-  slotHash s = slotWord s 0
+  abbrev pub slot_hash : ℕ → ℕ
+  slot_hash s = slot_word s 0
 
-  abbrev pub slotParent : ℕ → ℕ
-  slotParent s = slotWord s 1
+  abbrev pub slot_parent : ℕ → ℕ
+  slot_parent s = slot_word s 1
 
-  abbrev pub slotFragment : ℕ → ℕ
-  slotFragment s = slotWord s 2
+  abbrev pub slot_fragment : ℕ → ℕ
+  slot_fragment s = slot_word s 2
 
-  abbrev pub slotFragmentSize : ℕ → ℕ
-  slotFragmentSize s = slotWord s 3
+  abbrev pub slot_fragment_size : ℕ → ℕ
+  slot_fragment_size s = slot_word s 3
 
-  abbrev pub slotKind : ℕ → ℕ
-  slotKind s = slotWord s 4
+  abbrev pub slot_kind : ℕ → ℕ
+  slot_kind s = slot_word s 4
 
-  abbrev pub slotValueWord : ℕ → ℕ
-  slotValueWord s = slotWord s 5
+  abbrev pub slot_value_word : ℕ → ℕ
+  slot_value_word s = slot_word s 5
 
-  abbrev pub slotValueSize : ℕ → ℕ
-  slotValueSize s = slotWord s 6
+  abbrev pub slot_value_size : ℕ → ℕ
+  slot_value_size s = slot_word s 6
 
-  abbrev pub slotBucket : ℕ → ℕ
-  slotBucket s = slotWord s 7
+  abbrev pub slot_bucket : ℕ → ℕ
+  slot_bucket s = slot_word s 7
 
-  unfoldable pub childWord : ℕ → ℕ
-  childWord j = get_or numbered (childrenFrom + j) 0
+  unfoldable pub child_word : ℕ → ℕ
+  child_word j = get_or numbered (children_from + j) 0
 
 -- by kind: for a value, for a nested table, for a container
 unfoldable pub by_kind : {A : Type 0} → ℕ → A → A → A → A
-by_kind kind value table container = pick (eqb kind valueKind) value (pick (eqb kind tableKind) table container)
+by_kind kind value table container = pick (eqb kind value_kind) value (pick (eqb kind table_kind) table container)
 
 -- the length that the value pointer of slot s covers, with so many filter words in every table: of a nested table the table chunk only
-unfoldable pub slotCover : ℕ → List ℕ → ℕ → ℕ
-slotCover filter numbered s =
-    by_kind (slotKind numbered s) (slotValueSize numbered s) (chunkSize filter (slotCount numbered (slotValueWord numbered s))) (4 * slotValueSize numbered s)
+unfoldable pub slot_cover : ℕ → List ℕ → ℕ → ℕ
+slot_cover filter numbered s =
+    by_kind (slot_kind numbered s) (slot_value_size numbered s) (chunk_size filter (slot_count numbered (slot_value_word numbered s))) (4 * slot_value_size numbered s)
 
 module _ (inner : ℕ → ℕ → List ℕ) (numbered arena : List ℕ) where
   -- what slot s holds, if it starts at an offset: a value's bytes, a nested table with all its chunks, or the children's indices
-  unfoldable pub slotValue : ℕ → ℕ → List ℕ
-  slotValue s at =
-      by_kind (slotKind numbered s) (part arena (slotValueWord numbered s) (slotValueSize numbered s)) (inner (slotValueWord numbered s) at)
-      (words_of (λ j. childWord numbered (slotValueWord numbered s + j)) (slotValueSize numbered s))
+  unfoldable pub slot_value : ℕ → ℕ → List ℕ
+  slot_value s at =
+      by_kind (slot_kind numbered s) (part arena (slot_value_word numbered s) (slot_value_size numbered s)) (inner (slot_value_word numbered s) at)
+      (words_of (λ j. child_word numbered (slot_value_word numbered s + j)) (slot_value_size numbered s))
 
   -- table t, index by index, with so many filter words
-  unfoldable pub numberedPlan : ℕ → ℕ → Plan
-  numberedPlan filter t = record {
-    count = slotCount numbered t;
+  unfoldable pub numbered_plan : ℕ → ℕ → Plan
+  numbered_plan filter t = record {
+    count = slot_count numbered t;
     filter = filter;
-    first = λ b. slotBucket numbered (first_slot numbered t + b);
-    hash = λ k. slotHash numbered (first_slot numbered t + k);
-    parent = λ k. slotParent numbered (first_slot numbered t + k);
-    fragment = λ k. part arena (slotFragment numbered (first_slot numbered t + k)) (slotFragmentSize numbered (first_slot numbered t + k));
-    kind = λ k. slotKind numbered (first_slot numbered t + k);
-    align = λ k. by_kind (slotKind numbered (first_slot numbered t + k)) 8 4 4;
-    value = λ k at. slotValue (first_slot numbered t + k) at;
-    covers = λ k. slotCover filter numbered (first_slot numbered t + k);
+    first = λ b. slot_bucket numbered (first_slot numbered t + b);
+    hash = λ k. slot_hash numbered (first_slot numbered t + k);
+    parent = λ k. slot_parent numbered (first_slot numbered t + k);
+    fragment = λ k. part arena (slot_fragment numbered (first_slot numbered t + k)) (slot_fragment_size numbered (first_slot numbered t + k));
+    kind = λ k. slot_kind numbered (first_slot numbered t + k);
+    align = λ k. by_kind (slot_kind numbered (first_slot numbered t + k)) 8 4 4;
+    value = λ k at. slot_value (first_slot numbered t + k) at;
+    covers = λ k. slot_cover filter numbered (first_slot numbered t + k);
   }
 
 -- table t at `at`, with all its chunks; nested tables as deep as d goes
-unfoldable pub numberedBytes : ℕ → List ℕ → List ℕ → ℕ → ℕ → ℕ → List ℕ
-numberedBytes filter numbered arena zero t at = []
-numberedBytes filter numbered arena (suc d) t at = planBytes (numberedPlan (λ u start. numberedBytes filter numbered arena d u start) numbered arena filter t) at
+unfoldable pub numbered_bytes : ℕ → List ℕ → List ℕ → ℕ → ℕ → ℕ → List ℕ
+numbered_bytes filter numbered arena zero t at = []
+numbered_bytes filter numbered arena (suc d) t at = plan_bytes (numbered_plan (λ u start. numbered_bytes filter numbered arena d u start) numbered arena filter t) at
 
 -- the whole image: zeros for the header, then the root table
-unfoldable pub numberedImage : ℕ → List ℕ → List ℕ → ℕ → List ℕ
-numberedImage filter numbered arena root = zeros headerSize ++ numberedBytes filter numbered arena deepest root headerSize
+unfoldable pub numbered_image : ℕ → List ℕ → List ℕ → ℕ → List ℕ
+numbered_image filter numbered arena root = zeros header_size ++ numbered_bytes filter numbered arena deepest root header_size
 
 -- ---- a numbered table that can be laid: every part lies where it should, and every word fits its field
 
 pub record SlotFits (numbered arena : List ℕ) (s : ℕ) : Type 0 where
-  pub hash : slotHash numbered s < 2 ^ 32
-  pub parent : slotParent numbered s < 2 ^ 32
-  pub fragment : slotFragment numbered s + slotFragmentSize numbered s ≤ length arena
-  pub size : slotFragmentSize numbered s < 65536
-  pub kind : slotKind numbered s < 256
-  pub bucket : slotBucket numbered s < 2 ^ 32
-  pub value : slotKind numbered s ≡ valueKind → slotValueWord numbered s + slotValueSize numbered s ≤ length arena
-  pub guest : slotKind numbered s ≡ tableKind → slotValueWord numbered s < mostTables
-  pub children : (slotKind numbered s ≡ valueKind → ⊥) → (slotKind numbered s ≡ tableKind → ⊥) → slotValueWord numbered s + slotValueSize numbered s ≤ mostItems
+  pub hash : slot_hash numbered s < 2 ^ 32
+  pub parent : slot_parent numbered s < 2 ^ 32
+  pub fragment : slot_fragment numbered s + slot_fragment_size numbered s ≤ length arena
+  pub size : slot_fragment_size numbered s < 65536
+  pub kind : slot_kind numbered s < 256
+  pub bucket : slot_bucket numbered s < 2 ^ 32
+  pub value : slot_kind numbered s ≡ value_kind → slot_value_word numbered s + slot_value_size numbered s ≤ length arena
+  pub guest : slot_kind numbered s ≡ table_kind → slot_value_word numbered s < most_tables
+  pub children : (slot_kind numbered s ≡ value_kind → ⊥) → (slot_kind numbered s ≡ table_kind → ⊥) → slot_value_word numbered s + slot_value_size numbered s ≤ most_items
 
 pub record NumberedFits (numbered arena : List ℕ) : Type 0 where
-  pub long : length numbered ≡ numberedSize
-  pub tables : (t : ℕ) → t < mostTables → first_slot numbered t + slotCount numbered t ≤ mostItems
-  pub slots : (s : ℕ) → s < mostItems → SlotFits numbered arena s
-  pub children : (j : ℕ) → j < mostItems → childWord numbered j < 2 ^ 32
+  pub long : length numbered ≡ numbered_size
+  pub tables : (t : ℕ) → t < most_tables → first_slot numbered t + slot_count numbered t ≤ most_items
+  pub slots : (s : ℕ) → s < most_items → SlotFits numbered arena s
+  pub children : (j : ℕ) → j < most_items → child_word numbered j < 2 ^ 32

@@ -4,62 +4,62 @@ use Rattle.words.specs.Choice.{pick}
 use Rattle.words.specs.Store.{part, zeros}
 use Rattle.words.specs.Field.{spelled}
 use Rattle.words.specs.Align.{aligned}
-use Rattle.image.specs.Plan.{word, words_of, first_word, filterWord}
-use Rattle.layout.specs.Kind.{valueKind, tableKind}
-use Rattle.layout.specs.Limits.{mostTables, mostItems}
-use Rattle.write_parts.specs.Numbered.{numberedSize, slotCount, slotHash, slotParent, slotFragment, slotFragmentSize, slotKind, slotValueWord, slotValueSize, childWord, by_kind, slotCover, slotValue}
+use Rattle.image.specs.Plan.{word, words_of, first_word, filter_word}
+use Rattle.layout.specs.Kind.{value_kind, table_kind}
+use Rattle.layout.specs.Limits.{most_tables, most_items}
+use Rattle.write_parts.specs.Numbered.{numbered_size, slot_count, slot_hash, slot_parent, slot_fragment, slot_fragment_size, slot_kind, slot_value_word, slot_value_size, child_word, by_kind, slot_cover, slot_value}
 
 -- a table's first word and its count of buckets
-unfoldable pub headBytes : ℕ → ℕ → List ℕ
-headBytes filter count = word (first_word filter) ++ word count
+unfoldable pub head_bytes : ℕ → ℕ → List ℕ
+head_bytes filter count = word (first_word filter) ++ word count
 
 -- the filter words of a table of so many items, the first of them in slot `first`
-unfoldable pub slotFilter : List ℕ → ℕ → ℕ → ℕ → List ℕ
-slotFilter numbered filter first count = words_of (λ k. filterWord (λ n. slotHash numbered (first + n)) filter k count) filter
+unfoldable pub slot_filter : List ℕ → ℕ → ℕ → ℕ → List ℕ
+slot_filter numbered filter first count = words_of (λ k. filter_word (λ n. slot_hash numbered (first + n)) filter k count) filter
 
 module _ (numbered : List ℕ) where
   -- where the value of slot s starts, if its key starts at `at`
-  unfoldable pub slotStart : ℕ → ℕ → ℕ
-  slotStart s at = aligned (at + slotFragmentSize numbered s) (by_kind (slotKind numbered s) 8 4 4)
+  unfoldable pub slot_start : ℕ → ℕ → ℕ
+  slot_start s at = aligned (at + slot_fragment_size numbered s) (by_kind (slot_kind numbered s) 8 4 4)
 
   -- its record, the key at `at`, the value at `start`, with so many filter words in every table
-  unfoldable pub slotRecord : ℕ → ℕ → ℕ → ℕ → List ℕ
-  slotRecord filter s at start =
-      word (slotHash numbered s) ++ (word (slotParent numbered s) ++ (word at
-      ++ ((spelled 2 (slotFragmentSize numbered s) ++ (slotKind numbered s ∷ 0 ∷ [])) ++ (word start ++ word (start + slotCover filter numbered s)))))
+  unfoldable pub slot_record : ℕ → ℕ → ℕ → ℕ → List ℕ
+  slot_record filter s at start =
+      word (slot_hash numbered s) ++ (word (slot_parent numbered s) ++ (word at
+      ++ ((spelled 2 (slot_fragment_size numbered s) ++ (slot_kind numbered s ∷ 0 ∷ [])) ++ (word start ++ word (start + slot_cover filter numbered s)))))
 
 -- its fragment at `at`, and zeros up to the value at `start`
-unfoldable pub slotKey : List ℕ → List ℕ → ℕ → ℕ → ℕ → List ℕ
-slotKey numbered arena s at start = part arena (slotFragment numbered s) (slotFragmentSize numbered s) ++ zeros (start - (at + slotFragmentSize numbered s))
+unfoldable pub slot_key : List ℕ → List ℕ → ℕ → ℕ → ℕ → List ℕ
+slot_key numbered arena s at start = part arena (slot_fragment numbered s) (slot_fragment_size numbered s) ++ zeros (start - (at + slot_fragment_size numbered s))
 
 -- its value, where that is no nested table: bytes, or the children's indices
-unfoldable pub plainValue : List ℕ → List ℕ → ℕ → List ℕ
-plainValue numbered arena s =
-    pick (eqb (slotKind numbered s) valueKind) (part arena (slotValueWord numbered s) (slotValueSize numbered s))
-    (words_of (λ j. childWord numbered (slotValueWord numbered s + j)) (slotValueSize numbered s))
+unfoldable pub plain_value : List ℕ → List ℕ → ℕ → List ℕ
+plain_value numbered arena s =
+    pick (eqb (slot_kind numbered s) value_kind) (part arena (slot_value_word numbered s) (slot_value_size numbered s))
+    (words_of (λ j. child_word numbered (slot_value_word numbered s + j)) (slot_value_size numbered s))
 
 -- its fragment, zeros and value
-unfoldable pub slotItem : (ℕ → ℕ → List ℕ) → List ℕ → List ℕ → ℕ → ℕ → List ℕ
-slotItem inner numbered arena s at = slotKey numbered arena s at (slotStart numbered s at) ++ slotValue inner numbered arena s (slotStart numbered s at)
+unfoldable pub slot_item : (ℕ → ℕ → List ℕ) → List ℕ → List ℕ → ℕ → ℕ → List ℕ
+slot_item inner numbered arena s at = slot_key numbered arena s at (slot_start numbered s at) ++ slot_value inner numbered arena s (slot_start numbered s at)
 
 -- ---- what the functions over one slot ask
 
 -- it is a slot of a whole numbered table
 pub record SlotIn (numbered : List ℕ) (s : ℕ) : Type 0 where
-  pub long : length numbered ≡ numberedSize
-  pub inside : s < mostItems
+  pub long : length numbered ≡ numbered_size
+  pub inside : s < most_items
 
 -- its guest is a table, and what its pointer covers can be counted
 pub record CoverFits (numbered : List ℕ) (s : ℕ) : Type 0 where
-  pub guest : slotKind numbered s ≡ tableKind → slotValueWord numbered s < mostTables
-  pub items : slotKind numbered s ≡ tableKind → slotCount numbered (slotValueWord numbered s) ≤ mostItems
-  pub children : (slotKind numbered s ≡ valueKind → ⊥) → (slotKind numbered s ≡ tableKind → ⊥) → slotValueSize numbered s ≤ mostItems
+  pub guest : slot_kind numbered s ≡ table_kind → slot_value_word numbered s < most_tables
+  pub items : slot_kind numbered s ≡ table_kind → slot_count numbered (slot_value_word numbered s) ≤ most_items
+  pub children : (slot_kind numbered s ≡ value_kind → ⊥) → (slot_kind numbered s ≡ table_kind → ⊥) → slot_value_size numbered s ≤ most_items
 
 -- the words of its record fit their fields
 pub record RecordFits (filter : ℕ) (numbered : List ℕ) (s at start : ℕ) : Type 0 where
-  pub hash : slotHash numbered s < 2 ^ 32
-  pub parent : slotParent numbered s < 2 ^ 32
+  pub hash : slot_hash numbered s < 2 ^ 32
+  pub parent : slot_parent numbered s < 2 ^ 32
   pub key : at < 2 ^ 32
-  pub size : slotFragmentSize numbered s < 65536
-  pub kind : slotKind numbered s < 256
-  pub stop : start + slotCover filter numbered s < 2 ^ 32
+  pub size : slot_fragment_size numbered s < 65536
+  pub kind : slot_kind numbered s < 256
+  pub stop : start + slot_cover filter numbered s < 2 ^ 32

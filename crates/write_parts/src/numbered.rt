@@ -1,6 +1,6 @@
 // Where the words of a numbered table stand (specs/Numbered.antt says what each holds), and how they are read.
 ghost use Rattle.std.specs.Prelude.{◌≡◌, ◌+◌, ◌*◌, ◌<◌, length};
-ghost use Rattle.write_parts.specs.Numbered.{headWords, slotsFrom, slotSize, first_slot, slotCount, slotWord};
+ghost use Rattle.write_parts.specs.Numbered.{head_words, slots_from, slot_size, first_slot, slot_count, slot_word};
 
 use layout::limits::{MOST_ITEMS, MOST_TABLES};
 
@@ -35,7 +35,7 @@ pub const NUMBERED_SIZE: usize = CHILDREN_FROM + MOST_ITEMS;
 
 // The first slot of a table.
 pub fn first_slot(numbered: &[usize], table: usize) -> usize
-    requires { headWords * table < length numbered.now }
+    requires { head_words * table < length numbered.now }
     ensures { result ≡ first_slot numbered.now table }
 {
     numbered[HEAD_WORDS * table]
@@ -44,16 +44,16 @@ pub fn first_slot(numbered: &[usize], table: usize) -> usize
 // gvdb-rs: SimpleHashTable::n_items, n_buckets.
 // The count of a table's items.
 pub fn slot_count(numbered: &[usize], table: usize) -> usize
-    requires { headWords * table + 1 < length numbered.now }
-    ensures { result ≡ slotCount numbered.now table }
+    requires { head_words * table + 1 < length numbered.now }
+    ensures { result ≡ slot_count numbered.now table }
 {
     numbered[HEAD_WORDS * table + 1]
 }
 
 // A word of a slot's eight.
 pub fn slot_word(numbered: &[usize], slot: usize, which: usize) -> usize
-    requires { slotsFrom + slotSize * slot + which < length numbered.now }
-    ensures { result ≡ slotWord numbered.now slot which }
+    requires { slots_from + slot_size * slot + which < length numbered.now }
+    ensures { result ≡ slot_word numbered.now slot which }
 {
     numbered[SLOTS_FROM + SLOT_SIZE * slot + which]
 }

@@ -1,14 +1,14 @@
 // Bytes laid into an image: a table's head and bucket words, a record, a fragment with its zeros, a value.
 ghost use Rattle.std.specs.Prelude.{◌≡◌, ◌++◌, ℕ, ◌+◌, ◌*◌, ◌≤◌, ◌<◌, ◌^◌, length, get_or};
 ghost use Rattle.words.specs.Store.{part, put_at};
-ghost use Rattle.words.specs.Field.{wordAt};
-ghost use Rattle.layout.specs.Sizes.{headSize, filterSize, bucketSize, recordSize};
+ghost use Rattle.words.specs.Field.{word_at};
+ghost use Rattle.layout.specs.Sizes.{head_size, filter_size, bucket_size, record_size};
 ghost use Rattle.image.specs.Laid.{Laid};
-ghost use Rattle.image.specs.Plan.{word, words_of, withHash};
-ghost use Rattle.layout.specs.Kind.{tableKind};
-ghost use Rattle.layout.specs.Limits.{mostItems, mostFilter};
-ghost use Rattle.write_parts.specs.Numbered.{slotHash, slotFragment, slotFragmentSize, slotKind, slotBucket, numberedSize, NumberedFits};
-ghost use Rattle.write_parts.specs.Slot.{headBytes, slotFilter, slotRecord, slotKey, plainValue, SlotIn, CoverFits, RecordFits};
+ghost use Rattle.image.specs.Plan.{word, words_of, with_hash};
+ghost use Rattle.layout.specs.Kind.{table_kind};
+ghost use Rattle.layout.specs.Limits.{most_items, most_filter};
+ghost use Rattle.write_parts.specs.Numbered.{slot_hash, slot_fragment, slot_fragment_size, slot_kind, slot_bucket, numbered_size, NumberedFits};
+ghost use Rattle.write_parts.specs.Slot.{head_bytes, slot_filter, slot_record, slot_key, plain_value, SlotIn, CoverFits, RecordFits};
 
 use crate::numbered::{
     BUCKET, CHILDREN_FROM, FRAGMENT, FRAGMENT_SIZE, HASH, KIND, PARENT, SLOT_SIZE, SLOTS_FROM,
@@ -27,8 +27,8 @@ const FIRST_WORD: u32 = 0x2800_0000;
 // gvdb-rs: HashHeader::new.
 // Lays a table's first word and its count of buckets.
 fn lay_head(image: &mut [u8], count: usize, at: usize, filter: usize)
-    requires { (at + headSize ≤ length image.old) × (count < 2 ^ 32) × (filter ≤ mostFilter) }
-    ensures { image.new ≡ put_at image.old at (headBytes filter count) }
+    requires { (at + head_size ≤ length image.old) × (count < 2 ^ 32) × (filter ≤ most_filter) }
+    ensures { image.new ≡ put_at image.old at (head_bytes filter count) }
 {
     put_word(image, at, FIRST_WORD + filter as u32);
     put_word(image, at + 4, count as u32);
@@ -43,7 +43,7 @@ fn lay_words(
     count: usize,
     at: usize,
 ) -> usize
-    requires by_index { (b : ℕ) → b < count → (from + step * b < length numbered.now) × (get_or numbered.now (from + step * b) 0 < 2 ^ 32) }
+    requires by_index_lem { (b : ℕ) → b < count → (from + step * b < length numbered.now) × (get_or numbered.now (from + step * b) 0 < 2 ^ 32) }
     requires count_in_bounds { at + 4 * count ≤ length image.old }
     ensures { Laid image.old image.new at (words_of (λ b. get_or numbered.now (from + step * b) 0) count) result }
 {
@@ -59,7 +59,7 @@ fn lay_words(
 // Sets the two bits of a hash in the filter word at an offset of the image.
 fn add_hash(image: &mut [u8], at: usize, hash: u32)
     requires { at + 4 ≤ length image.old }
-    ensures { image.new ≡ put_at image.old at (word (withHash (wordAt image.old at) hash)) }
+    ensures { image.new ≡ put_at image.old at (word (with_hash (word_at image.old at) hash)) }
 {
     let first = put_bit(word_at(image, at), hash);
     put_word(image, at, put_bit(first, hash / 32));
@@ -74,10 +74,10 @@ fn lay_filter(
     at: usize,
     filter: usize,
 )
-    requires numbered_len { (length numbered.now ≡ numberedSize) × (first + count ≤ mostItems) }
-    requires by_index { (k : ℕ) → k < count → slotHash numbered.now (first + k) < 2 ^ 32 }
-    requires filter_in_bounds { at + filterSize * filter ≤ length image.old }
-    ensures { image.new ≡ put_at image.old at (slotFilter numbered.now filter first count) }
+    requires numbered_len { (length numbered.now ≡ numbered_size) × (first + count ≤ most_items) }
+    requires by_index_lem { (k : ℕ) → k < count → slot_hash numbered.now (first + k) < 2 ^ 32 }
+    requires filter_in_bounds { at + filter_size * filter ≤ length image.old }
+    ensures { image.new ≡ put_at image.old at (slot_filter numbered.now filter first count) }
 {
     if filter == 0 {
         return;
@@ -100,10 +100,10 @@ pub fn lay_front(
     at: usize,
     filter: usize,
 )
-    requires numbered_len { (length numbered.now ≡ numberedSize) × (first + count ≤ mostItems) × (filter ≤ mostFilter) }
-    requires by_index { (b : ℕ) → b < count → (slotHash numbered.now (first + b) < 2 ^ 32) × (slotBucket numbered.now (first + b) < 2 ^ 32) }
-    requires count_in_bounds { at + headSize + filterSize * filter + bucketSize * count ≤ length image.old }
-    ensures { image.new ≡ put_at image.old at (headBytes filter count ++ (slotFilter numbered.now filter first count ++ words_of (λ b. slotBucket numbered.now (first + b)) count)) }
+    requires numbered_len { (length numbered.now ≡ numbered_size) × (first + count ≤ most_items) × (filter ≤ most_filter) }
+    requires by_index_lem { (b : ℕ) → b < count → (slot_hash numbered.now (first + b) < 2 ^ 32) × (slot_bucket numbered.now (first + b) < 2 ^ 32) }
+    requires count_in_bounds { at + head_size + filter_size * filter + bucket_size * count ≤ length image.old }
+    ensures { image.new ≡ put_at image.old at (head_bytes filter count ++ (slot_filter numbered.now filter first count ++ words_of (λ b. slot_bucket numbered.now (first + b)) count)) }
 {
     lay_head(image, count, at, filter);
     lay_filter(numbered, image, first, count, at + HEAD_SIZE, filter);
@@ -143,9 +143,9 @@ pub fn lay_record(
     requires slot_in { SlotIn numbered.now slot }
     requires cover_fits { CoverFits numbered.now slot }
     requires record_fits { RecordFits filter numbered.now slot at start }
-    requires filter_le_most_filter { filter ≤ mostFilter }
-    requires record_size_in_bounds { to + recordSize ≤ length image.old }
-    ensures { image.new ≡ put_at image.old to (slotRecord numbered.now filter slot at start) }
+    requires filter_le_most_filter { filter ≤ most_filter }
+    requires record_size_in_bounds { to + record_size ≤ length image.old }
+    ensures { image.new ≡ put_at image.old to (slot_record numbered.now filter slot at start) }
 {
     let hash = slot_word(numbered, slot, HASH);
     let parent = slot_word(numbered, slot, PARENT);
@@ -179,9 +179,9 @@ pub fn lay_key(
     start: usize,
 )
     requires slot_in { SlotIn numbered.now slot }
-    requires slot_in_bounds { slotFragment numbered.now slot + slotFragmentSize numbered.now slot ≤ length arena.now }
-    requires slot_bound { (at + slotFragmentSize numbered.now slot ≤ start) × (start ≤ length image.old) }
-    ensures { image.new ≡ put_at image.old at (slotKey numbered.now arena.now slot at start) }
+    requires slot_in_bounds { slot_fragment numbered.now slot + slot_fragment_size numbered.now slot ≤ length arena.now }
+    requires slot_bound { (at + slot_fragment_size numbered.now slot ≤ start) × (start ≤ length image.old) }
+    ensures { image.new ≡ put_at image.old at (slot_key numbered.now arena.now slot at start) }
 {
     let from = slot_word(numbered, slot, FRAGMENT);
     let size = slot_word(numbered, slot, FRAGMENT_SIZE);
@@ -199,10 +199,10 @@ pub fn lay_plain(
     at: usize,
 ) -> usize
     requires numbered_fits { NumberedFits numbered.now arena.now }
-    requires slot_lt_most_items { slot < mostItems }
-    requires fact { slotKind numbered.now slot ≡ tableKind → ⊥ }
-    requires slot_in_bounds { at + length (plainValue numbered.now arena.now slot) ≤ length image.old }
-    ensures { Laid image.old image.new at (plainValue numbered.now arena.now slot) result }
+    requires slot_lt_most_items { slot < most_items }
+    requires fact { slot_kind numbered.now slot ≡ table_kind → ⊥ }
+    requires slot_in_bounds { at + length (plain_value numbered.now arena.now slot) ≤ length image.old }
+    ensures { Laid image.old image.new at (plain_value numbered.now arena.now slot) result }
 {
     let kind = slot_word(numbered, slot, KIND);
     let start = slot_word(numbered, slot, VALUE);

@@ -1,9 +1,9 @@
 // Where a slot's value starts in the image, and how long it is.
 ghost use Rattle.std.specs.Prelude.{◌≡◌, ◌≤◌, ◌<◌};
-ghost use Rattle.words.specs.Align.{alignmentOf};
-ghost use Rattle.layout.specs.Limits.{longestFile, mostFilter};
-ghost use Rattle.write_parts.specs.Numbered.{slotFragmentSize, by_kind, slotCover};
-ghost use Rattle.write_parts.specs.Slot.{slotStart, SlotIn, CoverFits};
+ghost use Rattle.words.specs.Align.{alignment_of};
+ghost use Rattle.layout.specs.Limits.{longest_file, most_filter};
+ghost use Rattle.write_parts.specs.Numbered.{slot_fragment_size, by_kind, slot_cover};
+ghost use Rattle.write_parts.specs.Slot.{slot_start, SlotIn, CoverFits};
 
 use crate::numbered::{FRAGMENT_SIZE, KIND, VALUE, VALUE_SIZE, slot_count, slot_word};
 use layout::kind::{TABLE_KIND, VALUE_KIND};
@@ -12,7 +12,7 @@ use words::align::{Alignment, align_offset};
 
 // How a value of this kind is aligned.
 fn alignment_of(kind: usize) -> Alignment
-    ensures { alignmentOf result ≡ by_kind kind 8 4 4 }
+    ensures { alignment_of result ≡ by_kind kind 8 4 4 }
 {
     if kind == VALUE_KIND {
         return Alignment::Value;
@@ -24,8 +24,8 @@ fn alignment_of(kind: usize) -> Alignment
 // Where a slot's value starts, if its key starts at `at`.
 pub fn value_start(numbered: &[usize], slot: usize, at: usize) -> usize
     requires slot_in { SlotIn numbered.now slot }
-    requires slot_bound { (slotFragmentSize numbered.now slot < 65536) × (at ≤ longestFile) }
-    ensures { result ≡ slotStart numbered.now slot at }
+    requires slot_bound { (slot_fragment_size numbered.now slot < 65536) × (at ≤ longest_file) }
+    ensures { result ≡ slot_start numbered.now slot at }
 {
     let size = slot_word(numbered, slot, FRAGMENT_SIZE);
     let kind = slot_word(numbered, slot, KIND);
@@ -38,8 +38,8 @@ pub fn value_start(numbered: &[usize], slot: usize, at: usize) -> usize
 pub fn cover(numbered: &[usize], slot: usize, filter: usize) -> usize
     requires slot_in { SlotIn numbered.now slot }
     requires cover_fits { CoverFits numbered.now slot }
-    requires filter_le_most_filter { filter ≤ mostFilter }
-    ensures { result ≡ slotCover filter numbered.now slot }
+    requires filter_le_most_filter { filter ≤ most_filter }
+    ensures { result ≡ slot_cover filter numbered.now slot }
 {
     let kind = slot_word(numbered, slot, KIND);
     let size = slot_word(numbered, slot, VALUE_SIZE);

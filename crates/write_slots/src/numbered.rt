@@ -1,11 +1,11 @@
 // The numbered table of a builder's memory, from its roster.
 ghost use Rattle.std.specs.Prelude.{◌≡◌, true, ℕ, ◌<◌, length};
-ghost use Rattle.key_hash.specs.Hash.{ruleOf};
-ghost use Rattle.build_memory.specs.Memory.{itemTotal};
-ghost use Rattle.build_rules.specs.Valid.{fullyValid};
-ghost use Rattle.write_parts.specs.Numbered.{SlotFits, numberedSize};
-ghost use Rattle.write_numbers.specs.Roster.{Rostered, rosterSize};
-ghost use Rattle.layout.specs.Limits.{mostItems};
+ghost use Rattle.key_hash.specs.Hash.{rule_of};
+ghost use Rattle.build_memory.specs.Memory.{item_total};
+ghost use Rattle.build_rules.specs.Valid.{fully_valid};
+ghost use Rattle.write_parts.specs.Numbered.{SlotFits, numbered_size};
+ghost use Rattle.write_numbers.specs.Roster.{Rostered, roster_size};
+ghost use Rattle.layout.specs.Limits.{most_items};
 ghost use Rattle.write_slots.specs.NumberedAs.{Clear, NumberedStart, NumberedSlots, Firsts, NumberedAs};
 
 use crate::children::{FIRSTS_SIZE, order_siblings, put_children};
@@ -18,7 +18,7 @@ use write_parts::numbered::SLOTS_FROM;
 
 // Puts the head, which is the roster's, into a clear numbered table.
 fn start_numbered(roster: &[usize], numbered: &mut [usize])
-    requires { (length roster.now ≡ rosterSize) × (length numbered.old ≡ numberedSize) × Clear numbered.old }
+    requires { (length roster.now ≡ roster_size) × (length numbered.old ≡ numbered_size) × Clear numbered.old }
     ensures { NumberedStart roster.now numbered.new }
 {
     put_words(numbered, 0, &roster[..SLOTS_FROM]);
@@ -33,11 +33,11 @@ fn put_slots(
     numbered: &mut [usize],
     form: Form,
 )
-    requires arena_value { fullyValid words.now arena.now ≡ true }
-    requires rostered { Rostered (ruleOf form) words.now arena.now roster.now }
+    requires arena_value { fully_valid words.now arena.now ≡ true }
+    requires rostered { Rostered (rule_of form) words.now arena.now roster.now }
     requires firsts { Firsts firsts.now }
-    requires numbered_len { (length numbered.old ≡ numberedSize) × ((s : ℕ) → s < mostItems → SlotFits numbered.old arena.now s) }
-    ensures { NumberedSlots form words.now arena.now roster.now firsts.now numbered.old numbered.new (itemTotal words.now) }
+    requires numbered_len { (length numbered.old ≡ numbered_size) × ((s : ℕ) → s < most_items → SlotFits numbered.old arena.now s) }
+    ensures { NumberedSlots form words.now arena.now roster.now firsts.now numbered.old numbered.new (item_total words.now) }
 {
     let n = words[ITEMS];
     let mut i = 0;
@@ -55,10 +55,10 @@ pub fn fill_numbered(
     numbered: &mut [usize],
     form: Form,
 )
-    requires arena_value { fullyValid words.now arena.now ≡ true }
-    requires rostered { Rostered (ruleOf form) words.now arena.now roster.now }
-    requires numbered_len { (length numbered.old ≡ numberedSize) × Clear numbered.old }
-    ensures { NumberedAs (ruleOf form) words.now arena.now numbered.new }
+    requires arena_value { fully_valid words.now arena.now ≡ true }
+    requires rostered { Rostered (rule_of form) words.now arena.now roster.now }
+    requires numbered_len { (length numbered.old ≡ numbered_size) × Clear numbered.old }
+    ensures { NumberedAs (rule_of form) words.now arena.now numbered.new }
 {
     let n = words[ITEMS];
     let mut order = [0usize; MOST_ITEMS];

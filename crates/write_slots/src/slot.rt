@@ -1,11 +1,11 @@
 // The words of an item's slot.
 ghost use Rattle.std.specs.Prelude.{◌≡◌, ℕ, ◌+◌, ◌*◌, ◌-◌, ◌<◌, ◌≤◌, length, get_or};
 ghost use Rattle.words.specs.Store.{put_at};
-ghost use Rattle.build_memory.specs.Memory.{itemParent, itemTable, leastWords};
-ghost use Rattle.write_numbers.specs.Roster.{rosterSize};
-ghost use Rattle.write_parts.specs.Numbered.{numberedSize, slotsFrom, slotSize};
-ghost use Rattle.layout.specs.Limits.{mostItems};
-ghost use Rattle.write_slots.specs.NumberedAs.{childTest, skipped, parentWord, slot_of, start_of, size_of, frontWords, backWords, slotWords, Slotted, Firsts, firstsSize};
+ghost use Rattle.build_memory.specs.Memory.{item_parent, item_table, least_words};
+ghost use Rattle.write_numbers.specs.Roster.{roster_size};
+ghost use Rattle.write_parts.specs.Numbered.{numbered_size, slots_from, slot_size};
+ghost use Rattle.layout.specs.Limits.{most_items};
+ghost use Rattle.write_slots.specs.NumberedAs.{child_test, skipped, parent_word, slot_of, start_of, size_of, front_words, back_words, slot_words, Slotted, Firsts, firsts_size};
 
 use build_memory::fields::{
     EMPTY, GUEST, KEY, KEY_SIZE, KIND, PARENT, TABLE, VALUE, VALUE_SIZE, item_word,
@@ -19,8 +19,8 @@ use write_parts::numbered::{HEAD_WORDS, SLOT_SIZE, SLOTS_FROM};
 
 // Whether an item is laid as a child: it has a parent, which is a container.
 fn is_child(words: &[usize], i: usize) -> bool
-    requires { (leastWords ≤ length words.now) × (i < mostItems) × (itemParent words.now i ≤ i) }
-    ensures { result ≡ childTest words.now i }
+    requires { (least_words ≤ length words.now) × (i < most_items) × (item_parent words.now i ≤ i) }
+    ensures { result ≡ child_test words.now i }
 {
     let parent = item_word(words, i, PARENT);
     if parent == 0 {
@@ -31,7 +31,7 @@ fn is_child(words: &[usize], i: usize) -> bool
 
 // How many bytes of an item's key are its parent's.
 fn skip_of(words: &[usize], i: usize) -> usize
-    requires { (leastWords ≤ length words.now) × (i < mostItems) × (itemParent words.now i ≤ i) }
+    requires { (least_words ≤ length words.now) × (i < most_items) × (item_parent words.now i ≤ i) }
     ensures { result ≡ skipped words.now i }
 {
     if !is_child(words, i) {
@@ -42,8 +42,8 @@ fn skip_of(words: &[usize], i: usize) -> usize
 
 // The laid index of an item's parent; 0xFFFFFFFF for a root.
 fn parent_word(words: &[usize], roster: &[usize], i: usize) -> usize
-    requires { (leastWords ≤ length words.now) × (i < mostItems) × (itemParent words.now i ≤ i) × (length roster.now ≡ rosterSize) }
-    ensures { result ≡ parentWord words.now roster.now i }
+    requires { (least_words ≤ length words.now) × (i < most_items) × (item_parent words.now i ≤ i) × (length roster.now ≡ roster_size) }
+    ensures { result ≡ parent_word words.now roster.now i }
 {
     if !is_child(words, i) {
         return EMPTY;
@@ -55,7 +55,7 @@ fn parent_word(words: &[usize], roster: &[usize], i: usize) -> usize
 // The slot of an item.
 fn slot_of(words: &[usize], roster: &[usize], i: usize) -> usize
     requires { Slotted words.now roster.now i }
-    ensures { (result ≡ slot_of words.now roster.now i) × (result < mostItems) }
+    ensures { (result ≡ slot_of words.now roster.now i) × (result < most_items) }
 {
     let table = item_word(words, i, TABLE);
     roster[HEAD_WORDS * table] + roster[INDICES_FROM + i]
@@ -63,7 +63,7 @@ fn slot_of(words: &[usize], roster: &[usize], i: usize) -> usize
 
 // By kind: where the value starts, the guest, or the first child word.
 fn start_of(words: &[usize], firsts: &[usize], i: usize) -> usize
-    requires { (leastWords ≤ length words.now) × (i < mostItems) × (length firsts.now ≡ firstsSize) }
+    requires { (least_words ≤ length words.now) × (i < most_items) × (length firsts.now ≡ firsts_size) }
     ensures { result ≡ start_of words.now firsts.now i }
 {
     let kind = item_word(words, i, KIND);
@@ -78,7 +78,7 @@ fn start_of(words: &[usize], firsts: &[usize], i: usize) -> usize
 
 // By kind: the value's length, nothing, or the count of child words.
 fn size_of(words: &[usize], firsts: &[usize], i: usize) -> usize
-    requires least_words_in_bounds { (leastWords ≤ length words.now) × (i < mostItems) × (length firsts.now ≡ firstsSize) }
+    requires least_words_in_bounds { (least_words ≤ length words.now) × (i < most_items) × (length firsts.now ≡ firsts_size) }
     requires i_bound { get_or firsts.now (i + 1) 0 ≤ get_or firsts.now (i + 2) 0 }
     ensures { result ≡ size_of words.now firsts.now i }
 {
@@ -105,7 +105,7 @@ fn put_front(
 )
     requires slotted { Slotted words.now roster.now i }
     requires at_in_bounds { at + 4 ≤ length numbered.old }
-    ensures { numbered.new ≡ put_at numbered.old at (frontWords words.now roster.now form arena.now i) }
+    ensures { numbered.new ≡ put_at numbered.old at (front_words words.now roster.now form arena.now i) }
 {
     let hash = hash_of(words, arena, i, form);
     let parent = parent_word(words, roster, i);
@@ -128,7 +128,7 @@ fn put_back(
     requires slotted { Slotted words.now roster.now i }
     requires firsts { Firsts firsts.now }
     requires at_in_bounds { at + 4 ≤ length numbered.old }
-    ensures { numbered.new ≡ put_at numbered.old at (backWords words.now roster.now firsts.now i) }
+    ensures { numbered.new ≡ put_at numbered.old at (back_words words.now roster.now firsts.now i) }
 {
     let kind = item_word(words, i, KIND);
     let start = start_of(words, firsts, i);
@@ -151,8 +151,8 @@ pub fn put_slot(
 )
     requires slotted { Slotted words.now roster.now i }
     requires firsts { Firsts firsts.now }
-    requires numbered_len { length numbered.old ≡ numberedSize }
-    ensures { numbered.new ≡ put_at numbered.old (slotsFrom + slotSize * slot_of words.now roster.now i) (slotWords words.now roster.now firsts.now form arena.now i) }
+    requires numbered_len { length numbered.old ≡ numbered_size }
+    ensures { numbered.new ≡ put_at numbered.old (slots_from + slot_size * slot_of words.now roster.now i) (slot_words words.now roster.now firsts.now form arena.now i) }
 {
     let at = SLOTS_FROM + SLOT_SIZE * slot_of(words, roster, i);
     put_front(words, roster, i, numbered, at, arena, form);

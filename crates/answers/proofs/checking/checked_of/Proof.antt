@@ -1,7 +1,7 @@
 -- `answers::checking::checked_of` meets its contract: each arm by the variant that it matched.
 use mathlib.Core.Path.{sym, ap}
-use Rattle.check_rules.specs.Answer.{checkedNumber, checkedRule, checkedItem, checkedWhy, checkedAt}
-use Rattle.answers.specs.Checking.{checkedAnswer}
+use Rattle.check_rules.specs.Answer.{checked_number, checked_rule, checked_item, checked_why, checked_at}
+use Rattle.answers.specs.Checking.{checked_answer}
 use borrow.Author.Rules.{rules}
 use Rattle.answers.proofs.checking.checked_of.Statement.{statement}
 use Rattle.answers.proofs.checking.checked_of.Tie as tie
@@ -31,20 +31,20 @@ number-of-requires-3 : tie.Need-number-of-requires-3
 number-of-requires-3 c κs = search rules
 
 returns : tie.Need-returns
-unfolding checkedAnswer checkedNumber checkedRule checkedItem checkedWhy checkedAt
-returns c = sym (ap checkedAnswer c.enum_told.given.1)
+unfolding checked_answer checked_number checked_rule checked_item checked_why checked_at
+returns c = sym (ap checked_answer c.enum_told.given.1)
 
 returns-2 : tie.Need-returns-2
-unfolding checkedAnswer checkedNumber checkedRule checkedItem checkedWhy checkedAt
-returns-2 c = rw c.before.before.before.number_of_lem.ensures (sym (ap checkedAnswer c.before.checked.given.1))
+unfolding checked_answer checked_number checked_rule checked_item checked_why checked_at
+returns-2 c = rw c.before.before.before.number_of_lem.ensures (sym (ap checked_answer c.before.checked.given.1))
 
 returns-3 : tie.Need-returns-3
-unfolding checkedAnswer checkedNumber checkedRule checkedItem checkedWhy checkedAt
-returns-3 c = rw (c.before.before.before.before.before.number_of_lem.ensures, c.before.number-of2.ensures, c.bad-at.ensures) (sym (ap checkedAnswer c.before.before.before.checked2.given.1))
+unfolding checked_answer checked_number checked_rule checked_item checked_why checked_at
+returns-3 c = rw (c.before.before.before.before.before.number_of_lem.ensures, c.before.number-of2.ensures, c.bad-at.ensures) (sym (ap checked_answer c.before.before.before.checked2.given.1))
 
 returns-4 : tie.Need-returns-4
-unfolding checkedAnswer checkedNumber checkedRule checkedItem checkedWhy checkedAt
-returns-4 c = rw c.number-of3.ensures (sym (ap checkedAnswer c.before.before.checked3.given.1))
+unfolding checked_answer checked_number checked_rule checked_item checked_why checked_at
+returns-4 c = rw c.number-of3.ensures (sym (ap checked_answer c.before.before.checked3.given.1))
 
 pub checked-of-spec : {M : Type 1} → statement M
 checked-of-spec =

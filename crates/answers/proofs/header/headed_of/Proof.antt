@@ -1,7 +1,7 @@
 -- `answers::header::headed_of` meets its contract: each arm by the variant that it matched.
 use mathlib.Core.Path.{sym, ap}
-use Rattle.file_header.specs.Answer.{headedNumber, headedOrder, headedPointer}
-use Rattle.answers.specs.Header.{headedAnswer}
+use Rattle.file_header.specs.Answer.{headed_number, headed_order, headed_pointer}
+use Rattle.answers.specs.Header.{headed_answer}
 use borrow.Author.Rules.{rules}
 use Rattle.answers.proofs.header.headed_of.Statement.{statement}
 use Rattle.answers.proofs.header.headed_of.Tie as tie
@@ -19,12 +19,12 @@ number-of-requires : tie.Need-number-of-requires
 number-of-requires c κs = search rules
 
 returns : tie.Need-returns
-unfolding headedAnswer headedNumber headedOrder headedPointer
-returns c = rw c.big-of.ensures (sym (ap headedAnswer c.before.before.headed.given.1))
+unfolding headed_answer headed_number headed_order headed_pointer
+returns c = rw c.big-of.ensures (sym (ap headed_answer c.before.before.headed.given.1))
 
 returns-2 : tie.Need-returns-2
-unfolding headedAnswer headedNumber headedOrder headedPointer
-returns-2 c = rw c.number_of_lem.ensures (sym (ap headedAnswer c.before.before.headed2.given.1))
+unfolding headed_answer headed_number headed_order headed_pointer
+returns-2 c = rw c.number_of_lem.ensures (sym (ap headed_answer c.before.before.headed2.given.1))
 
 pub headed-of-spec : {M : Type 1} → statement M
 headed-of-spec =

@@ -1,6 +1,6 @@
 -- `answers::header::header_laid_of` meets its contract: each arm by the variant that it matched.
 use mathlib.Core.Path.{sym, ap, ◌∙◌}
-use Rattle.file_header.specs.Answer.{headerLaidNumber}
+use Rattle.file_header.specs.Answer.{header_laid_number}
 use borrow.Author.Rules.{rules}
 use Rattle.answers.proofs.header.header_laid_of.Statement.{statement}
 use Rattle.answers.proofs.header.header_laid_of.Tie as tie
@@ -15,12 +15,12 @@ number-of-requires : tie.Need-number-of-requires
 number-of-requires c κs = search rules
 
 returns : tie.Need-returns
-unfolding headerLaidNumber
-returns c = sym (ap headerLaidNumber c.enum_told.given.1)
+unfolding header_laid_number
+returns c = sym (ap header_laid_number c.enum_told.given.1)
 
 returns-2 : tie.Need-returns-2
-unfolding headerLaidNumber
-returns-2 c = c.number_of_lem.ensures ∙ sym (ap headerLaidNumber c.before.before.laid.given.1)
+unfolding header_laid_number
+returns-2 c = c.number_of_lem.ensures ∙ sym (ap header_laid_number c.before.before.laid.given.1)
 
 pub header-laid-of-spec : {M : Type 1} → statement M
 header-laid-of-spec =

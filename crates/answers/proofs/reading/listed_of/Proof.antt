@@ -1,7 +1,7 @@
 -- `answers::reading::listed_of` meets its contract: each arm by the variant that it matched.
 use mathlib.Core.Path.{sym, ap}
-use Rattle.read_listing.specs.Answer.{listedNumber, listedKey, listed_at}
-use Rattle.answers.specs.Reading.{listedAnswer}
+use Rattle.read_listing.specs.Answer.{listed_number, listed_key, listed_at}
+use Rattle.answers.specs.Reading.{listed_answer}
 use borrow.Author.Rules.{rules}
 use Rattle.answers.proofs.reading.listed_of.Statement.{statement}
 use Rattle.answers.proofs.reading.listed_of.Tie as tie
@@ -19,12 +19,12 @@ bad-at-requires : tie.Need-bad-at-requires
 bad-at-requires c κs = search rules
 
 returns : tie.Need-returns
-unfolding listedAnswer listedNumber listedKey listed_at
-returns c = sym (ap listedAnswer c.before.listed.given.1)
+unfolding listed_answer listed_number listed_key listed_at
+returns c = sym (ap listed_answer c.before.listed.given.1)
 
 returns-2 : tie.Need-returns-2
-unfolding listedAnswer listedNumber listedKey listed_at
-returns-2 c = rw (c.before.number_of_lem.ensures, c.bad-at.ensures) (sym (ap listedAnswer c.before.before.before.listed2.given.1))
+unfolding listed_answer listed_number listed_key listed_at
+returns-2 c = rw (c.before.number_of_lem.ensures, c.bad-at.ensures) (sym (ap listed_answer c.before.before.before.listed2.given.1))
 
 pub listed-of-spec : {M : Type 1} → statement M
 listed-of-spec =

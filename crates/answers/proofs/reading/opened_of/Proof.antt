@@ -2,16 +2,16 @@
 use mathlib.Core.Path.{◌≡◌, sym, ap}
 use Prim.Native.Nat.{ℕ, ◌<◌, ◌^◌}
 use native.Mathlib.Omega.{arith}
-use Rattle.layout.specs.Answer.{openedNumber}
+use Rattle.layout.specs.Answer.{opened_number}
 use Rattle.layout.specs.declared.table.Table.{Table}
 use Rattle.layout.specs.declared.table.Opened.{Opened}
-use Rattle.answers.specs.Reading.{openedCount, openedAnswer}
+use Rattle.answers.specs.Reading.{opened_count, opened_answer}
 use borrow.Author.Rules.{rules}
 use Rattle.answers.proofs.reading.opened_of.Statement.{statement}
 use Rattle.answers.proofs.reading.opened_of.Tie as tie
 
-small : (count : Table → ℕ) {opened : Opened} {t : Table} → opened ≡ Opened.Table t → openedCount count opened < 2 ^ 32 → count t < 2 ^ 32
-unfolding openedCount
+small : (count : Table → ℕ) {opened : Opened} {t : Table} → opened ≡ Opened.Table t → opened_count count opened < 2 ^ 32 → count t < 2 ^ 32
+unfolding opened_count
 small count e h = rw e at h
 
 enum-known-opened : tie.Need-enum-known-opened
@@ -33,12 +33,12 @@ number-of-requires : tie.Need-number-of-requires
 number-of-requires c κs = search rules
 
 returns : tie.Need-returns
-unfolding openedAnswer openedCount openedNumber
-returns c = sym (ap openedAnswer c.before.before.before.before.opened.given.1)
+unfolding opened_answer opened_count opened_number
+returns c = sym (ap opened_answer c.before.before.before.before.opened.given.1)
 
 returns-2 : tie.Need-returns-2
-unfolding openedAnswer openedCount openedNumber
-returns-2 c = rw c.number_of_lem.ensures (sym (ap openedAnswer c.before.before.opened2.given.1))
+unfolding opened_answer opened_count opened_number
+returns-2 c = rw c.number_of_lem.ensures (sym (ap opened_answer c.before.before.opened2.given.1))
 
 pub opened-of-spec : {M : Type 1} → statement M
 opened-of-spec =

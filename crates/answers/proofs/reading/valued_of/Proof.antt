@@ -1,7 +1,7 @@
 -- `answers::reading::valued_of` meets its contract: each arm by the variant that it matched.
 use mathlib.Core.Path.{sym, ap}
-use Rattle.read_listing.specs.Answer.{valuedNumber, valuedPointer, valuedItem}
-use Rattle.answers.specs.Reading.{valuedAnswer}
+use Rattle.read_listing.specs.Answer.{valued_number, valued_pointer, valued_item}
+use Rattle.answers.specs.Reading.{valued_answer}
 use borrow.Author.Rules.{rules}
 use Rattle.answers.proofs.reading.valued_of.Statement.{statement}
 use Rattle.answers.proofs.reading.valued_of.Tie as tie
@@ -22,16 +22,16 @@ number-of-requires-2 : tie.Need-number-of-requires-2
 number-of-requires-2 c κs = search rules
 
 returns : tie.Need-returns
-unfolding valuedAnswer valuedNumber valuedPointer valuedItem
-returns c = sym (ap valuedAnswer c.before.valued.given.1)
+unfolding valued_answer valued_number valued_pointer valued_item
+returns c = sym (ap valued_answer c.before.valued.given.1)
 
 returns-2 : tie.Need-returns-2
-unfolding valuedAnswer valuedNumber valuedPointer valuedItem
-returns-2 c = rw c.number_of_lem.ensures (sym (ap valuedAnswer c.before.before.valued2.given.1))
+unfolding valued_answer valued_number valued_pointer valued_item
+returns-2 c = rw c.number_of_lem.ensures (sym (ap valued_answer c.before.before.valued2.given.1))
 
 returns-3 : tie.Need-returns-3
-unfolding valuedAnswer valuedNumber valuedPointer valuedItem
-returns-3 c = rw c.number-of2.ensures (sym (ap valuedAnswer c.before.before.valued3.given.1))
+unfolding valued_answer valued_number valued_pointer valued_item
+returns-3 c = rw c.number-of2.ensures (sym (ap valued_answer c.before.before.valued3.given.1))
 
 pub valued-of-spec : {M : Type 1} → statement M
 valued-of-spec =

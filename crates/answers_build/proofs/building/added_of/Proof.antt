@@ -1,7 +1,7 @@
 -- `answers_build::building::added_of` meets its contract: each arm by the variant that it matched.
 use mathlib.Core.Path.{sym, ap}
-use Rattle.build_tables.specs.Answer.{addedNumber, addedTable}
-use Rattle.answers_build.specs.Building.{addedAnswer}
+use Rattle.build_tables.specs.Answer.{added_number, added_table}
+use Rattle.answers_build.specs.Building.{added_answer}
 use borrow.Author.Rules.{rules}
 use Rattle.answers_build.proofs.building.added_of.Statement.{statement}
 use Rattle.answers_build.proofs.building.added_of.Tie as tie
@@ -16,12 +16,12 @@ number-of-requires : tie.Need-number-of-requires
 number-of-requires c κs = search rules
 
 returns : tie.Need-returns
-unfolding addedAnswer addedNumber addedTable
-returns c = sym (ap addedAnswer c.before.added.given.1)
+unfolding added_answer added_number added_table
+returns c = sym (ap added_answer c.before.added.given.1)
 
 returns-2 : tie.Need-returns-2
-unfolding addedAnswer addedNumber addedTable
-returns-2 c = rw c.number_of_lem.ensures (sym (ap addedAnswer c.before.before.added2.given.1))
+unfolding added_answer added_number added_table
+returns-2 c = rw c.number_of_lem.ensures (sym (ap added_answer c.before.before.added2.given.1))
 
 pub added-of-spec : {M : Type 1} → statement M
 added-of-spec =

@@ -1,7 +1,7 @@
 -- `answers_build::building::counted_of` meets its contract: each arm by the variant that it matched.
 use mathlib.Core.Path.{sym, ap}
-use Rattle.build_tables.specs.Answer.{countedNumber, countedItems}
-use Rattle.answers_build.specs.Building.{countedAnswer}
+use Rattle.build_tables.specs.Answer.{counted_number, counted_items}
+use Rattle.answers_build.specs.Building.{counted_answer}
 use borrow.Author.Rules.{rules}
 use Rattle.answers_build.proofs.building.counted_of.Statement.{statement}
 use Rattle.answers_build.proofs.building.counted_of.Tie as tie
@@ -16,12 +16,12 @@ number-of-requires : tie.Need-number-of-requires
 number-of-requires c κs = search rules
 
 returns : tie.Need-returns
-unfolding countedAnswer countedNumber countedItems
-returns c = sym (ap countedAnswer c.before.counted.given.1)
+unfolding counted_answer counted_number counted_items
+returns c = sym (ap counted_answer c.before.counted.given.1)
 
 returns-2 : tie.Need-returns-2
-unfolding countedAnswer countedNumber countedItems
-returns-2 c = rw c.number_of_lem.ensures (sym (ap countedAnswer c.before.before.counted2.given.1))
+unfolding counted_answer counted_number counted_items
+returns-2 c = rw c.number_of_lem.ensures (sym (ap counted_answer c.before.before.counted2.given.1))
 
 pub counted-of-spec : {M : Type 1} → statement M
 counted-of-spec =

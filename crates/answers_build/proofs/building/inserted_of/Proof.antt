@@ -1,7 +1,7 @@
 -- `answers_build::building::inserted_of` meets its contract: each arm by the variant that it matched.
 use mathlib.Core.Path.{sym, ap}
-use Rattle.build_values.specs.Answer.{insertedNumber, insertedKind, insertedAt}
-use Rattle.answers_build.specs.Building.{insertedAnswer}
+use Rattle.build_values.specs.Answer.{inserted_number, inserted_kind, inserted_at}
+use Rattle.answers_build.specs.Building.{inserted_answer}
 use borrow.Author.Rules.{rules}
 use Rattle.answers_build.proofs.building.inserted_of.Statement.{statement}
 use Rattle.answers_build.proofs.building.inserted_of.Tie as tie
@@ -28,16 +28,16 @@ bad-at-requires : tie.Need-bad-at-requires
 bad-at-requires c κs = search rules
 
 returns : tie.Need-returns
-unfolding insertedAnswer insertedNumber insertedKind insertedAt
-returns c = sym (ap insertedAnswer c.enum_told.given.1)
+unfolding inserted_answer inserted_number inserted_kind inserted_at
+returns c = sym (ap inserted_answer c.enum_told.given.1)
 
 returns-2 : tie.Need-returns-2
-unfolding insertedAnswer insertedNumber insertedKind insertedAt
-returns-2 c = rw (c.byte_word.ensures.0, c.before.byte_of.ensures) (sym (ap insertedAnswer c.before.before.before.inserted.given.1))
+unfolding inserted_answer inserted_number inserted_kind inserted_at
+returns-2 c = rw (c.byte_word.ensures.0, c.before.byte_of.ensures) (sym (ap inserted_answer c.before.before.before.inserted.given.1))
 
 returns-3 : tie.Need-returns-3
-unfolding insertedAnswer insertedNumber insertedKind insertedAt
-returns-3 c = rw (c.before.number_of_lem.ensures, c.bad-at.ensures) (sym (ap insertedAnswer c.before.before.before.inserted2.given.1))
+unfolding inserted_answer inserted_number inserted_kind inserted_at
+returns-3 c = rw (c.before.number_of_lem.ensures, c.bad-at.ensures) (sym (ap inserted_answer c.before.before.before.inserted2.given.1))
 
 pub inserted-of-spec : {M : Type 1} → statement M
 inserted-of-spec =

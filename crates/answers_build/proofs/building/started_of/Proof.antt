@@ -1,6 +1,6 @@
 -- `answers_build::building::started_of` meets its contract: each arm by the variant that it matched.
 use mathlib.Core.Path.{sym, ap, ◌∙◌}
-use Rattle.build_memory.specs.Answer.{startedNumber}
+use Rattle.build_memory.specs.Answer.{started_number}
 use borrow.Author.Rules.{rules}
 use Rattle.answers_build.proofs.building.started_of.Statement.{statement}
 use Rattle.answers_build.proofs.building.started_of.Tie as tie
@@ -15,12 +15,12 @@ number-of-requires : tie.Need-number-of-requires
 number-of-requires c κs = search rules
 
 returns : tie.Need-returns
-unfolding startedNumber
-returns c = sym (ap startedNumber c.enum_told.given.1)
+unfolding started_number
+returns c = sym (ap started_number c.enum_told.given.1)
 
 returns-2 : tie.Need-returns-2
-unfolding startedNumber
-returns-2 c = c.number_of_lem.ensures ∙ sym (ap startedNumber c.before.before.started.given.1)
+unfolding started_number
+returns-2 c = c.number_of_lem.ensures ∙ sym (ap started_number c.before.before.started.given.1)
 
 pub started-of-spec : {M : Type 1} → statement M
 started-of-spec =

@@ -1,5 +1,5 @@
 -- `build_memory::fields::part_of` meets its contract: nothing past the end, the rest, or a stretch.
-use Rattle.build_memory.proofs.MemoryLaws.{part_none, part-rest, part-mid}
+use Rattle.build_memory.proofs.MemoryLaws.{part_none, part_rest, part_mid}
 use borrow.Author.Rules.{rules}
 use Rattle.build_memory.proofs.fields.part_of.Statement.{statement}
 use Rattle.build_memory.proofs.fields.part_of.Tie as tie
@@ -23,7 +23,7 @@ part-result-end : tie.Need-slice-bounds-result-end
 part-result-end c = search rules
 
 returns-2 : tie.Need-returns-2
-returns-2 c = let a = c.before.before.before.args in part-rest a.arena.now a.at a.size c.before.if2.true
+returns-2 c = let a = c.before.before.before.args in part_rest a.arena.now a.at a.size c.before.if2.true
 
 add-result : tie.Need-overflow-add-result
 add-result c = search rules
@@ -38,7 +38,7 @@ part-result-end-2 : tie.Need-slice-bounds-result-end-2
 part-result-end-2 c = search rules
 
 returns-3 : tie.Need-returns-3
-returns-3 c = let a = c.before.before.before.args in part-mid a.arena.now a.at a.size
+returns-3 c = let a = c.before.before.before.args in part_mid a.arena.now a.at a.size
 
 pub part-of-spec : {M : Type 1} → statement M
 part-of-spec =

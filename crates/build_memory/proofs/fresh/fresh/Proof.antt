@@ -1,5 +1,5 @@
 -- `build_memory::fresh::fresh` meets its contract: 29, or the header, the heads and the links.
-use Rattle.build_memory.proofs.MemoryLaws.{fresh-refused, fresh-ready}
+use Rattle.build_memory.proofs.MemoryLaws.{fresh-refused, fresh_ready}
 use borrow.Author.Rules.{rules}
 use Rattle.build_memory.proofs.fresh.fresh.Statement.{statement}
 use Rattle.build_memory.proofs.fresh.fresh.Tie as tie
@@ -20,7 +20,7 @@ same_length : tie.Need-same-length
 same_length c = search rules
 
 returns-2 : tie.Need-returns-2
-returns-2 c = fresh-ready _ _ c.before.before.before.before.before.before.before.before.before.before.before.before.if1.false _ _ _ c.before.before.before.before.before.before.before.before.before.before.put-header.ensures c.before.before.before.before.before.before.fill-words.ensures c.before.before.fill-words2.ensures
+returns-2 c = fresh_ready _ _ c.before.before.before.before.before.before.before.before.before.before.before.before.if1.false _ _ _ c.before.before.before.before.before.before.before.before.before.before.put_header.ensures c.before.before.before.before.before.before.fill-words.ensures c.before.before.fill-words2.ensures
 
 pub fresh-spec : {M : Type 1} → statement M
 fresh-spec =

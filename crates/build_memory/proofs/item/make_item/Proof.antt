@@ -1,5 +1,5 @@
 -- `build_memory::item::make_item` meets its contract.
-use Rattle.build_memory.proofs.ItemLaws.{item-made}
+use Rattle.build_memory.proofs.ItemLaws.{item_made}
 use mathlib.Core.Path.{refl}
 use borrow.Author.Rules.{rules}
 use Rattle.build_memory.proofs.item.make_item.Statement.{statement}
@@ -54,7 +54,7 @@ same-length-2 : tie.Need-same-length-2
 same-length-2 c = search rules
 
 returns : tie.Need-returns
-returns c = item-made _ _ _ _ _ _ _ _ _ _ _ _ _ _ _ _ c.before.before.before.before.before.before.before.before.before.before.before.before.before.before.before.before.before.before.before.before.before.before.before.before.before.before.before.before.before.before.before.requires.1.1 refl c.before.before.before.before.before.before.before.before.before.before.before.before.before.before.put-spot.ensures c.before.before.before.before.before.before.before.before.before.before.put-held.ensures c.before.before.before.before.before.before.put-head.ensures
+returns c = item_made _ _ _ _ _ _ _ _ _ _ _ _ _ _ _ _ c.before.before.before.before.before.before.before.before.before.before.before.before.before.before.before.before.before.before.before.before.before.before.before.before.before.before.before.before.before.before.before.requires.1.1 refl c.before.before.before.before.before.before.before.before.before.before.before.before.before.before.put-spot.ensures c.before.before.before.before.before.before.before.before.before.before.put-held.ensures c.before.before.before.before.before.before.put_head.ensures
     c.before.before.put-counts.ensures c.before.before.before.before.before.before.before.before.before.before.before.before.before.before.before.before.before.before.before.before.before.before.put-bytes.ensures c.before.before.before.before.before.before.before.before.before.before.before.before.before.before.before.before.before.before.put-bytes2.ensures
 
 pub make-item-spec : {M : Type 1} → statement M

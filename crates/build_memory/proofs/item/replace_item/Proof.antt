@@ -1,5 +1,5 @@
 -- `build_memory::item::replace_item` meets its contract.
-use Rattle.build_memory.proofs.ItemLaws.{item-replaced}
+use Rattle.build_memory.proofs.ItemLaws.{item_replaced}
 use borrow.Author.Rules.{rules}
 use Rattle.build_memory.proofs.item.replace_item.Statement.{statement}
 use Rattle.build_memory.proofs.item.replace_item.Tie as tie
@@ -29,7 +29,7 @@ same-length-2 : tie.Need-same-length-2
 same-length-2 c = search rules
 
 returns : tie.Need-returns
-returns c = item-replaced _ _ _ _ _ _ _ _ _ c.before.before.before.before.before.before.put-held.ensures c.before.before.put-counts.ensures c.before.before.before.before.before.before.before.before.before.before.put-bytes.ensures
+returns c = item_replaced _ _ _ _ _ _ _ _ _ c.before.before.before.before.before.before.put-held.ensures c.before.before.put-counts.ensures c.before.before.before.before.before.before.before.before.before.before.put-bytes.ensures
 
 pub replace-item-spec : {M : Type 1} → statement M
 replace-item-spec =

@@ -1,7 +1,7 @@
 -- `build_nested::height::held_height` meets its contract. The invariant: `most` is the greatest height among the items passed.
 use Rattle.build_nested.proofs.NestLaws.{most-none, most_step}
-use Rattle.build_nested.specs.Nest.{heldAt, heldHeight}
-use Rattle.build_memory.specs.Memory.{itemTotal}
+use Rattle.build_nested.specs.Nest.{held_at, held_height}
+use Rattle.build_memory.specs.Memory.{item_total}
 use Rattle.model.specs.Builder as builder
 use native.Mathlib.Omega.{arith}
 use Prim.Native.Nat.{◌-◌, ◌≤◌}
@@ -10,10 +10,10 @@ use Rattle.build_nested.proofs.height.held_height.Statement.{statement}
 use Rattle.build_nested.proofs.height.held_height.Tie as tie
 
 abbrev invariant-loop : tie.invariant-loop
-invariant-loop words table n most₀ i₀ most i = (i ≤ itemTotal words) × (most ≡ builder.most (heldAt words table) i)
+invariant-loop words table n most₀ i₀ most i = (i ≤ item_total words) × (most ≡ builder.most (held_at words table) i)
 
 abbrev decreases-loop : tie.decreases-loop
-decreases-loop words table n most₀ i₀ most i = itemTotal words - i
+decreases-loop words table n most₀ i₀ most i = item_total words - i
 
 shared-slice-read-n : tie.Need-shared-slice-read-n invariant-loop decreases-loop
 shared-slice-read-n c = omega arith
@@ -37,11 +37,11 @@ loop-again : tie.Need-loop-preserved invariant-loop decreases-loop
 loop-again c = (omega arith, most_step _ _ _ _ _ c.before.before.before.loop.invariant.1 c.before.held_at.ensures c.larger.ensures)
 
 returns : tie.Need-returns invariant-loop decreases-loop
-unfolding heldHeight
+unfolding held_height
 returns c = let a = c.before.before.before.before.args in
     let l = c.before.loop in
-    let done : l.i ≡ itemTotal a.words.now = omega arith in
-    l.invariant.1 ∙ ap (builder.most (heldAt a.words.now a.table)) done
+    let done : l.i ≡ item_total a.words.now = omega arith in
+    l.invariant.1 ∙ ap (builder.most (held_at a.words.now a.table)) done
 
 pub held-height-spec : {M : Type 1} → statement M
 held-height-spec =

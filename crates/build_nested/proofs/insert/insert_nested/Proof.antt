@@ -1,5 +1,5 @@
 -- `build_nested::insert::insert_nested` meets its contract: the insert, and the guest placed where it is accepted.
-use Rattle.build_nested.proofs.NestLaws.{accepted-low, nested-refused, nested-new, nested-old}
+use Rattle.build_nested.proofs.NestLaws.{accepted_low, nested-refused, nested_new, nested_old}
 use native.Mathlib.Omega.{arith}
 use borrow.Author.Rules.{rules}
 use Rattle.build_nested.proofs.insert.insert_nested.Statement.{statement}
@@ -26,7 +26,7 @@ enum_told c = search rules
 add-place-table : tie.Need-overflow-add-place-table
 add-place-table c = let a = c.before.before.before.before.before.before.before.before.before.before.before.before.before.before.before.before.args in
     let h = c.before.before.before.before.before.before.before.before.before.before.before.held-height.result in
-    let l = accepted-low a.words.now a.arena.now a.table a.key.now a.guest h _ _ c.before.before.before.before.before.before.before.insert-below-path.ensures _ c.before.enum_told.given.1 tt in
+    let l = accepted_low a.words.now a.arena.now a.table a.key.now a.guest h _ _ c.before.before.before.before.before.before.before.insert-below-path.ensures _ c.before.enum_told.given.1 tt in
     omega arith
 
 place-table-requires : tie.Need-place-table-requires
@@ -38,7 +38,7 @@ enum-known-r-2 c = search rules
 add-place-table-2 : tie.Need-overflow-add-place-table-2
 add-place-table-2 c = let a = c.before.before.before.before.before.before.before.before.before.before.before.before.before.before.before.before.before.args in
     let h = c.before.before.before.before.before.before.before.before.before.before.before.before.held-height.result in
-    let l = accepted-low a.words.now a.arena.now a.table a.key.now a.guest h _ _ c.before.before.before.before.before.before.before.before.insert-below-path.ensures _ c.before.before.r2.given.1 tt in
+    let l = accepted_low a.words.now a.arena.now a.table a.key.now a.guest h _ _ c.before.before.before.before.before.before.before.before.insert-below-path.ensures _ c.before.before.r2.given.1 tt in
     omega arith
 
 place-table-requires-2 : tie.Need-place-table-requires-2
@@ -60,7 +60,7 @@ same-length-4 : tie.Need-same-length-4
 same-length-4 c = search rules
 
 returns-2 : tie.Need-returns-2
-returns-2 c = nested-new _ _ _ _ _ _ c.before.before.before.before.before.before.before.before.before.before.before.before.before.before.held-height.ensures _ _ _ c.before.before.before.before.before.before.before.before.before.before.insert-below-path.ensures c.before.before.before.before.enum_told.given.1 _ c.before.before.place-table.ensures
+returns-2 c = nested_new _ _ _ _ _ _ c.before.before.before.before.before.before.before.before.before.before.before.before.before.before.held-height.ensures _ _ _ c.before.before.before.before.before.before.before.before.before.before.insert-below-path.ensures c.before.before.before.before.enum_told.given.1 _ c.before.before.place-table.ensures
 
 same-length-5 : tie.Need-same-length-5
 same-length-5 c = search rules
@@ -69,7 +69,7 @@ same-length-6 : tie.Need-same-length-6
 same-length-6 c = search rules
 
 returns-3 : tie.Need-returns-3
-returns-3 c = nested-old _ _ _ _ _ _ c.before.before.before.before.before.before.before.before.before.before.before.before.before.before.before.held-height.ensures _ _ _ c.before.before.before.before.before.before.before.before.before.before.before.insert-below-path.ensures _ c.before.before.before.before.before.r2.given.1 _ c.before.before.place-table2.ensures
+returns-3 c = nested_old _ _ _ _ _ _ c.before.before.before.before.before.before.before.before.before.before.before.before.before.before.before.held-height.ensures _ _ _ c.before.before.before.before.before.before.before.before.before.before.before.insert-below-path.ensures _ c.before.before.before.before.before.r2.given.1 _ c.before.before.place-table2.ensures
 
 pub insert-nested-spec : {M : Type 1} → statement M
 insert-nested-spec =

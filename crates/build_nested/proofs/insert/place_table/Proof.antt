@@ -1,5 +1,5 @@
 -- `build_nested::insert::place_table` meets its contract.
-use Rattle.build_nested.specs.Nest.{placeTable}
+use Rattle.build_nested.specs.Nest.{place_table}
 use borrow.Author.Rules.{rules}
 use Rattle.build_nested.proofs.insert.place_table.Statement.{statement}
 use Rattle.build_nested.proofs.insert.place_table.Tie as tie
@@ -23,7 +23,7 @@ same_length : tie.Need-same-length
 same_length c = search rules
 
 returns : tie.Need-returns
-unfolding placeTable
+unfolding place_table
 returns c = search rules
 
 pub place-table-spec : {M : Type 1} → statement M

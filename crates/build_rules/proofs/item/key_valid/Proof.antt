@@ -1,5 +1,5 @@
 -- `build_rules::item::key_valid` meets its contract.
-use Rattle.build_rules.proofs.ValidLaws.{key-is}
+use Rattle.build_rules.proofs.ValidLaws.{key_is}
 use borrow.Author.Rules.{rules}
 use Rattle.build_rules.proofs.item.key_valid.Statement.{statement}
 use Rattle.build_rules.proofs.item.key_valid.Tie as tie
@@ -23,7 +23,7 @@ find-hashed-requires : tie.Need-find-hashed-requires
 find-hashed-requires c κs = search rules
 
 returns : tie.Need-returns
-returns c = key-is _ _ _ _ _ _ _ _ _ c.before.before.before.before.before.key_of.ensures c.before.before.before.before.is-utf8.ensures c.before.before.item-word.ensures c.before.before.before.hash-word.ensures
+returns c = key_is _ _ _ _ _ _ _ _ _ c.before.before.before.before.before.key_of.ensures c.before.before.before.before.is-utf8.ensures c.before.before.item-word.ensures c.before.before.before.hash-word.ensures
     c.before.item-word2.ensures c.find-hashed.ensures.0
 
 pub key-valid-spec : {M : Type 1} → statement M

@@ -1,5 +1,5 @@
 -- `build_rules::item::ranges_valid` meets its contract.
-use Rattle.build_rules.proofs.ValidLaws.{ranges-is}
+use Rattle.build_rules.proofs.ValidLaws.{ranges_is}
 use borrow.Author.Rules.{rules}
 use Rattle.build_rules.proofs.item.ranges_valid.Statement.{statement}
 use Rattle.build_rules.proofs.item.ranges_valid.Tie as tie
@@ -29,7 +29,7 @@ value-within-requires : tie.Need-value-within-requires
 value-within-requires c κs = search rules
 
 returns : tie.Need-returns
-returns c = ranges-is _ _ _ _ _ _ _ _ c.before.before.before.before.before.before.before.item-word.ensures c.before.before.before.before.before.item-word2.ensures c.before.before.before.before.item-word3.ensures c.before.before.ends-within.ensures
+returns c = ranges_is _ _ _ _ _ _ _ _ c.before.before.before.before.before.before.before.item-word.ensures c.before.before.before.before.before.item-word2.ensures c.before.before.before.before.item-word3.ensures c.before.before.ends-within.ensures
     c.before.item-word4.ensures c.value-within.ensures
 
 pub ranges-valid-spec : {M : Type 1} → statement M

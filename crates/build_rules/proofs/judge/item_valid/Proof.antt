@@ -1,5 +1,5 @@
 -- `build_rules::judge::item_valid` meets its contract.
-use Rattle.build_rules.proofs.ValidLaws.{ranges-table, item-out-of-range, item-is}
+use Rattle.build_rules.proofs.ValidLaws.{ranges_table, item_out_of_range, item_is}
 use borrow.Author.Tests.{not-true, not-false}
 use native.Mathlib.Omega.{arith}
 use mathlib.Core.Path.{sym, ◌∙◌}
@@ -11,7 +11,7 @@ ranges-valid-requires : tie.Need-ranges-valid-requires
 ranges-valid-requires c κs = search rules
 
 returns : tie.Need-returns
-returns c = item-out-of-range _ _ _ (sym c.before.ranges-valid.ensures ∙ not-true _ c.if1.true)
+returns c = item_out_of_range _ _ _ (sym c.before.ranges-valid.ensures ∙ not-true _ c.if1.true)
 
 key-valid-requires : tie.Need-key-valid-requires
 key-valid-requires c κs = search rules
@@ -22,11 +22,11 @@ parent-valid-requires c κs = search rules
 guest-valid-requires : tie.Need-guest-valid-requires
 guest-valid-requires c κs = let a = c.before.before.before.before.before.before.args in
     let s = c.before.before.before.before.before.before.requires.0 in
-    let known = ranges-table a.words.now a.i (sym c.before.before.before.ranges-valid.ensures ∙ not-false _ c.before.before.if1.false) in
+    let known = ranges_table a.words.now a.i (sym c.before.before.before.ranges-valid.ensures ∙ not-false _ c.before.before.if1.false) in
     (omega arith, known)
 
 returns-2 : tie.Need-returns-2
-returns-2 c = item-is _ _ _ (sym c.before.before.before.before.ranges-valid.ensures ∙ not-false _ c.before.before.before.if1.false) _ _ _ c.before.before.key-valid.ensures c.before.parent-valid.ensures
+returns-2 c = item_is _ _ _ (sym c.before.before.before.before.ranges-valid.ensures ∙ not-false _ c.before.before.before.if1.false) _ _ _ c.before.before.key-valid.ensures c.before.parent-valid.ensures
     c.guest-valid.ensures
 
 pub item-valid-spec : {M : Type 1} → statement M

@@ -1,7 +1,7 @@
 -- `build_rules::judge::items_valid` meets its contract. The invariant: the items that were passed keep the rules.
-use Rattle.build_rules.specs.Valid.{itemValid}
-use Rattle.build_memory.specs.Memory.{itemTotal}
-use Rattle.words.proofs.BelowLaws.{all-fails, all-turn}
+use Rattle.build_rules.specs.Valid.{item_valid}
+use Rattle.build_memory.specs.Memory.{item_total}
+use Rattle.words.proofs.BelowLaws.{all_fails, all_turn}
 use Rattle.words.specs.Below.{all_below}
 use borrow.Author.Tests.{not-true, not-false}
 use native.Mathlib.Omega.{arith}
@@ -12,10 +12,10 @@ use Rattle.build_rules.proofs.judge.items_valid.Statement.{statement}
 use Rattle.build_rules.proofs.judge.items_valid.Tie as tie
 
 abbrev invariant-loop : tie.invariant-loop
-invariant-loop words arena n i₀ i = (i ≤ itemTotal words) × (all_below (itemValid words arena) i ≡ true)
+invariant-loop words arena n i₀ i = (i ≤ item_total words) × (all_below (item_valid words arena) i ≡ true)
 
 abbrev decreases-loop : tie.decreases-loop
-decreases-loop words arena n i₀ i = itemTotal words - i
+decreases-loop words arena n i₀ i = item_total words - i
 
 shared-slice-read-n : tie.Need-shared-slice-read-n invariant-loop decreases-loop
 shared-slice-read-n c = omega arith
@@ -29,7 +29,7 @@ item-valid-requires c κs = let s = c.before.before.before.before.before.require
 
 returns : tie.Need-returns invariant-loop decreases-loop
 returns c = let a = c.before.before.before.before.before.before.before.args in
-    sym (all-fails (itemValid a.words.now a.arena.now) _ _ c.before.before.loop-test.true (sym c.before.item-valid.ensures ∙ not-true _ c.if1.true))
+    sym (all_fails (item_valid a.words.now a.arena.now) _ _ c.before.before.loop-test.true (sym c.before.item-valid.ensures ∙ not-true _ c.if1.true))
 
 add-i : tie.Need-overflow-add-i invariant-loop decreases-loop
 add-i c = omega arith
@@ -39,12 +39,12 @@ loop-less c = omega arith
 
 loop-again : tie.Need-loop-preserved invariant-loop decreases-loop
 loop-again c = let a = c.before.before.before.before.before.before.before.args in
-    (omega arith, all-turn (itemValid a.words.now a.arena.now) _ c.before.before.before.loop.invariant.1 (sym c.before.item-valid.ensures ∙ not-false _ c.if1.false))
+    (omega arith, all_turn (item_valid a.words.now a.arena.now) _ c.before.before.before.loop.invariant.1 (sym c.before.item-valid.ensures ∙ not-false _ c.if1.false))
 
 returns-2 : tie.Need-returns-2 invariant-loop decreases-loop
 returns-2 c = let a = c.before.before.before.before.before.args in
-    let e : c.before.loop.i ≡ itemTotal a.words.now = omega arith in
-    sym (ap (all_below (itemValid a.words.now a.arena.now)) (sym e) ∙ c.before.loop.invariant.1)
+    let e : c.before.loop.i ≡ item_total a.words.now = omega arith in
+    sym (ap (all_below (item_valid a.words.now a.arena.now)) (sym e) ∙ c.before.loop.invariant.1)
 
 pub items-valid-spec : {M : Type 1} → statement M
 items-valid-spec =

@@ -1,5 +1,5 @@
 -- `build_tables::add::add_table` meets its contract: 27, or a row for the table and one table more.
-use Rattle.build_tables.proofs.TableLaws.{tables-many, table-added}
+use Rattle.build_tables.proofs.TableLaws.{tables_many, table-added}
 use borrow.Author.Rules.{rules}
 use Rattle.build_tables.proofs.add.add_table.Statement.{statement}
 use Rattle.build_tables.proofs.add.add_table.Tie as tie
@@ -8,7 +8,7 @@ slice-read-t : tie.Need-slice-read-t
 slice-read-t c = search rules
 
 returns : tie.Need-returns
-returns c = tables-many _ _ _ c.if1.true
+returns c = tables_many _ _ _ c.if1.true
 
 mul_at : tie.Need-overflow-mul-at
 mul_at c = search rules

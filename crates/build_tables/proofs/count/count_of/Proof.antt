@@ -1,7 +1,7 @@
 -- `build_tables::count::count_of` meets its contract. The invariant: the count is that of the items passed.
-use Rattle.build_tables.proofs.TableLaws.{count_none, count-pass, count-one}
-use Rattle.build_tables.specs.Table.{countOf}
-use Rattle.build_memory.specs.Memory.{itemTotal}
+use Rattle.build_tables.proofs.TableLaws.{count_none, count_pass, count_one}
+use Rattle.build_tables.specs.Table.{count_of}
+use Rattle.build_memory.specs.Memory.{item_total}
 use native.Mathlib.Omega.{arith}
 use Prim.Native.Nat.{◌-◌, ◌≤◌}
 use mathlib.Core.Path.{◌≡◌, ap, ◌∙◌}
@@ -9,10 +9,10 @@ use Rattle.build_tables.proofs.count.count_of.Statement.{statement}
 use Rattle.build_tables.proofs.count.count_of.Tie as tie
 
 abbrev invariant-loop : tie.invariant-loop
-invariant-loop words table n count₀ i₀ count i = (i ≤ itemTotal words) × (count ≤ i) × (count ≡ countOf words table i)
+invariant-loop words table n count₀ i₀ count i = (i ≤ item_total words) × (count ≤ i) × (count ≡ count_of words table i)
 
 abbrev decreases-loop : tie.decreases-loop
-decreases-loop words table n count₀ i₀ count i = itemTotal words - i
+decreases-loop words table n count₀ i₀ count i = item_total words - i
 
 shared-slice-read-n : tie.Need-shared-slice-read-n invariant-loop decreases-loop
 shared-slice-read-n c = omega arith
@@ -30,7 +30,7 @@ loop-less : tie.Need-loop-smaller invariant-loop decreases-loop
 loop-less c = omega arith
 
 loop-again : tie.Need-loop-preserved invariant-loop decreases-loop
-loop-again c = (omega arith, omega arith, count-pass _ _ _ _ _ c.before.item-word.ensures c.before.before.before.loop.invariant.2 c.if1.true)
+loop-again c = (omega arith, omega arith, count_pass _ _ _ _ _ c.before.item-word.ensures c.before.before.before.loop.invariant.2 c.if1.true)
 
 add-count : tie.Need-overflow-add-count invariant-loop decreases-loop
 add-count c = omega arith
@@ -42,13 +42,13 @@ loop-less-2 : tie.Need-loop-smaller-2 invariant-loop decreases-loop
 loop-less-2 c = omega arith
 
 loop-again-2 : tie.Need-loop-preserved-2 invariant-loop decreases-loop
-loop-again-2 c = (omega arith, omega arith, count-one _ _ _ _ _ c.before.item-word.ensures c.before.before.before.loop.invariant.2 c.if1.false)
+loop-again-2 c = (omega arith, omega arith, count_one _ _ _ _ _ c.before.item-word.ensures c.before.before.before.loop.invariant.2 c.if1.false)
 
 returns : tie.Need-returns invariant-loop decreases-loop
 returns c = let a = c.before.before.before.before.args in
     let l = c.before.loop in
-    let done : l.i ≡ itemTotal a.words.now = omega arith in
-    (l.invariant.2 ∙ ap (countOf a.words.now a.table) done, omega arith)
+    let done : l.i ≡ item_total a.words.now = omega arith in
+    (l.invariant.2 ∙ ap (count_of a.words.now a.table) done, omega arith)
 
 pub count-of-spec : {M : Type 1} → statement M
 count-of-spec =

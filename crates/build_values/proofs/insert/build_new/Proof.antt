@@ -1,5 +1,5 @@
 -- `build_values::insert::build_new` meets its contract: the containers, then the item of the key itself.
-use Rattle.build_values.proofs.InsertLaws.{new-added}
+use Rattle.build_values.proofs.InsertLaws.{new_added}
 use Rattle.build_memory.specs.Item.{stored}
 use native.Mathlib.Omega.{arith}
 use borrow.Author.Rules.{rules}
@@ -28,7 +28,7 @@ same-length-2 c = search rules
 
 returns : tie.Need-returns
 returns c = let a = c.before.before.before.before.before.before.before.before.before.before.before.before.before.before.before.before.before.before.before.before.args in
-    new-added a.words.now a.arena.now a.job.table a.key.now a.walked.way.from (stored a.job.kind a.value.now a.job.guest) _ _ _ _ _ c.before.before.before.before.before.before.before.before.before.before.before.before.before.before.table-word.ensures c.before.before.before.before.before.before.before.before.before.before.before.make-containers.ensures.0 _
+    new_added a.words.now a.arena.now a.job.table a.key.now a.walked.way.from (stored a.job.kind a.value.now a.job.guest) _ _ _ _ _ c.before.before.before.before.before.before.before.before.before.before.before.before.before.before.table-word.ensures c.before.before.before.before.before.before.before.before.before.before.before.make-containers.ensures.0 _
     c.before.before.before.before.make-item.ensures
 
 pub build-new-spec : {M : Type 1} → statement M

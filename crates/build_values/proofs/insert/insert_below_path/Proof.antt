@@ -1,5 +1,5 @@
 -- `build_values::insert::insert_below_path` meets its contract: 21, 26, or on along the way.
-use Rattle.build_values.proofs.InsertLaws.{way-blocked, way_deep, way-along}
+use Rattle.build_values.proofs.InsertLaws.{way-blocked, way_deep, way_along}
 use borrow.Author.Tests.{not-true, not-false}
 use borrow.Author.Rules.{rules}
 use Rattle.build_values.proofs.insert.insert_below_path.Statement.{statement}
@@ -39,7 +39,7 @@ same-length-6 : tie.Need-same-length-6
 same-length-6 c = search rules
 
 returns-3 : tie.Need-returns-3
-returns-3 c = way-along _ _ _ _ _ _ c.before.before.before.before.before.before.before.before.before.before.before.before.before.table-word.ensures c.before.before.before.before.before.before.before.before.before.before.descend-to.ensures.0
+returns-3 c = way_along _ _ _ _ _ _ c.before.before.before.before.before.before.before.before.before.before.before.before.before.table-word.ensures c.before.before.before.before.before.before.before.before.before.before.descend-to.ensures.0
     (not-false _ c.before.before.before.before.before.before.before.before.if1.false) c.before.before.before.before.before.before.before.if2.false c.before.before.before.before.insert-or-replace.ensures
 
 pub insert-below-path-spec : {M : Type 1} → statement M

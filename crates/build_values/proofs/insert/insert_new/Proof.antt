@@ -1,5 +1,5 @@
 -- `build_values::insert::insert_new` meets its contract: 22, 23, or what is missing is made.
-use Rattle.build_values.proofs.InsertLaws.{new-many, new-full, new-made}
+use Rattle.build_values.proofs.InsertLaws.{new_many, new_full, new_made}
 use Rattle.build_memory.specs.Item.{stored}
 use native.Mathlib.Omega.{arith}
 use borrow.Author.Rules.{rules}
@@ -23,7 +23,7 @@ same_length c = search rules
 
 returns : tie.Need-returns
 returns c = let a = c.before.before.before.before.before.before.before.before.before.before.before.args in
-    new-many a.words.now a.arena.now a.job.table a.key.now _ a.walked.way.from a.walked.way.parent _ _ _ c.before.before.before.before.before.table-word.ensures c.before.before.before.cost-of.ensures.0
+    new_many a.words.now a.arena.now a.job.table a.key.now _ a.walked.way.from a.walked.way.parent _ _ _ c.before.before.before.before.before.table-word.ensures c.before.before.before.cost-of.ensures.0
     c.before.before.before.cost-of.ensures.1 (omega arith)
 
 slice-read-left : tie.Need-slice-read-left
@@ -37,7 +37,7 @@ same-length-2 c = search rules
 
 returns-2 : tie.Need-returns-2
 returns-2 c = let a = c.before.before.before.before.before.before.before.before.before.before.before.before.before.before.args in
-    new-full a.words.now a.arena.now a.job.table a.key.now _ a.walked.way.from a.walked.way.parent _ _ _ c.before.before.before.before.before.before.before.before.table-word.ensures c.before.before.before.before.before.before.cost-of.ensures.0
+    new_full a.words.now a.arena.now a.job.table a.key.now _ a.walked.way.from a.walked.way.parent _ _ _ c.before.before.before.before.before.before.before.before.table-word.ensures c.before.before.before.before.before.before.cost-of.ensures.0
     c.before.before.before.before.before.before.cost-of.ensures.1 (omega arith) (omega arith)
 
 same-length-3 : tie.Need-same-length-3
@@ -45,7 +45,7 @@ same-length-3 c = search rules
 
 returns-3 : tie.Need-returns-3
 returns-3 c = let a = c.before.before.before.before.before.before.before.before.before.before.before.before.before.before.before.before.args in
-    new-full a.words.now a.arena.now a.job.table a.key.now _ a.walked.way.from a.walked.way.parent _ _ _ c.before.before.before.before.before.before.before.before.before.before.table-word.ensures c.before.before.before.before.before.before.before.before.cost-of.ensures.0
+    new_full a.words.now a.arena.now a.job.table a.key.now _ a.walked.way.from a.walked.way.parent _ _ _ c.before.before.before.before.before.before.before.before.before.before.table-word.ensures c.before.before.before.before.before.before.before.before.cost-of.ensures.0
     c.before.before.before.before.before.before.before.before.cost-of.ensures.1 (omega arith) (omega arith)
 
 build-new-requires : tie.Need-build-new-requires
@@ -66,7 +66,7 @@ returns-4 c = let a = c.before.before.before.before.before.before.before.before.
     let l1 = c.before.before.before.before.before.before.before.before.before.before.before.before.if1.false in
     let l2 = c.before.before.before.before.before.before.before.before.before.if2.false in
     let l3 = c.before.before.before.before.before.before.before.if3.false in
-    new-made a.words.now a.arena.now a.job.table a.key.now (stored a.job.kind a.value.now a.job.guest) a.walked.way.from a.walked.way.parent _ _ _ c.before.before.before.before.before.before.before.before.before.before.before.before.before.before.before.before.before.table-word.ensures c.before.before.before.before.before.before.before.before.before.before.before.before.before.before.before.cost-of.ensures.0
+    new_made a.words.now a.arena.now a.job.table a.key.now (stored a.job.kind a.value.now a.job.guest) a.walked.way.from a.walked.way.parent _ _ _ c.before.before.before.before.before.before.before.before.before.before.before.before.before.before.before.before.before.table-word.ensures c.before.before.before.before.before.before.before.before.before.before.before.before.before.before.before.cost-of.ensures.0
     c.before.before.before.before.before.before.before.before.before.before.before.before.before.before.before.cost-of.ensures.1 (omega arith) (omega arith) _ c.before.before.before.before.build-new.ensures
 
 pub insert-new-spec : {M : Type 1} → statement M

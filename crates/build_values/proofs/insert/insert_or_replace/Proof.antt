@@ -1,7 +1,7 @@
 -- `build_values::insert::insert_or_replace` meets its contract.
-use Rattle.build_values.proofs.InsertLaws.{along-old, along-new}
+use Rattle.build_values.proofs.InsertLaws.{along_old, along_new}
 use Rattle.key_hash.specs.Hash.{plain}
-use Rattle.key_hash.proofs.HashLaws.{hash-whole}
+use Rattle.key_hash.proofs.HashLaws.{hash_whole}
 use mathlib.Core.Path.{◌∙◌}
 use borrow.Author.Rules.{rules}
 use Rattle.build_values.proofs.insert.insert_or_replace.Statement.{statement}
@@ -26,7 +26,7 @@ find-hashed-requires : tie.Need-find-hashed-requires
 find-hashed-requires c κs = let a = c.before.before.before.before.before.before.before.before.before.before.args in
     let p = c.before.before.before.before.before.before.before.before.before.before.requires in (
       (p.0.valid-memory.long, p.0.valid-memory.items),
-      c.before.before.word_size.ensures.0 ∙ c.before.before.before.hash-on.ensures ∙ hash-whole plain a.key.now a.walked.way.from a.walked.hash p.1.1 p.1.0,
+      c.before.before.word_size.ensures.0 ∙ c.before.before.before.hash-on.ensures ∙ hash_whole plain a.key.now a.walked.way.from a.walked.hash p.1.1 p.1.0,
     )
 
 slice-read-if1 : tie.Need-slice-read-if1
@@ -42,13 +42,13 @@ same-length-2 : tie.Need-same-length-2
 same-length-2 c = search rules
 
 returns : tie.Need-returns
-returns c = c.before.before.before.before.overwrite-item.ensures ∙ along-old _ _ _ _ _ _ _ _ c.before.before.before.before.before.before.before.before.before.find-hashed.ensures.0 c.before.before.before.before.before.before.before.if1.true
+returns c = c.before.before.before.before.overwrite-item.ensures ∙ along_old _ _ _ _ _ _ _ _ c.before.before.before.before.before.before.before.before.before.find-hashed.ensures.0 c.before.before.before.before.before.before.before.if1.true
 
 insert-new-requires : tie.Need-insert-new-requires
 insert-new-requires c κs = let a = c.before.before.before.before.before.before.before.before.before.before.before.before.before.before.before.args in
     let p = c.before.before.before.before.before.before.before.before.before.before.before.before.before.before.before.requires in (
       p.0,
-      (p.1.0, p.1.1, c.before.before.before.before.before.before.before.word_size.ensures.0 ∙ c.before.before.before.before.before.before.before.before.hash-on.ensures ∙ hash-whole plain a.key.now a.walked.way.from a.walked.hash p.1.1 p.1.0),
+      (p.1.0, p.1.1, c.before.before.before.before.before.before.before.word_size.ensures.0 ∙ c.before.before.before.before.before.before.before.before.hash-on.ensures ∙ hash_whole plain a.key.now a.walked.way.from a.walked.hash p.1.1 p.1.0),
     )
 
 same-length-3 : tie.Need-same-length-3
@@ -58,7 +58,7 @@ same-length-4 : tie.Need-same-length-4
 same-length-4 c = search rules
 
 returns-2 : tie.Need-returns-2
-returns-2 c = c.before.before.before.before.insert-new.ensures ∙ along-new _ _ _ _ _ _ _ _ c.before.before.before.before.before.before.before.before.before.find-hashed.ensures.0 c.before.before.before.before.before.before.before.if1.false
+returns-2 c = c.before.before.before.before.insert-new.ensures ∙ along_new _ _ _ _ _ _ _ _ c.before.before.before.before.before.before.before.before.before.find-hashed.ensures.0 c.before.before.before.before.before.before.before.if1.false
 
 pub insert-or-replace-spec : {M : Type 1} → statement M
 insert-or-replace-spec =

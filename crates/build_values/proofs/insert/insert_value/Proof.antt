@@ -1,6 +1,6 @@
 -- `build_values::insert::insert_value` meets its contract: 29, or what valid memory gives.
-use Rattle.build_values.proofs.InsertLaws.{value-invalid, value-valid}
-use Rattle.build_memory.proofs.MemoryLaws.{valid-facts}
+use Rattle.build_values.proofs.InsertLaws.{value_invalid, value-valid}
+use Rattle.build_memory.proofs.MemoryLaws.{valid_facts}
 use borrow.Author.Tests.{not-true, not-false}
 use mathlib.Core.Path.{sym, ◌∙◌}
 use borrow.Author.Rules.{rules}
@@ -17,13 +17,13 @@ same-length-2 : tie.Need-same-length-2
 same-length-2 c = search rules
 
 returns : tie.Need-returns
-returns c = value-invalid _ _ _ _ _ (sym c.before.judge.ensures ∙ not-true _ c.if1.true)
+returns c = value_invalid _ _ _ _ _ (sym c.before.judge.ensures ∙ not-true _ c.if1.true)
 
 word-size-requires : tie.Need-word-size-requires
 word-size-requires c κs = search rules
 
 insert-at-key-requires : tie.Need-insert-at-key-requires
-insert-at-key-requires c κs = valid-facts _ _ (sym c.before.before.before.before.judge.ensures ∙ not-false _ c.before.before.before.if1.false)
+insert-at-key-requires c κs = valid_facts _ _ (sym c.before.before.before.before.judge.ensures ∙ not-false _ c.before.before.before.if1.false)
 
 same-length-3 : tie.Need-same-length-3
 same-length-3 c = search rules

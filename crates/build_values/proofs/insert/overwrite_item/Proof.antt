@@ -1,5 +1,5 @@
 -- `build_values::insert::overwrite_item` meets its contract: 23, or the item written again.
-use Rattle.build_values.proofs.InsertLaws.{old-full, old-written}
+use Rattle.build_values.proofs.InsertLaws.{old_full, old_written}
 use native.Mathlib.Omega.{arith}
 use borrow.Author.Rules.{rules}
 use Rattle.build_values.proofs.insert.overwrite_item.Statement.{statement}
@@ -12,7 +12,7 @@ sub-left : tie.Need-overflow-sub-left
 sub-left c = search rules
 
 returns : tie.Need-returns
-returns c = old-full _ _ _ _ (omega arith)
+returns c = old_full _ _ _ _ (omega arith)
 
 item-word-requires : tie.Need-item-word-requires
 item-word-requires c κs = search rules
@@ -30,7 +30,7 @@ same-length-2 : tie.Need-same-length-2
 same-length-2 c = search rules
 
 returns-2 : tie.Need-returns-2
-returns-2 c = old-written _ _ _ _ (omega arith) _ c.before.before.before.before.before.before.before.before.item-word.ensures _ c.before.before.before.before.before.before.before.kind-of.ensures _ c.before.before.before.before.replace-item.ensures
+returns-2 c = old_written _ _ _ _ (omega arith) _ c.before.before.before.before.before.before.before.before.item-word.ensures _ c.before.before.before.before.before.before.before.kind_of_lem.ensures _ c.before.before.before.before.replace-item.ensures
 
 pub overwrite-item-spec : {M : Type 1} → statement M
 overwrite-item-spec =

@@ -1,14 +1,14 @@
 -- `check_hash::tally::joined_key` meets its contract: the invariant is `Tallying`, and the measure is the steps left.
 use Rattle.std.proofs.Common.{◌≡◌, ℕ, List, sym, refl, ap, ◌∙◌, subst, arith, rules}
-use Rattle.key_hash.specs.Hash.{ruleOf}
-use Rattle.read_chain.proofs.ChainLaws.{StepFits, climb-fits, fragment-taken}
+use Rattle.key_hash.specs.Hash.{rule_of}
+use Rattle.read_chain.proofs.ChainLaws.{StepFits, climb_fits, fragment_taken}
 use Rattle.check_hash.specs.Tally.{prepend}
-use Rattle.check_hash.proofs.KeyLaws.{Tallying, joined-start, joined-over, joined-refused, joined-root, joined-up}
+use Rattle.check_hash.proofs.KeyLaws.{Tallying, joined-start, joined_over, joined-refused, joined_root, joined_up}
 use Rattle.check_hash.proofs.tally.joined_key.Statement.{statement}
 use Rattle.check_hash.proofs.tally.joined_key.Tie as tie
 
 abbrev invariant-loop : tie.invariant-loop
-invariant-loop file table index form count at₀ total₀ tally₀ left₀ at total tally left = (count ≡ table.count) × Tallying (ruleOf form) file table index at total tally left
+invariant-loop file table index form count at₀ total₀ tally₀ left₀ at total tally left = (count ≡ table.count) × Tallying (rule_of form) file table index at total tally left
 
 abbrev decreases-loop : tie.decreases-loop
 decreases-loop file table index form count at₀ total₀ tally₀ left₀ at total tally left = left
@@ -38,7 +38,7 @@ enum_told : tie.Need-enum-told invariant-loop decreases-loop
 enum_told c = search rules
 
 returns : tie.Need-returns invariant-loop decreases-loop
-returns c = joined-refused _ _ _ _ c.before.before.before.before.before.before.before.loop.invariant.1 c.before.before.before.before.before.before.loop-test.true c.before.before.before.before.before.item-at.ensures (sym c.before.before.climb.ensures ∙ c.enum_told.given.1)
+returns c = joined-refused _ _ _ _ c.before.before.before.before.before.before.before.loop.invariant.1 c.before.before.before.before.before.before.loop-test.true c.before.before.before.before.before.item_at_lem.ensures (sym c.before.before.climb.ensures ∙ c.enum_told.given.1)
 
 enum-told-2 : tie.Need-enum-told-2 invariant-loop decreases-loop
 enum-told-2 c = search rules
@@ -52,7 +52,7 @@ part-prepend-all-start c = search rules
 part-prepend-all-end : tie.Need-slice-bounds-prepend-all-end invariant-loop decreases-loop
 unfolding StepFits
 part-prepend-all-end c =
-    let fits = subst (StepFits _ _ _) (sym c.before.before.climb.ensures ∙ c.enum-told2.given.1) (climb-fits _ _ _) in
+    let fits = subst (StepFits _ _ _) (sym c.before.before.climb.ensures ∙ c.enum-told2.given.1) (climb_fits _ _ _) in
     omega (arith, fits, c.before.before.before.before.word_size.ensures.0, c.before.before.before.half-size.ensures.0)
 
 prepend-all-requires : tie.Need-prepend-all-requires invariant-loop decreases-loop
@@ -63,8 +63,8 @@ finished-requires c κs = search rules
 
 returns-2 : tie.Need-returns-2 invariant-loop decreases-loop
 returns-2 c =
-    joined-root _ _ _ _ c.before.before.before.before.before.before.before.before.before.before.loop.invariant.1 c.before.before.before.before.before.before.before.before.before.loop-test.true c.before.before.before.before.before.before.before.before.item-at.ensures c.before.before.before.before.before.before.half-size.ensures.0
-    (c.before.prepend-all.ensures ∙ ap (λ (l : List ℕ). prepend (ruleOf c.before.before.before.before.before.before.before.before.before.before.before.before.args.form) l c.before.before.before.before.before.before.before.before.before.before.loop.tally) (fragment-taken _ _ c.before.before.before.before.before.before.before.word_size.ensures.0 c.before.before.before.before.before.before.half-size.ensures.0))
+    joined_root _ _ _ _ c.before.before.before.before.before.before.before.before.before.before.loop.invariant.1 c.before.before.before.before.before.before.before.before.before.loop-test.true c.before.before.before.before.before.before.before.before.item_at_lem.ensures c.before.before.before.before.before.before.half-size.ensures.0
+    (c.before.prepend-all.ensures ∙ ap (λ (l : List ℕ). prepend (rule_of c.before.before.before.before.before.before.before.before.before.before.before.before.args.form) l c.before.before.before.before.before.before.before.before.before.before.loop.tally) (fragment_taken _ _ c.before.before.before.before.before.before.before.word_size.ensures.0 c.before.before.before.before.before.before.half-size.ensures.0))
     (sym c.before.before.before.before.before.climb.ensures ∙ c.before.before.before.enum-told2.given.1)
     c.finished.ensures
 
@@ -80,7 +80,7 @@ part-prepend-all-start-2 c = search rules
 part-prepend-all-end-2 : tie.Need-slice-bounds-prepend-all-end-2 invariant-loop decreases-loop
 unfolding StepFits
 part-prepend-all-end-2 c =
-    let fits = (subst (StepFits _ _ _) (sym c.before.before.before.climb.ensures ∙ c.before.parent.given.1) (climb-fits _ _ _)).0 in
+    let fits = (subst (StepFits _ _ _) (sym c.before.before.before.climb.ensures ∙ c.before.parent.given.1) (climb_fits _ _ _)).0 in
     omega (arith, fits, c.before.before.before.before.before.word_size.ensures.0, c.before.before.before.before.half-size.ensures.0)
 
 prepend-all-requires-2 : tie.Need-prepend-all-requires-2 invariant-loop decreases-loop
@@ -95,14 +95,14 @@ loop-less c = search rules
 loop-again : tie.Need-loop-preserved invariant-loop decreases-loop
 loop-again c = (
   refl,
-  joined-up _ _ _ _ c.before.before.before.before.before.before.before.before.before.before.loop.invariant.1 c.before.before.before.before.before.before.before.before.before.loop-test.true c.before.before.before.before.before.before.before.before.item-at.ensures c.before.before.before.before.before.before.half-size.ensures.0
-      (c.prepend-all2.ensures ∙ ap (λ (l : List ℕ). prepend (ruleOf c.before.before.before.before.before.before.before.before.before.before.before.before.args.form) l c.before.before.before.before.before.before.before.before.before.before.loop.tally) (fragment-taken _ _ c.before.before.before.before.before.before.before.word_size.ensures.0 c.before.before.before.before.before.before.half-size.ensures.0))
+  joined_up _ _ _ _ c.before.before.before.before.before.before.before.before.before.before.loop.invariant.1 c.before.before.before.before.before.before.before.before.before.loop-test.true c.before.before.before.before.before.before.before.before.item_at_lem.ensures c.before.before.before.before.before.before.half-size.ensures.0
+      (c.prepend-all2.ensures ∙ ap (λ (l : List ℕ). prepend (rule_of c.before.before.before.before.before.before.before.before.before.before.before.before.args.form) l c.before.before.before.before.before.before.before.before.before.before.loop.tally) (fragment_taken _ _ c.before.before.before.before.before.before.before.word_size.ensures.0 c.before.before.before.before.before.before.half-size.ensures.0))
       c.before.before.before.before.before.before.half-size.ensures.1
       (sym c.before.before.before.before.before.climb.ensures ∙ c.before.before.before.parent.given.1),
 )
 
 returns-3 : tie.Need-returns-3 invariant-loop decreases-loop
-returns-3 c = joined-over _ _ _ _ c.before.loop.invariant.1 c.loop-test.false
+returns-3 c = joined_over _ _ _ _ c.before.loop.invariant.1 c.loop-test.false
 
 pub joined-key-spec : {M : Type 1} → statement M
 joined-key-spec =

@@ -1,5 +1,5 @@
 -- `check_hash::tally::prepend_byte` meets its contract: the remainder of the product has no bearing.
-use Rattle.check_hash.proofs.TallyLaws.{before-is}
+use Rattle.check_hash.proofs.TallyLaws.{before_is}
 use Rattle.std.proofs.Common.{rules}
 use Rattle.check_hash.proofs.tally.prepend_byte.Statement.{statement}
 use Rattle.check_hash.proofs.tally.prepend_byte.Tie as tie
@@ -17,7 +17,7 @@ wrapping-add-u32-requires : tie.Need-wrapping-add-u32-requires
 wrapping-add-u32-requires c κs = search rules
 
 returns : tie.Need-returns
-returns c = before-is _ c.before.before.before.before.args.tally c.before.wrapping-mul2.ensures c.before.before.before.byte-counts.ensures.0 c.before.before.wrapping-mul.ensures c.wrapping-add-u32.ensures
+returns c = before_is _ c.before.before.before.before.args.tally c.before.wrapping-mul2.ensures c.before.before.before.byte-counts.ensures.0 c.before.before.wrapping-mul.ensures c.wrapping-add-u32.ensures
 
 pub prepend-byte-spec : {M : Type 1} → statement M
 prepend-byte-spec =

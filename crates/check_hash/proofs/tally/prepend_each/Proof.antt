@@ -1,13 +1,13 @@
 -- `check_hash::tally::prepend_each` meets its contract: the invariant says that the bytes from `i` on are in the tally.
 use Rattle.std.proofs.Common.{◌≡◌, ◌≤◌, length, drop, ◌∙◌, arith, rules}
-use Rattle.key_hash.specs.Hash.{ruleOf}
+use Rattle.key_hash.specs.Hash.{rule_of}
 use Rattle.check_hash.specs.Tally.{prepend}
-use Rattle.check_hash.proofs.TallyLaws.{prepend-turn, prepend-start}
+use Rattle.check_hash.proofs.TallyLaws.{prepend_turn, prepend-start}
 use Rattle.check_hash.proofs.tally.prepend_each.Statement.{statement}
 use Rattle.check_hash.proofs.tally.prepend_each.Tie as tie
 
 abbrev invariant-loop : tie.invariant-loop
-invariant-loop bytes form state₀ i₀ state i = (i ≤ length bytes) × (state ≡ prepend (ruleOf form) (drop i bytes) state₀)
+invariant-loop bytes form state₀ i₀ state i = (i ≤ length bytes) × (state ≡ prepend (rule_of form) (drop i bytes) state₀)
 
 abbrev decreases-loop : tie.decreases-loop
 decreases-loop bytes form state₀ i₀ state i = i
@@ -30,7 +30,7 @@ loop-less c = search rules
 loop-again : tie.Need-loop-preserved invariant-loop decreases-loop
 loop-again c = (
   omega arith,
-  c.prepend-byte.ensures ∙ rw c.before.before.before.loop.invariant.1 (prepend-turn _ _ _ _ c.before.before.loop-test.true c.before.before.before.loop.invariant.0),
+  c.prepend-byte.ensures ∙ rw c.before.before.before.loop.invariant.1 (prepend_turn _ _ _ _ c.before.before.loop-test.true c.before.before.before.loop.invariant.0),
 )
 
 returns : tie.Need-returns invariant-loop decreases-loop

@@ -1,13 +1,13 @@
 -- `check_hash::tally::prepend_strides` meets its contract: the invariant says that the bytes from `i` on are in the tally.
 use Rattle.std.proofs.Common.{◌≡◌, ◌-◌, ◌≤◌, length, drop, sym, arith, length-take-le, rules}
-use Rattle.key_hash.specs.Hash.{ruleOf}
+use Rattle.key_hash.specs.Hash.{rule_of}
 use Rattle.check_hash.specs.Tally.{prepend}
-use Rattle.check_hash.proofs.TallyLaws.{prepend-stride, prepend-start, prepend-front}
+use Rattle.check_hash.proofs.TallyLaws.{prepend_stride, prepend-start, prepend_front}
 use Rattle.check_hash.proofs.tally.prepend_strides.Statement.{statement}
 use Rattle.check_hash.proofs.tally.prepend_strides.Tie as tie
 
 abbrev invariant-loop : tie.invariant-loop
-invariant-loop bytes form state₀ i₀ state i = (i ≤ length bytes) × (state ≡ prepend (ruleOf form) (drop i bytes) state₀)
+invariant-loop bytes form state₀ i₀ state i = (i ≤ length bytes) × (state ≡ prepend (rule_of form) (drop i bytes) state₀)
 
 abbrev decreases-loop : tie.decreases-loop
 decreases-loop bytes form state₀ i₀ state i = i
@@ -59,7 +59,7 @@ loop-again c =
     let at = c.before.before.before.before.before.before.before.before.before.before in
     let args = at.before.before.args in (
       omega arith,
-      prepend-stride
+      prepend_stride
           _
           args.bytes.now
           (at.loop.i - 4)
@@ -87,7 +87,7 @@ returns : tie.Need-returns invariant-loop decreases-loop
 returns c =
     let at = c.before.before.before in
     let args = at.before.before.args in
-    prepend-front _ args.bytes.now at.loop.i args.tally at.loop.invariant.1 c.prepend-each.ensures
+    prepend_front _ args.bytes.now at.loop.i args.tally at.loop.invariant.1 c.prepend-each.ensures
 
 pub prepend-strides-spec : {M : Type 1} → statement M
 prepend-strides-spec =

@@ -1,5 +1,5 @@
 -- `check_keys::front::front_at` meets its contract: it is the definition, field by field.
-use Rattle.check_keys.specs.Front.{frontAt}
+use Rattle.check_keys.specs.Front.{front_at}
 use borrow.Author.Rules.{rules}
 use Rattle.check_keys.proofs.front.front_at.Statement.{statement}
 use Rattle.check_keys.proofs.front.front_at.Tie as tie
@@ -11,7 +11,7 @@ half-size-requires : tie.Need-half-size-requires
 half-size-requires c κs = search rules
 
 returns : tie.Need-returns
-unfolding frontAt
+unfolding front_at
 returns c = (cc c.half-size.ensures.0)
 
 pub front-at-spec : {M : Type 1} → statement M

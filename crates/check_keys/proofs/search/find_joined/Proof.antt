@@ -3,13 +3,13 @@ use mathlib.Core.Path.{sym, ◌∙◌}
 use native.Mathlib.Omega.{arith}
 use Prim.Native.Nat.{◌<◌}
 use native.Mathlib.Nat.{mod-lt}
-use Rattle.read_find.proofs.FindLaws.{find-no-buckets, find-filtered, find-in-run}
+use Rattle.read_find.proofs.FindLaws.{find_no_buckets, find_filtered, find_in_run}
 use borrow.Author.Rules.{rules}
 use Rattle.check_keys.proofs.search.find_joined.Statement.{statement}
 use Rattle.check_keys.proofs.search.find_joined.Tie as tie
 
 returns : tie.Need-returns
-returns c = find-no-buckets _ _ _ _ c.if1.true
+returns c = find_no_buckets _ _ _ _ c.if1.true
 
 bloom-passes-requires : tie.Need-bloom-passes-requires
 bloom-passes-requires c κs = search rules
@@ -31,10 +31,10 @@ first-same-requires c κs = search rules
 
 returns-2 : tie.Need-returns-2
 returns-2 c =
-    find-in-run _ _ _ _ c.before.before.before.before.before.if1.false (λ e. omega (arith, c.before.before.before.before.before.before.before.requires.0.below)) c.before.before.before.before.before.before.before.requires.1 (sym c.before.before.before.before.bloom-passes.ensures ∙ c.before.before.before.if2.true) c.before.before.word_size.ensures.0 c.before.run_of.ensures c.first-same.ensures
+    find_in_run _ _ _ _ c.before.before.before.before.before.if1.false (λ e. omega (arith, c.before.before.before.before.before.before.before.requires.0.below)) c.before.before.before.before.before.before.before.requires.1 (sym c.before.before.before.before.bloom-passes.ensures ∙ c.before.before.before.if2.true) c.before.before.word_size.ensures.0 c.before.run_of.ensures c.first-same.ensures
 
 returns-3 : tie.Need-returns-3
-returns-3 c = find-filtered _ _ _ _ c.before.before.if1.false (λ e. omega (arith, c.before.before.before.before.requires.0.below)) c.before.before.before.before.requires.1 (sym c.before.bloom-passes.ensures ∙ c.if2.false)
+returns-3 c = find_filtered _ _ _ _ c.before.before.if1.false (λ e. omega (arith, c.before.before.before.before.requires.0.below)) c.before.before.before.before.requires.1 (sym c.before.bloom-passes.ensures ∙ c.if2.false)
 
 pub find-joined-spec : {M : Type 1} → statement M
 find-joined-spec =

@@ -6,7 +6,7 @@ use native.Mathlib.Nat.{one-mul}
 use lib.ListN.{get_or, set}
 use lib.Bits.{bit_or}
 use lib.Pow.{shl_exact}
-use Rattle.check_rules.specs.Bits.{withBit}
+use Rattle.check_rules.specs.Bits.{with_bit}
 use borrow.Author.Rules.{rules}
 use Rattle.check_rules.proofs.bits.set_bit.Statement.{statement}
 use Rattle.check_rules.proofs.bits.set_bit.Tie as tie
@@ -30,7 +30,7 @@ same_length : tie.Need-same-length
 same_length c = search rules
 
 returns : tie.Need-returns
-unfolding withBit
+unfolding with_bit
 returns c =
     let b = c.before.args.at % 64 in
     let exact : 1 * 2 ^ b % 18446744073709551616 ≡ 2 ^ b = shl_exact 1 b 64 (omega arith) (omega arith) ∙ one-mul (2 ^ b) in

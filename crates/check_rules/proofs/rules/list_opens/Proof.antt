@@ -1,6 +1,6 @@
 -- `check_rules::rules::list_opens` meets its contract: each arm is a case of the definition.
 use mathlib.Core.Path.{sym, ◌∙◌}
-use Rattle.layout.proofs.OpenLaws.{pointer-inside}
+use Rattle.layout.proofs.OpenLaws.{pointer_inside}
 use Rattle.check_rules.proofs.RuleLaws.{list-refused, list_inside}
 use borrow.Author.Rules.{rules}
 use Rattle.check_rules.proofs.rules.list_opens.Statement.{statement}
@@ -22,7 +22,7 @@ enum-told-2 : tie.Need-enum-told-2
 enum-told-2 c = search rules
 
 sub-result : tie.Need-overflow-sub-result
-sub-result c = (pointer-inside _ _ _ _ (sym c.before.before.open-pointer.ensures ∙ c.enum-told2.given.1)).0
+sub-result c = (pointer_inside _ _ _ _ (sym c.before.before.open-pointer.ensures ∙ c.enum-told2.given.1)).0
 
 returns : tie.Need-returns
 returns c = list-refused _ _ c.before.before.before.before.word_size.ensures.0 c.before.before.before.word-size2.ensures.0 (sym c.before.before.open-pointer.ensures ∙ c.enum_told.given.1)

@@ -1,6 +1,6 @@
 -- `check_rules::rules::nested_opens` meets its contract: each arm is a case of the definition.
 use mathlib.Core.Path.{sym, ap, ◌∙◌}
-use Rattle.check_rules.specs.Rules.{isTable}
+use Rattle.check_rules.specs.Rules.{is_table}
 use borrow.Author.Rules.{rules}
 use Rattle.check_rules.proofs.rules.nested_opens.Statement.{statement}
 use Rattle.check_rules.proofs.rules.nested_opens.Tie as tie
@@ -15,12 +15,12 @@ enum-told-2 : tie.Need-enum-told-2
 enum-told-2 c = search rules
 
 returns : tie.Need-returns
-unfolding isTable
-returns c = ap isTable (sym (sym c.before.before.open-table.ensures ∙ c.enum_told.given.1))
+unfolding is_table
+returns c = ap is_table (sym (sym c.before.before.open-table.ensures ∙ c.enum_told.given.1))
 
 returns-2 : tie.Need-returns-2
-unfolding isTable
-returns-2 c = ap isTable (sym (sym c.before.before.open-table.ensures ∙ c.enum-told2.given.1))
+unfolding is_table
+returns-2 c = ap is_table (sym (sym c.before.before.open-table.ensures ∙ c.enum-told2.given.1))
 
 pub nested-opens-spec : {M : Type 1} → statement M
 nested-opens-spec =

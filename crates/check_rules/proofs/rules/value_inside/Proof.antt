@@ -1,6 +1,6 @@
 -- `check_rules::rules::value_inside` meets its contract: each arm is a case of the definition.
 use mathlib.Core.Path.{sym, ◌∙◌}
-use Rattle.check_rules.specs.Rules.{isInside}
+use Rattle.check_rules.specs.Rules.{is_inside}
 use borrow.Author.Rules.{rules}
 use Rattle.check_rules.proofs.rules.value_inside.Statement.{statement}
 use Rattle.check_rules.proofs.rules.value_inside.Tie as tie
@@ -15,13 +15,13 @@ enum-told-2 : tie.Need-enum-told-2
 enum-told-2 c = search rules
 
 returns : tie.Need-returns
-unfolding isInside
+unfolding is_inside
 returns c =
     let opened = sym c.before.before.open-value.ensures ∙ c.enum_told.given.1 in
     rw opened
 
 returns-2 : tie.Need-returns-2
-unfolding isInside
+unfolding is_inside
 returns-2 c =
     let opened = sym c.before.before.open-value.ensures ∙ c.enum-told2.given.1 in
     rw opened

@@ -6,16 +6,16 @@ use mathlib.Core.Bool.{true}
 use lib.ListN.{length}
 use borrow.Author.Tests.{not-true, not-false}
 use Rattle.words.specs.Below.{all_below}
-use Rattle.read_listing.specs.Children.{childAt}
-use Rattle.check_rules.specs.Rules.{childGood, among}
+use Rattle.read_listing.specs.Children.{child_at}
+use Rattle.check_rules.specs.Rules.{child_good, among}
 use Rattle.check_rules.specs.Survey.{Surveying}
-use Rattle.check_rules.proofs.ChildLaws.{walk_start, turn-fails, turn-goes}
+use Rattle.check_rules.proofs.ChildLaws.{walk_start, turn_fails, turn_goes}
 use borrow.Author.Rules.{rules}
 use Rattle.check_rules.proofs.survey.survey_children.Statement.{statement}
 use Rattle.check_rules.proofs.survey.survey_children.Tie as tie
 
 abbrev invariant-loop : tie.invariant-loop
-invariant-loop file table index from n bits₀ k₀ bits k = (k ≤ n) × (length bits ≡ length bits₀) × (all_below (childGood file table index from) k ≡ true) × Surveying file table index (among file from k) bits₀ bits true
+invariant-loop file table index from n bits₀ k₀ bits k = (k ≤ n) × (length bits ≡ length bits₀) × (all_below (child_good file table index from) k ≡ true) × Surveying file table index (among file from k) bits₀ bits true
 
 abbrev decreases-loop : tie.decreases-loop
 decreases-loop file table index from n bits₀ k₀ bits k = n - k
@@ -43,8 +43,8 @@ same_length : tie.Need-same-length invariant-loop decreases-loop
 same_length c = search rules
 
 returns : tie.Need-returns invariant-loop decreases-loop
-unfolding childAt
-returns c = turn-fails _ _ _ _ _ _ c.before.before.before.before.before.before.before.before.loop.invariant.3 (c.before.before.before.before.before.word_size.ensures.0 ∙ c.before.before.before.before.before.before.word_at.ensures) c.before.before.before.survey-child.ensures.0 c.before.before.before.survey-child.ensures.1 _ c.before.before.before.before.before.before.before.loop-test.true (not-true _ c.if1.true)
+unfolding child_at
+returns c = turn_fails _ _ _ _ _ _ c.before.before.before.before.before.before.before.before.loop.invariant.3 (c.before.before.before.before.before.word_size.ensures.0 ∙ c.before.before.before.before.before.before.word_at.ensures) c.before.before.before.survey-child.ensures.0 c.before.before.before.survey-child.ensures.1 _ c.before.before.before.before.before.before.before.loop-test.true (not-true _ c.if1.true)
 
 add-k : tie.Need-overflow-add-k invariant-loop decreases-loop
 add-k c = search rules
@@ -53,9 +53,9 @@ loop-less : tie.Need-loop-smaller invariant-loop decreases-loop
 loop-less c = search rules
 
 loop-again : tie.Need-loop-preserved invariant-loop decreases-loop
-unfolding childAt
+unfolding child_at
 loop-again c =
-    let next = turn-goes _ _ _ _ _ _ c.before.before.before.before.before.before.before.before.loop.invariant.3 (c.before.before.before.before.before.word_size.ensures.0 ∙ c.before.before.before.before.before.before.word_at.ensures) c.before.before.before.survey-child.ensures.0 c.before.before.before.survey-child.ensures.1 c.before.before.before.before.before.before.before.before.loop.invariant.2 (not-false _ c.if1.false) in
+    let next = turn_goes _ _ _ _ _ _ c.before.before.before.before.before.before.before.before.loop.invariant.3 (c.before.before.before.before.before.word_size.ensures.0 ∙ c.before.before.before.before.before.before.word_at.ensures) c.before.before.before.survey-child.ensures.0 c.before.before.before.survey-child.ensures.1 c.before.before.before.before.before.before.before.before.loop.invariant.2 (not-false _ c.if1.false) in
     (omega arith, omega arith, next.0, next.1)
 
 same-length-2 : tie.Need-same-length-2 invariant-loop decreases-loop

@@ -2,14 +2,14 @@
 use mathlib.Core.Path.{sym, ◌∙◌}
 use native.Mathlib.Omega.{arith}
 use borrow.Author.Tests.{not-true, not-false}
-use Rattle.check_rules.proofs.RuleLaws.{children-other, children-all, lists-other, lists-shut, lists-open, list-room}
-use Rattle.check_rules.proofs.ChildLaws.{no-bit, as-listed, five-other, five-shut, five-open}
+use Rattle.check_rules.proofs.RuleLaws.{children_other, children_all, lists_other, lists_shut, lists_open, list_room}
+use Rattle.check_rules.proofs.ChildLaws.{no_bit, as_listed, five_other, five_shut, five_open}
 use borrow.Author.Rules.{rules}
 use Rattle.check_rules.proofs.survey.survey_container.Statement.{statement}
 use Rattle.check_rules.proofs.survey.survey_container.Tie as tie
 
 returns : tie.Need-returns
-returns c = (five-other _ _ _ _ (sym (children-other _ _ _ _ c.if1.true)), no-bit _ _ _ _ c.before.before.before.before.requires.1 (λ i. lists-other _ i _ c.if1.true))
+returns c = (five_other _ _ _ _ (sym (children_other _ _ _ _ c.if1.true)), no_bit _ _ _ _ c.before.before.before.before.requires.1 (λ i. lists_other _ i _ c.if1.true))
 
 value-opens-requires : tie.Need-value-opens-requires
 value-opens-requires c κs = search rules
@@ -17,17 +17,17 @@ value-opens-requires c κs = search rules
 returns-2 : tie.Need-returns-2
 returns-2 c =
     let shut = sym c.before.value-opens.ensures ∙ not-true _ c.if2.true in
-    (five-shut _ _ _ _ shut, no-bit _ _ _ _ c.before.before.before.before.before.before.requires.1 (λ i. lists-shut _ i _ c.before.before.if1.false shut))
+    (five_shut _ _ _ _ shut, no_bit _ _ _ _ c.before.before.before.before.before.before.requires.1 (λ i. lists_shut _ i _ c.before.before.if1.false shut))
 
 word-size-requires : tie.Need-word-size-requires
 word-size-requires c κs = search rules
 
 child-count-requires : tie.Need-child-count-requires
-child-count-requires c κs = (list-room _ _ c.before.before.before.if1.false (sym c.before.before.value-opens.ensures ∙ not-false _ c.before.if2.false)).0
+child-count-requires c κs = (list_room _ _ c.before.before.before.if1.false (sym c.before.before.value-opens.ensures ∙ not-false _ c.before.if2.false)).0
 
 survey-children-requires : tie.Need-survey-children-requires
 survey-children-requires c κs =
-    let room = list-room _ _ c.before.before.before.before.before.if1.false (sym c.before.before.before.before.value-opens.ensures ∙ not-false _ c.before.before.before.if2.false) in
+    let room = list_room _ _ c.before.before.before.before.before.if1.false (sym c.before.before.before.before.value-opens.ensures ∙ not-false _ c.before.before.before.if2.false) in
     ((c.before.before.before.before.before.before.before.before.before.requires.0, omega (arith, room.1, c.before.child-count.ensures, c.before.before.word_size.ensures.0)), c.before.before.before.before.before.before.before.before.before.requires.1)
 
 same_length : tie.Need-same-length
@@ -39,8 +39,8 @@ returns-3 c =
     let list = c.before.before.before.before.before.before.before.before.if1.false in
     let start = c.before.before.before.before.before.word_size.ensures.0 in
     let count = c.before.before.before.before.child-count.ensures in (
-      children-all _ _ _ _ list start count c.before.before.survey-children.ensures.0 ∙ five-open _ _ _ _ opens,
-      as-listed _ _ _ _ _ _ (λ i. lists-open _ i _ list opens start count) c.before.before.survey-children.ensures.1,
+      children_all _ _ _ _ list start count c.before.before.survey-children.ensures.0 ∙ five_open _ _ _ _ opens,
+      as_listed _ _ _ _ _ _ (λ i. lists_open _ i _ list opens start count) c.before.before.survey-children.ensures.1,
     )
 
 pub survey-container-spec : {M : Type 1} → statement M

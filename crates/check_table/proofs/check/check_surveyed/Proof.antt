@@ -1,16 +1,16 @@
 -- `check_table::check::check_surveyed` meets its contract: what the search has still to say from here is what it had to say from the start.
 use mathlib.Core.Path.{◌≡◌, refl, sym, ap, ◌∙◌}
 use Prim.Native.Nat.{◌-◌, ◌≤◌}
-use Rattle.read_find.specs.Find.{mannerOf}
-use Rattle.check_rules.specs.Rules.{firstBroken, brokenRule, explained, checkIn}
-use Rattle.check_rules.proofs.RuleLaws.{broken-start, broken-here, broken-later, broken-over}
+use Rattle.read_find.specs.Find.{manner_of}
+use Rattle.check_rules.specs.Rules.{first_broken, broken_rule, explained, check_in}
+use Rattle.check_rules.proofs.RuleLaws.{broken-start, broken_here, broken_later, broken_over}
 use Rattle.check_rules.proofs.SurveyLaws.{passes_on}
 use borrow.Author.Rules.{rules}
 use Rattle.check_table.proofs.check.check_surveyed.Statement.{statement}
 use Rattle.check_table.proofs.check.check_surveyed.Tie as tie
 
 abbrev invariant-loop : tie.invariant-loop
-invariant-loop file table stop bits manner count at₀ at = (at ≤ stop) × (explained file table (firstBroken (brokenRule (mannerOf manner) file table) (table.count - at) at) ≡ checkIn (mannerOf manner) file table)
+invariant-loop file table stop bits manner count at₀ at = (at ≤ stop) × (explained file table (first_broken (broken_rule (manner_of manner) file table) (table.count - at) at) ≡ check_in (manner_of manner) file table)
 
 abbrev decreases-loop : tie.decreases-loop
 decreases-loop file table stop bits manner count at₀ at = table.count - at
@@ -26,7 +26,7 @@ explain-requires c κs = (c.before.before.before.before.before.before.requires.0
 
 returns : tie.Need-returns invariant-loop decreases-loop
 returns c =
-    c.explain.ensures ∙ ap (explained _ _) (broken-here (brokenRule _ _ _) _ _ c.before.before.before.loop-test.true c.before.before.broken-rule.ensures c.before.if1.true)
+    c.explain.ensures ∙ ap (explained _ _) (broken_here (broken_rule _ _ _) _ _ c.before.before.before.loop-test.true c.before.before.broken-rule.ensures c.before.if1.true)
     ∙ c.before.before.before.before.loop.invariant.1
 
 add_at : tie.Need-overflow-add-at invariant-loop decreases-loop
@@ -39,12 +39,12 @@ loop-again : tie.Need-loop-preserved invariant-loop decreases-loop
 loop-again c =
     let found = c.before.broken-rule.ensures in (
       passes_on _ _ c.before.before.before.before.before.before.requires.1 c.before.before.loop-test.true refl _ c.before.before.before.loop.invariant.0 (sym found ∙ c.if1.false),
-      ap (explained _ _) (broken-later (brokenRule _ _ _) _ _ c.before.before.loop-test.true found c.if1.false) ∙ c.before.before.before.loop.invariant.1,
+      ap (explained _ _) (broken_later (broken_rule _ _ _) _ _ c.before.before.loop-test.true found c.if1.false) ∙ c.before.before.before.loop.invariant.1,
     )
 
 returns-2 : tie.Need-returns-2 invariant-loop decreases-loop
 unfolding explained
-returns-2 c = ap (explained _ _) (sym (broken-over (brokenRule _ _ _) _ _ c.loop-test.false)) ∙ c.before.loop.invariant.1
+returns-2 c = ap (explained _ _) (sym (broken_over (broken_rule _ _ _) _ _ c.loop-test.false)) ∙ c.before.loop.invariant.1
 
 pub check-surveyed-spec : {M : Type 1} → statement M
 check-surveyed-spec =

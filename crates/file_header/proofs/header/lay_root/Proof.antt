@@ -1,5 +1,5 @@
 -- `file_header::header::lay_root` meets its contract: four words behind one another are one store.
-use Rattle.file_header.proofs.HeaderLaws.{put-root}
+use Rattle.file_header.proofs.HeaderLaws.{put_root}
 use borrow.Author.Rules.{rules}
 use Rattle.file_header.proofs.header.lay_root.Statement.{statement}
 use Rattle.file_header.proofs.header.lay_root.Tie as tie
@@ -22,7 +22,7 @@ same_length c = search rules
 returns : tie.Need-returns
 returns c =
     let args = c.before.before.before.before.before.before.before.before.before.before.before.before.before.before.before.before.before.args in
-    put-root args.target.now args.start args.end c.before.before.before.before.before.before.before.before.before.before.before.before.before.before.put_word.ensures c.before.before.before.before.before.before.before.before.before.before.put-word2.ensures c.before.before.before.before.before.before.put-word3.ensures c.before.before.put-word4.ensures
+    put_root args.target.now args.start args.end c.before.before.before.before.before.before.before.before.before.before.before.before.before.before.put_word.ensures c.before.before.before.before.before.before.before.before.before.before.put-word2.ensures c.before.before.before.before.before.before.put-word3.ensures c.before.before.put-word4.ensures
 
 pub lay-root-spec : {M : Type 1} → statement M
 lay-root-spec =

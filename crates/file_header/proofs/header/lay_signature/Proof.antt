@@ -1,7 +1,7 @@
 -- `file_header::header::lay_signature` meets its contract: in each order two words are the eight bytes.
 use mathlib.Core.Path.{ap, ◌∙◌}
 use Rattle.file_header.specs.Header.{signature}
-use Rattle.file_header.proofs.HeaderLaws.{put-signature, little-words, big-words}
+use Rattle.file_header.proofs.HeaderLaws.{put-signature, little_words, big_words}
 use borrow.Author.Rules.{rules}
 use Rattle.file_header.proofs.header.lay_signature.Statement.{statement}
 use Rattle.file_header.proofs.header.lay_signature.Tie as tie
@@ -30,7 +30,7 @@ same_length c = search rules
 returns : tie.Need-returns
 returns c =
     let args = c.before.before.before.before.before.before.before.before.before.before.before.args in
-    put-signature _ 0x72615647 0x746E6169 (ap signature c.before.before.before.before.before.before.before.before.enum_told.given.1 ∙ little-words) args.target.now c.before.before.before.before.before.before.put_word.ensures c.before.before.put-word2.ensures
+    put-signature _ 0x72615647 0x746E6169 (ap signature c.before.before.before.before.before.before.before.before.enum_told.given.1 ∙ little_words) args.target.now c.before.before.before.before.before.before.put_word.ensures c.before.before.put-word2.ensures
 
 same-length-2 : tie.Need-same-length-2
 same-length-2 c = search rules
@@ -38,7 +38,7 @@ same-length-2 c = search rules
 returns-2 : tie.Need-returns-2
 returns-2 c =
     let args = c.before.before.before.before.before.before.before.before.before.before.before.args in
-    put-signature _ 0x47566172 0x69616E74 (ap signature c.before.before.before.before.before.before.before.before.enum-told2.given.1 ∙ big-words) args.target.now c.before.before.before.before.before.before.put-word3.ensures c.before.before.put-word4.ensures
+    put-signature _ 0x47566172 0x69616E74 (ap signature c.before.before.before.before.before.before.before.before.enum-told2.given.1 ∙ big_words) args.target.now c.before.before.before.before.before.before.put-word3.ensures c.before.before.put-word4.ensures
 
 pub lay-signature-spec : {M : Type 1} → statement M
 lay-signature-spec =

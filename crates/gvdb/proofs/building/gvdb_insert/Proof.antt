@@ -1,6 +1,6 @@
 -- `gvdb::building::gvdb_insert` meets its contract: the insert's answer as numbers, and its memory.
 use mathlib.Core.Path.{ap}
-use Rattle.answers_build.specs.Building.{told, insertedAnswer}
+use Rattle.answers_build.specs.Building.{told, inserted_answer}
 use borrow.Author.Rules.{rules}
 use Rattle.gvdb.proofs.building.gvdb_insert.Statement.{statement}
 use Rattle.gvdb.proofs.building.gvdb_insert.Tie as tie
@@ -19,7 +19,7 @@ same-length-2 c = search rules
 
 returns : tie.Need-returns
 unfolding told
-returns c = rw c.inserted-of.ensures (ap (told insertedAnswer) c.before.before.before.before.before.insert-value.ensures)
+returns c = rw c.inserted-of.ensures (ap (told inserted_answer) c.before.before.before.before.before.insert_value.ensures)
 
 pub gvdb-insert-spec : {M : Type 1} → statement M
 gvdb-insert-spec =

@@ -1,6 +1,6 @@
 -- `gvdb::building::gvdb_insert_table` meets its contract: the insert's answer as numbers, and its memory.
 use mathlib.Core.Path.{ap}
-use Rattle.answers_build.specs.Building.{told, insertedAnswer}
+use Rattle.answers_build.specs.Building.{told, inserted_answer}
 use borrow.Author.Rules.{rules}
 use Rattle.gvdb.proofs.building.gvdb_insert_table.Statement.{statement}
 use Rattle.gvdb.proofs.building.gvdb_insert_table.Tie as tie
@@ -19,7 +19,7 @@ same-length-2 c = search rules
 
 returns : tie.Need-returns
 unfolding told
-returns c = rw c.inserted-of.ensures (ap (told insertedAnswer) c.before.before.before.before.before.insert-table.ensures)
+returns c = rw c.inserted-of.ensures (ap (told inserted_answer) c.before.before.before.before.before.insert_table.ensures)
 
 pub gvdb-insert-table-spec : {M : Type 1} → statement M
 gvdb-insert-table-spec =

@@ -1,6 +1,6 @@
 -- `gvdb::reading::gvdb_get` meets its contract: the lookup's answer as numbers.
 use mathlib.Core.Path.{ap, ◌∙◌}
-use Rattle.answers.specs.Reading.{lookedAnswer}
+use Rattle.answers.specs.Reading.{looked_answer}
 use borrow.Author.Rules.{rules}
 use Rattle.gvdb.proofs.reading.gvdb_get.Statement.{statement}
 use Rattle.gvdb.proofs.reading.gvdb_get.Tie as tie
@@ -15,7 +15,7 @@ looked-of-requires : tie.Need-looked-of-requires
 looked-of-requires c κs = search rules
 
 returns : tie.Need-returns
-returns c = rw (← c.before.before.manner-of.ensures) (c.looked-of.ensures ∙ ap lookedAnswer c.before.lookup-value.ensures)
+returns c = rw (← c.before.before.manner-of.ensures) (c.looked-of.ensures ∙ ap looked_answer c.before.lookup-value.ensures)
 
 pub gvdb-get-spec : {M : Type 1} → statement M
 gvdb-get-spec = tie.close (tie.spec manner-of-requires lookup-value-requires looked-of-requires returns)

@@ -1,6 +1,6 @@
 -- `gvdb::reading::gvdb_next_child` meets its contract: the listing's answer as numbers.
 use mathlib.Core.Path.{ap, ◌∙◌}
-use Rattle.answers.specs.Reading.{childedAnswer}
+use Rattle.answers.specs.Reading.{childed_answer}
 use borrow.Author.Rules.{rules}
 use Rattle.gvdb.proofs.reading.gvdb_next_child.Statement.{statement}
 use Rattle.gvdb.proofs.reading.gvdb_next_child.Tie as tie
@@ -15,7 +15,7 @@ childed-of-requires : tie.Need-childed-of-requires
 childed-of-requires c κs = search rules
 
 returns : tie.Need-returns
-returns c = rw (← c.before.before.manner-of.ensures) (c.childed-of.ensures ∙ ap childedAnswer c.before.next-child.ensures)
+returns c = rw (← c.before.before.manner-of.ensures) (c.childed-of.ensures ∙ ap childed_answer c.before.next-child.ensures)
 
 pub gvdb-next-child-spec : {M : Type 1} → statement M
 gvdb-next-child-spec =

@@ -1,6 +1,6 @@
 -- `key_hash::hash::byte_counts` meets its contract: one law for each case.
 use Rattle.std.proofs.Common.{arith, rules}
-use Rattle.key_hash.proofs.HashLaws.{counts-plain, counts-signed}
+use Rattle.key_hash.proofs.HashLaws.{counts_plain, counts_signed}
 use Rattle.key_hash.proofs.hash.byte_counts.Statement.{statement}
 use Rattle.key_hash.proofs.hash.byte_counts.Tie as tie
 
@@ -20,10 +20,10 @@ wrapping-add-u32-requires : tie.Need-wrapping-add-u32-requires
 wrapping-add-u32-requires c κs = search rules
 
 returns : tie.Need-returns
-returns c = (counts-plain _ c.enum_told.given.1 c.before.before.byte_word.ensures.0, search rules)
+returns c = (counts_plain _ c.enum_told.given.1 c.before.before.byte_word.ensures.0, search rules)
 
 returns-2 : tie.Need-returns-2
-returns-2 c = (counts-signed _ c.before.enum-told2.given.1 c.before.before.before.byte_word.ensures.0 c.before.before.before.byte_word.ensures.1 c.wrapping-add-u32.ensures, search rules)
+returns-2 c = (counts_signed _ c.before.enum-told2.given.1 c.before.before.before.byte_word.ensures.0 c.before.before.before.byte_word.ensures.1 c.wrapping-add-u32.ensures, search rules)
 
 pub byte-counts-spec : {M : Type 1} → statement M
 byte-counts-spec =

@@ -1,5 +1,5 @@
 -- `key_hash::hash::djb_hash` meets its contract: the hash goes on from 5381.
-use Rattle.key_hash.specs.Hash.{hashBy}
+use Rattle.key_hash.specs.Hash.{hash_by}
 use Rattle.std.proofs.Common.{rules}
 use Rattle.key_hash.proofs.hash.djb_hash.Statement.{statement}
 use Rattle.key_hash.proofs.hash.djb_hash.Tie as tie
@@ -8,7 +8,7 @@ hash-on-requires : tie.Need-hash-on-requires
 hash-on-requires c κs = search rules
 
 returns : tie.Need-returns
-unfolding hashBy
+unfolding hash_by
 returns c = c.hash-on.ensures
 
 pub djb-hash-spec : {M : Type 1} → statement M

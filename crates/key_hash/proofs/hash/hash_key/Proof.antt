@@ -1,5 +1,5 @@
 -- `key_hash::hash::hash_key` meets its contract: in either form the hash goes on from 5381.
-use Rattle.key_hash.specs.Hash.{hashBy}
+use Rattle.key_hash.specs.Hash.{hash_by}
 use Rattle.std.proofs.Common.{rules}
 use Rattle.key_hash.proofs.hash.hash_key.Statement.{statement}
 use Rattle.key_hash.proofs.hash.hash_key.Tie as tie
@@ -20,7 +20,7 @@ returns : tie.Need-returns
 returns c = rw c.before.enum_told.given.1 c.djb-hash.ensures
 
 returns-2 : tie.Need-returns-2
-unfolding hashBy
+unfolding hash_by
 returns-2 c = rw c.before.enum-told2.given.1 c.hash-on.ensures
 
 pub hash-key-spec : {M : Type 1} → statement M

@@ -1,13 +1,13 @@
 -- `key_hash::hash::hash_on` meets its contract. The loop's invariant: the hash is what goes on from `value` over the bytes left.
 use Rattle.std.proofs.Common.{◌≡◌, ℕ, ◌+◌, ◌-◌, ◌*◌, ◌/◌, ◌%◌, ◌≤◌, length, drop, sym, refl, ap, ◌∙◌, arith, length-drop, take_all, rules}
-use Rattle.key_hash.specs.Hash.{hashFrom, ruleOf}
-use Rattle.key_hash.proofs.HashLaws.{hash-stride}
+use Rattle.key_hash.specs.Hash.{hash_from, rule_of}
+use Rattle.key_hash.proofs.HashLaws.{hash_stride}
 use Rattle.key_hash.proofs.hash.hash_on.Statement.{statement}
 use Rattle.key_hash.proofs.hash.hash_on.Tie as tie
 
 abbrev invariant-loop : tie.invariant-loop
 invariant-loop start bytes form strides value₀ i₀ value i =
-    (strides ≡ length bytes / 4 * 4) × (i ≤ strides) × (i % 4 ≡ 0) × (hashFrom (ruleOf form) start bytes ≡ hashFrom (ruleOf form) value (drop i bytes))
+    (strides ≡ length bytes / 4 * 4) × (i ≤ strides) × (i % 4 ≡ 0) × (hash_from (rule_of form) start bytes ≡ hash_from (rule_of form) value (drop i bytes))
 
 abbrev decreases-loop : tie.decreases-loop
 decreases-loop start bytes form strides value₀ i₀ value i = strides - i
@@ -67,7 +67,7 @@ loop-again c =
       omega arith,
       omega arith,
       at.loop.invariant.3
-          ∙ hash-stride
+          ∙ hash_stride
           _
           at.before.before.args.bytes.now
           at.loop.i
@@ -97,7 +97,7 @@ returns c =
     let at = c.before.before.before in
     let bytes = at.before.before.args.bytes.now in
     let i = at.loop.i in
-    c.hash-tail.ensures ∙ ap (hashFrom _ at.loop.value) (take_all (length bytes - i) (drop i bytes) (omega (arith, length-drop i bytes))) ∙ sym at.loop.invariant.3
+    c.hash-tail.ensures ∙ ap (hash_from _ at.loop.value) (take_all (length bytes - i) (drop i bytes) (omega (arith, length-drop i bytes))) ∙ sym at.loop.invariant.3
 
 pub hash-on-spec : {M : Type 1} → statement M
 hash-on-spec =

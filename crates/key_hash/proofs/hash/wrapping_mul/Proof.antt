@@ -1,11 +1,11 @@
 -- `key_hash::hash::wrapping_mul` meets its contract: the product of two numbers of 32 bits fits in 64.
-use Rattle.key_hash.proofs.HashLaws.{product-fits}
+use Rattle.key_hash.proofs.HashLaws.{product_fits}
 use Rattle.std.proofs.Common.{rules}
 use Rattle.key_hash.proofs.hash.wrapping_mul.Statement.{statement}
 use Rattle.key_hash.proofs.hash.wrapping_mul.Tie as tie
 
 mul_wide : tie.Need-overflow-mul-wide
-mul_wide c = record { fits = product-fits (search rules) (search rules) }
+mul_wide c = record { fits = product_fits (search rules) (search rules) }
 
 cast-result : tie.Need-overflow-cast-result
 cast-result c = search rules

@@ -1,12 +1,12 @@
 -- `key_order::compare::same_bytes` meets its contract, by that of the function for its length.
 use mathlib.Core.Path.{sym}
-use Rattle.key_order.proofs.CompareLaws.{same-lengths}
+use Rattle.key_order.proofs.CompareLaws.{same_lengths}
 use borrow.Author.Rules.{rules}
 use Rattle.key_order.proofs.compare.same_bytes.Statement.{statement}
 use Rattle.key_order.proofs.compare.same_bytes.Tie as tie
 
 returns : tie.Need-returns
-returns c = sym (same-lengths _ _ c.if1.true)
+returns c = sym (same_lengths _ _ c.if1.true)
 
 same-long-requires : tie.Need-same-long-requires
 same-long-requires c κs = search rules

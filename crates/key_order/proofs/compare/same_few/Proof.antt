@@ -1,7 +1,7 @@
 -- `key_order::compare::same_few` meets its contract: two halves, no byte or one.
 use mathlib.Core.Path.{sym}
 use native.Mathlib.Omega.{arith}
-use Rattle.key_order.proofs.CompareLaws.{same_none, same-one}
+use Rattle.key_order.proofs.CompareLaws.{same_none, same_one}
 use borrow.Author.Rules.{rules}
 use Rattle.key_order.proofs.compare.same_few.Statement.{statement}
 use Rattle.key_order.proofs.compare.same_few.Tie as tie
@@ -26,7 +26,7 @@ shared-slice-read-result-2 c = search rules
 returns-3 : tie.Need-returns-3
 returns-3 c =
     let start = c.before.before.before.before.before.before in
-    same-one start.args.a.now start.args.b.now start.requires.0 (omega arith)
+    same_one start.args.a.now start.args.b.now start.requires.0 (omega arith)
 
 pub same-few-spec : {M : Type 1} → statement M
 same-few-spec =

@@ -4,7 +4,7 @@ use Prim.Native.Nat.{ℕ, ◌-◌, ◌≤◌, ◌<◌}
 use native.Mathlib.Omega.{arith}
 use borrow.Author.Rules.{rules}
 use lib.ListN.{length, take, get_or}
-use Rattle.key_order.proofs.CompareLaws.{same-little-endian, same_turn, same-last}
+use Rattle.key_order.proofs.CompareLaws.{same_little_endian, same_turn, same_last}
 use Rattle.key_order.proofs.compare.same_long.Statement.{statement}
 use Rattle.key_order.proofs.compare.same_long.Tie as tie
 
@@ -30,7 +30,7 @@ returns : tie.Need-returns invariant-loop decreases-loop
 returns c =
     let loop = c.before.before.before.before in
     let args = loop.before.before.before.args in
-    sym (same-little-endian 8 args.a.now args.b.now loop.loop.i
+    sym (same_little_endian 8 args.a.now args.b.now loop.loop.i
     (λ e. c.if1.true (c.before.before.long-at.ensures ∙ e ∙ sym c.before.long-at2.ensures)))
 
 add-i : tie.Need-overflow-add-i invariant-loop decreases-loop
@@ -67,7 +67,7 @@ returns-2 c =
     let bytes-a : (i : ℕ) → get_or a i 0 < 256 = λ i. omega (arith, loop.before.before.shared-slice-known.given i) in
     let bytes-b : (i : ℕ) → get_or b i 0 < 256 = λ i. omega (arith, loop.before.shared-slice-known2.given i) in
     rw (c.before.long-at3.ensures, c.long-at4.ensures)
-    (same-last 8 a b bytes-a bytes-b loop.loop.i (length a - 8) (omega arith) start.requires.0 (omega arith) loop.loop.invariant.1)
+    (same_last 8 a b bytes-a bytes-b loop.loop.i (length a - 8) (omega arith) start.requires.0 (omega arith) loop.loop.invariant.1)
 
 pub same-long-spec : {M : Type 1} → statement M
 same-long-spec =

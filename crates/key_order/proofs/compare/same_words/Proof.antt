@@ -1,8 +1,8 @@
--- `key_order::compare::same_words` meets its contract: two stretches cover the texts (`same-two`).
+-- `key_order::compare::same_words` meets its contract: two stretches cover the texts (`same_two`).
 use Prim.Native.Nat.{ℕ, ◌-◌, ◌<◌}
 use native.Mathlib.Omega.{arith}
 use lib.ListN.{length, get_or}
-use Rattle.key_order.proofs.CompareLaws.{same-two}
+use Rattle.key_order.proofs.CompareLaws.{same_two}
 use borrow.Author.Rules.{rules}
 use Rattle.key_order.proofs.compare.same_words.Statement.{statement}
 use Rattle.key_order.proofs.compare.same_words.Tie as tie
@@ -30,7 +30,7 @@ returns c =
     let bytes-a : (i : ℕ) → get_or a i 0 < 256 = λ i. omega (arith, c.before.before.before.before.before.shared-slice-known.given i) in
     let bytes-b : (i : ℕ) → get_or b i 0 < 256 = λ i. omega (arith, c.before.before.before.before.shared-slice-known2.given i) in
     rw (c.before.before.before.word_at.ensures, c.before.before.word-at2.ensures, c.before.word-at3.ensures, c.word-at4.ensures)
-    (same-two 4 a b bytes-a bytes-b (length a - 4) (omega arith) start.requires.0 (omega arith))
+    (same_two 4 a b bytes-a bytes-b (length a - 4) (omega arith) start.requires.0 (omega arith))
 
 pub same-words-spec : {M : Type 1} → statement M
 same-words-spec =

@@ -5,7 +5,7 @@ use native.Mathlib.Omega.{arith}
 use borrow.Author.Rules.{rules}
 use lib.ListN.{length, drop}
 use Rattle.key_order.specs.Order.{precedes}
-use Rattle.key_order.proofs.OrderLaws.{front_same, turn-less, turn_more, turn-same, end-left, end-right}
+use Rattle.key_order.proofs.OrderLaws.{front_same, turn_less, turn_more, turn_same, end_left, end_right}
 use Rattle.key_order.proofs.keyorder.less.Statement.{statement}
 use Rattle.key_order.proofs.keyorder.less.Tie as tie
 
@@ -28,7 +28,7 @@ returns : tie.Need-returns invariant-loop decreases-loop
 returns c =
     let at = c.before.before in
     let args = at.before.before.before.before.args in
-    sym (at.loop.invariant.2 ∙ end-right args.a.now args.b.now at.loop.i (omega arith) (omega arith))
+    sym (at.loop.invariant.2 ∙ end_right args.a.now args.b.now at.loop.i (omega arith) (omega arith))
 
 shared-slice-read-if2 : tie.Need-shared-slice-read-if2 invariant-loop decreases-loop
 shared-slice-read-if2 c = search rules
@@ -40,7 +40,7 @@ returns-2 : tie.Need-returns-2 invariant-loop decreases-loop
 returns-2 c =
     let at = c.before.before.before.before.before in
     let args = at.before.before.before.before.args in
-    sym (at.loop.invariant.2 ∙ turn-less args.a.now args.b.now at.loop.i (omega arith) (omega arith) c.if2.true)
+    sym (at.loop.invariant.2 ∙ turn_less args.a.now args.b.now at.loop.i (omega arith) (omega arith) c.if2.true)
 
 shared-slice-read-if3 : tie.Need-shared-slice-read-if3 invariant-loop decreases-loop
 shared-slice-read-if3 c = search rules
@@ -64,13 +64,13 @@ loop-again : tie.Need-loop-preserved invariant-loop decreases-loop
 loop-again c =
     let at = c.before.before.before.before.before.before.before.before in
     let args = at.before.before.before.before.args in
-    (omega arith, omega arith, at.loop.invariant.2 ∙ turn-same args.a.now args.b.now at.loop.i (omega arith) (omega arith) (omega arith))
+    (omega arith, omega arith, at.loop.invariant.2 ∙ turn_same args.a.now args.b.now at.loop.i (omega arith) (omega arith) (omega arith))
 
 returns-4 : tie.Need-returns-4 invariant-loop decreases-loop
 returns-4 c =
     let at = c.before in
     let args = at.before.before.before.before.args in
-    sym (at.loop.invariant.2 ∙ end-left args.a.now args.b.now at.loop.i (omega arith) (omega arith))
+    sym (at.loop.invariant.2 ∙ end_left args.a.now args.b.now at.loop.i (omega arith) (omega arith))
 
 pub less-spec : {M : Type 1} → statement M
 less-spec =

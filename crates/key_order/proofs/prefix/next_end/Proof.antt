@@ -1,6 +1,6 @@
 -- `key_order::prefix::next_end` meets its contract. The invariant: no separator stands from `from` up to i.
-use Rattle.key_order.proofs.PrefixLaws.{next_here, next-later, next-end}
-use Rattle.key_order.specs.Prefix.{nextEnd}
+use Rattle.key_order.proofs.PrefixLaws.{next_here, next_later, next_end_lem}
+use Rattle.key_order.specs.Prefix.{next_end}
 use lib.ListN.{length}
 use native.Mathlib.Omega.{arith}
 use Prim.Native.Nat.{◌≤◌, ◌-◌}
@@ -9,7 +9,7 @@ use Rattle.key_order.proofs.prefix.next_end.Statement.{statement}
 use Rattle.key_order.proofs.prefix.next_end.Tie as tie
 
 abbrev invariant-loop : tie.invariant-loop
-invariant-loop key from sep i₀ i = (from ≤ i) × (i ≤ length key) × (nextEnd sep key from ≡ nextEnd sep key i)
+invariant-loop key from sep i₀ i = (from ≤ i) × (i ≤ length key) × (next_end sep key from ≡ next_end sep key i)
 
 abbrev decreases-loop : tie.decreases-loop
 decreases-loop key from sep i₀ i = length key - i
@@ -44,14 +44,14 @@ loop-again c =
     let l = c.before.before.before.before.loop in (
       omega arith,
       omega arith,
-      l.invariant.2 ∙ next-later a.sep a.key.now l.i c.before.before.before.loop-test.true (λ e. c.if1.false (c.before.byte-size.ensures.0 ∙ e)),
+      l.invariant.2 ∙ next_later a.sep a.key.now l.i c.before.before.before.loop-test.true (λ e. c.if1.false (c.before.byte-size.ensures.0 ∙ e)),
     )
 
 returns-2 : tie.Need-returns-2 invariant-loop decreases-loop
 returns-2 c =
     let a = c.before.before.before.args in
     let l = c.before.loop in
-    (next-end a.sep a.key.now l.i c.loop-test.false ∙ sym l.invariant.2, omega arith)
+    (next_end_lem a.sep a.key.now l.i c.loop-test.false ∙ sym l.invariant.2, omega arith)
 
 pub next-end-spec : {M : Type 1} → statement M
 next-end-spec =

@@ -1,6 +1,6 @@
 -- `layout::refusal::bad_at` meets its contract: the arms that bind by their variant, the rest by what is left.
 use mathlib.Core.Path.{◌≡◌, refl, sym, ap}
-use Rattle.layout.specs.Refusal.{badAt}
+use Rattle.layout.specs.Refusal.{bad_at}
 use Prim.Native.Nat.{ℕ}
 use mathlib.Core.List.{List, [], ◌∷◌}
 use denote.Enum.Declared.{tag_of}
@@ -16,7 +16,7 @@ use Rattle.layout.proofs.refusal.bad_at.Tie as tie
 abbrev others : List ℕ
 others = 0 ∷ 1 ∷ 2 ∷ 3 ∷ 4 ∷ 5 ∷ 6 ∷ 9 ∷ 10 ∷ 11 ∷ 12 ∷ 13 ∷ 14 ∷ 15 ∷ 16 ∷ 17 ∷ 18 ∷ 19 ∷ 20 ∷ 21 ∷ 22 ∷ 23 ∷ 24 ∷ 25 ∷ 26 ∷ 27 ∷ 28 ∷ 29 ∷ 30 ∷ 31 ∷ 32 ∷ 33 ∷ 34 ∷ []
 
-no-offset : (why : Refusal) → OneOf others (tag_of the_type why) → 0 ≡ badAt why
+no-offset : (why : Refusal) → OneOf others (tag_of the_type why) → 0 ≡ bad_at why
 no-offset FileTooLong h = refl
 no-offset PointerOutside h = refl
 no-offset Misaligned h = refl
@@ -60,10 +60,10 @@ enum-known-why-2 : tie.Need-enum-known-why-2
 enum-known-why-2 c = search rules
 
 returns : tie.Need-returns
-returns c = sym (ap badAt c.before.why.given.1)
+returns c = sym (ap bad_at c.before.why.given.1)
 
 returns-2 : tie.Need-returns-2
-returns-2 c = sym (ap badAt c.before.why2.given.1)
+returns-2 c = sym (ap bad_at c.before.why2.given.1)
 
 returns-3 : tie.Need-returns-3
 returns-3 c = no-offset c.before.args.why c.match.keys3

@@ -2,14 +2,14 @@
 use mathlib.Core.Path.{sym, ◌∙◌}
 use borrow.Author.Tests.{lt-ltb, le-ltb}
 use Rattle.words.specs.Choice.{pick}
-use Rattle.layout.specs.Table.{openTable}
-use Rattle.layout.proofs.OpenLaws.{pointer-inside}
+use Rattle.layout.specs.Table.{open_table}
+use Rattle.layout.proofs.OpenLaws.{pointer_inside}
 use borrow.Author.Rules.{rules}
 use Rattle.layout.proofs.table.open_table.Statement.{statement}
 use Rattle.layout.proofs.table.open_table.Tie as tie
 
 returns : tie.Need-returns
-unfolding openTable pick
+unfolding open_table pick
 returns c = simp (lt-ltb _ _ c.if1.true)
 
 open-pointer-requires : tie.Need-open-pointer-requires
@@ -22,14 +22,14 @@ enum_told : tie.Need-enum-told
 enum_told c = search rules
 
 table-in-requires : tie.Need-table-in-requires
-table-in-requires c κs = pointer-inside _ _ _ _ (sym c.before.before.open-pointer.ensures ∙ c.enum_told.given.1)
+table-in-requires c κs = pointer_inside _ _ _ _ (sym c.before.before.open-pointer.ensures ∙ c.enum_told.given.1)
 
 returns-2 : tie.Need-returns-2
-unfolding openTable pick
+unfolding open_table pick
 returns-2 c = simp (le-ltb _ _ c.before.before.before.before.if1.false, sym c.before.before.before.open-pointer.ensures ∙ c.before.why.given.1)
 
 returns-3 : tie.Need-returns-3
-unfolding openTable pick
+unfolding open_table pick
 returns-3 c =
     simp (le-ltb _ _ c.before.before.before.before.if1.false, sym c.before.before.before.open-pointer.ensures ∙ c.before.enum_told.given.1)
     c.table-in.ensures

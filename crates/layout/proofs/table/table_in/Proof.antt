@@ -2,8 +2,8 @@
 use mathlib.Core.Path.{ap, ◌∙◌}
 use borrow.Author.Tests.{lt-ltb, le-ltb, eq-eqb, ne_eqb}
 use Rattle.words.specs.Choice.{pick}
-use Rattle.words.specs.Bits.{bloomCount}
-use Rattle.layout.specs.Table.{tableIn, table_of}
+use Rattle.words.specs.Bits.{bloom_count}
+use Rattle.layout.specs.Table.{table_in, table_of}
 use borrow.Author.Rules.{rules}
 use Rattle.layout.proofs.table.table_in.Statement.{statement}
 use Rattle.layout.proofs.table.table_in.Tie as tie
@@ -12,7 +12,7 @@ sub-size : tie.Need-overflow-sub-size
 sub-size c = search rules
 
 returns : tie.Need-returns
-unfolding tableIn pick
+unfolding table_in pick
 returns c = simp (lt-ltb _ _ c.if1.true)
 
 word-at-requires : tie.Need-word-at-requires
@@ -40,10 +40,10 @@ add-buckets-from : tie.Need-overflow-add-buckets-from
 add-buckets-from c = search rules
 
 returns-2 : tie.Need-returns-2
-unfolding tableIn table_of pick
+unfolding table_in table_of pick
 returns-2 c =
     let w = c.before in
-    let blooms = w.before.before.word_size.ensures.0 ∙ w.before.before.before.bloom-count.ensures ∙ ap bloomCount w.before.before.before.before.word_at.ensures in
+    let blooms = w.before.before.word_size.ensures.0 ∙ w.before.before.before.bloom-count.ensures ∙ ap bloom_count w.before.before.before.before.word_at.ensures in
     let buckets = w.word-size2.ensures.0 ∙ w.before.word-at2.ensures in
     simp (le-ltb _ _ w.before.before.before.before.before.if1.false, ← blooms, ← buckets, lt-ltb _ _ c.if2.true)
 
@@ -54,18 +54,18 @@ add-items-from : tie.Need-overflow-add-items-from
 add-items-from c = search rules
 
 returns-3 : tie.Need-returns-3
-unfolding tableIn table_of pick
+unfolding table_in table_of pick
 returns-3 c =
     let w = c.before.before in
-    let blooms = w.before.before.word_size.ensures.0 ∙ w.before.before.before.bloom-count.ensures ∙ ap bloomCount w.before.before.before.before.word_at.ensures in
+    let blooms = w.before.before.word_size.ensures.0 ∙ w.before.before.before.bloom-count.ensures ∙ ap bloom_count w.before.before.before.before.word_at.ensures in
     let buckets = w.word-size2.ensures.0 ∙ w.before.word-at2.ensures in
     simp (le-ltb _ _ w.before.before.before.before.before.if1.false, ← blooms, ← buckets, le-ltb _ _ c.before.if2.false, lt-ltb _ _ c.if3.true)
 
 returns-4 : tie.Need-returns-4
-unfolding tableIn table_of pick
+unfolding table_in table_of pick
 returns-4 c =
     let w = c.before.before.before in
-    let blooms = w.before.before.word_size.ensures.0 ∙ w.before.before.before.bloom-count.ensures ∙ ap bloomCount w.before.before.before.before.word_at.ensures in
+    let blooms = w.before.before.word_size.ensures.0 ∙ w.before.before.before.bloom-count.ensures ∙ ap bloom_count w.before.before.before.before.word_at.ensures in
     let buckets = w.word-size2.ensures.0 ∙ w.before.word-at2.ensures in
     simp (le-ltb _ _ w.before.before.before.before.before.if1.false, ← blooms, ← buckets, le-ltb _ _ c.before.before.if2.false, le-ltb _ _ c.before.if3.false, ne_eqb _ _ c.if4.true)
 
@@ -73,10 +73,10 @@ add-t14 : tie.Need-overflow-add-t14
 add-t14 c = search rules
 
 returns-5 : tie.Need-returns-5
-unfolding tableIn table_of pick
+unfolding table_in table_of pick
 returns-5 c =
     let w = c.before.before.before in
-    let blooms = w.before.before.word_size.ensures.0 ∙ w.before.before.before.bloom-count.ensures ∙ ap bloomCount w.before.before.before.before.word_at.ensures in
+    let blooms = w.before.before.word_size.ensures.0 ∙ w.before.before.before.bloom-count.ensures ∙ ap bloom_count w.before.before.before.before.word_at.ensures in
     let buckets = w.word-size2.ensures.0 ∙ w.before.word-at2.ensures in
     simp (le-ltb _ _ w.before.before.before.before.before.if1.false, ← blooms, ← buckets, le-ltb _ _ c.before.before.if2.false, le-ltb _ _ c.before.if3.false, eq-eqb _ _ c.if4.false)
 

@@ -8,10 +8,10 @@ use Rattle.layout.proofs.item.item_at.Reads as item-at-reads
 use Rattle.layout.proofs.refusal.number_of.Reads as number-of-reads
 use Rattle.text.proofs.utf8.first_bad.Reads as first-bad-reads
 use Rattle.text.proofs.utf8.is_utf8.Reads as is-utf8-reads
-use Rattle.read_find.specs.Find.{mannerOf}
+use Rattle.read_find.specs.Find.{manner_of}
 use Rattle.read_find.proofs.FindLaws.{found_below}
 use Rattle.read_find.proofs.find.find_item.Reads as find-item-reads
-use Rattle.read.proofs.LookupLaws.{valueIn, looked-bad, looked-none, looked-some}
+use Rattle.read.proofs.LookupLaws.{value_in, looked_bad, looked_none, looked_some}
 use Rattle.read.proofs.LayeredLaws.{points, refuses, misses}
 use Rattle.read.proofs.lookup.value_of.Reads as value-of-reads
 use Rattle.read.proofs.layered.lookup_under.Reads as lookup-under-reads
@@ -28,7 +28,7 @@ first-bad-requires c κs = search rules
 
 returns : tie.Need-returns
 returns c =
-    refuses _ (looked-bad _ _ _ _ _ (sym c.before.before.is-utf8.ensures ∙ not-true _ c.before.if1.true) c.first-bad.ensures) refl refl (λ e. omega (arith, e))
+    refuses _ (looked_bad _ _ _ _ _ (sym c.before.before.is-utf8.ensures ∙ not-true _ c.before.if1.true) c.first-bad.ensures) refl refl (λ e. omega (arith, e))
 
 find-item-requires : tie.Need-find-item-requires
 find-item-requires c κs = (c.before.before.before.before.before.requires, sym c.before.is-utf8.ensures ∙ not-false _ c.if1.false)
@@ -47,12 +47,12 @@ value-of-requires c κs = search rules
 
 -- where both arms meet: what is found gives what the owner's table answers
 own_is : (c : lts.At-match-branch (is-utf8-reads.Asked, is-utf8-reads.Learnt, first-bad-reads.Asked, first-bad-reads.Learnt, find-item-reads.Asked, find-item-reads.Learnt, item-at-reads.Asked, item-at-reads.Learnt, value-of-reads.Asked, value-of-reads.Learnt, number-of-reads.Asked, number-of-reads.Learnt, lookup-under-reads.Asked, lookup-under-reads.Learnt) reads.Pre reads.Post)
-    → c.match.own ≡ valueIn (mannerOf c.before.before.before.before.before.before.before.args.omanner) c.before.before.before.before.before.before.before.args.owner.now c.before.before.before.before.before.before.before.args.table c.before.before.before.before.before.before.before.args.key.now
+    → c.match.own ≡ value_in (manner_of c.before.before.before.before.before.before.before.args.omanner) c.before.before.before.before.before.before.before.args.owner.now c.before.before.before.before.before.before.before.args.table c.before.before.before.before.before.before.before.args.key.now
 own_is c =
     let text = sym c.before.before.before.is-utf8.ensures ∙ not-false _ c.before.before.if1.false in
     ⊎_elim
-    (λ w. looked-none _ _ _ _ _ text c.before.find-item.ensures w.1.given.1 w.2)
-    (λ w. looked-some _ _ _ _ _ text c.before.find-item.ensures w.1.given.1 w.3.ensures (w.5 ∙ w.4.ensures))
+    (λ w. looked_none _ _ _ _ _ text c.before.find-item.ensures w.1.given.1 w.2)
+    (λ w. looked_some _ _ _ _ _ text c.before.find-item.ensures w.1.given.1 w.3.ensures (w.5 ∙ w.4.ensures))
     c.match.branch
 
 enum-known-own : tie.Need-enum-known-own

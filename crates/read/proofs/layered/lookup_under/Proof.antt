@@ -1,10 +1,10 @@
 -- `read::layered::lookup_under` meets its contract: what opening answers, 12, or the value of the item that is found.
 use mathlib.Core.Path.{refl, sym, ◌∙◌}
 use borrow.Author.Rules.{rules}
-use Rattle.layout.proofs.OpenLaws.{opened-in-file}
-use Rattle.read.specs.Lookup.{lookupValue, lookupItem, atOpened, atItem}
+use Rattle.layout.proofs.OpenLaws.{opened_in_file}
+use Rattle.read.specs.Lookup.{lookup_value, lookup_item, at_opened, at_item}
 use Rattle.read_find.proofs.FindLaws.{found_below}
-use Rattle.read.proofs.LookupLaws.{looked-none, looked-some}
+use Rattle.read.proofs.LookupLaws.{looked_none, looked_some}
 use Rattle.read.proofs.layered.lookup_under.Statement.{statement}
 use Rattle.read.proofs.layered.lookup_under.Tie as tie
 
@@ -18,7 +18,7 @@ enum-known-table : tie.Need-enum-known-table
 enum-known-table c = search rules
 
 find-item-requires : tie.Need-find-item-requires
-find-item-requires c κs = (opened-in-file _ _ _ (sym c.before.before.before.open-table.ensures ∙ c.before.table.given.1), c.before.before.before.before.before.before.requires)
+find-item-requires c κs = (opened_in_file _ _ _ (sym c.before.before.before.open-table.ensures ∙ c.before.table.given.1), c.before.before.before.before.before.before.requires)
 
 enum_told : tie.Need-enum-told
 enum_told c = search rules
@@ -29,26 +29,26 @@ enum-known-index c = search rules
 item-at-requires : tie.Need-item-at-requires
 item-at-requires c κs =
     let opens = c.before.before.before.before.before in
-    (opened-in-file _ _ _ (sym opens.before.before.open-table.ensures ∙ opens.table.given.1), found_below _ _ _ _ c.before.before.before.find-item.ensures c.before.index.given.1)
+    (opened_in_file _ _ _ (sym opens.before.before.open-table.ensures ∙ opens.table.given.1), found_below _ _ _ _ c.before.before.before.find-item.ensures c.before.index.given.1)
 
 value-of-requires : tie.Need-value-of-requires
 value-of-requires c κs = search rules
 
 returns : tie.Need-returns
-unfolding lookupValue lookupItem atOpened atItem
+unfolding lookup_value lookup_item at_opened at_item
 returns c = simp (sym c.before.before.before.open-table.ensures ∙ c.before.unopened.given.1)
 
 returns-2 : tie.Need-returns-2
-unfolding lookupValue lookupItem atOpened
+unfolding lookup_value lookup_item at_opened
 returns-2 c =
     simp (sym c.before.before.before.before.before.before.open-table.ensures ∙ c.before.before.before.before.table.given.1)
-    (looked-none _ _ _ _ _ c.before.before.before.before.before.before.before.before.before.requires c.before.before.find-item.ensures c.enum_told.given.1 refl)
+    (looked_none _ _ _ _ _ c.before.before.before.before.before.before.before.before.before.requires c.before.before.find-item.ensures c.enum_told.given.1 refl)
 
 returns-3 : tie.Need-returns-3
-unfolding lookupValue lookupItem atOpened
+unfolding lookup_value lookup_item at_opened
 returns-3 c =
     simp (sym c.before.before.before.before.before.before.before.before.before.open-table.ensures ∙ c.before.before.before.before.before.before.before.table.given.1)
-    (looked-some _ _ _ _ _ c.before.before.before.before.before.before.before.before.before.before.before.before.requires c.before.before.before.before.before.find-item.ensures c.before.before.before.index.given.1 c.before.item-at.ensures c.value-of.ensures)
+    (looked_some _ _ _ _ _ c.before.before.before.before.before.before.before.before.before.before.before.before.requires c.before.before.before.before.before.find-item.ensures c.before.before.before.index.given.1 c.before.item_at_lem.ensures c.value_of_lem.ensures)
 
 pub lookup-under-spec : {M : Type 1} → statement M
 lookup-under-spec =

@@ -5,7 +5,7 @@ use borrow.Author.Rules.{rules}
 use Rattle.words.specs.Choice.{pick}
 use Rattle.layout.specs.declared.refusal.Refusal.TheVariants.{KeyNotUtf8}
 use Rattle.read.specs.declared.lookup.Sought.{Sought}
-use Rattle.read.specs.Lookup.{lookupIn, atFound}
+use Rattle.read.specs.Lookup.{lookup_in, at_found}
 use Rattle.read_find.proofs.FindLaws.{found_below}
 use Rattle.read.proofs.lookup.lookup_in.Statement.{statement}
 use Rattle.read.proofs.lookup.lookup_in.Tie as tie
@@ -29,17 +29,17 @@ first-bad-requires : tie.Need-first-bad-requires
 first-bad-requires c κs = search rules
 
 returns : tie.Need-returns
-unfolding lookupIn atFound pick
+unfolding lookup_in at_found pick
 returns c = simp (sym c.before.before.before.before.is-utf8.ensures ∙ c.before.before.before.if1.true, sym c.before.before.find-item.ensures ∙ c.enum_told.given.1)
 
 returns-2 : tie.Need-returns-2
-unfolding lookupIn atFound pick
+unfolding lookup_in at_found pick
 returns-2 c =
     simp (sym c.before.before.before.before.before.before.is-utf8.ensures ∙ c.before.before.before.before.before.if1.true, sym c.before.before.before.before.find-item.ensures ∙ c.before.before.index.given.1)
-    (ap Sought.Item c.item-at.ensures)
+    (ap Sought.Item c.item_at_lem.ensures)
 
 returns-3 : tie.Need-returns-3
-unfolding lookupIn pick
+unfolding lookup_in pick
 returns-3 c = simp (sym c.before.before.is-utf8.ensures ∙ c.before.if1.false) (ap (λ (at : ℕ). Sought.Refused (KeyNotUtf8 at)) c.first-bad.ensures)
 
 pub lookup-in-spec : {M : Type 1} → statement M

@@ -1,8 +1,8 @@
 -- `read::lookup::lookup_table` meets its contract: what opening answers, and then the item.
 use mathlib.Core.Path.{sym, ◌∙◌}
 use borrow.Author.Rules.{rules}
-use Rattle.layout.proofs.OpenLaws.{opened-in-file}
-use Rattle.read.specs.Lookup.{lookupTable, lookupItem, atOpened, atItem}
+use Rattle.layout.proofs.OpenLaws.{opened_in_file}
+use Rattle.read.specs.Lookup.{lookup_table, lookup_item, at_opened, at_item}
 use Rattle.read.proofs.lookup.lookup_table.Statement.{statement}
 use Rattle.read.proofs.lookup.lookup_table.Tie as tie
 
@@ -16,14 +16,14 @@ enum-known-table : tie.Need-enum-known-table
 enum-known-table c = search rules
 
 nested-in-requires : tie.Need-nested-in-requires
-nested-in-requires c κs = opened-in-file _ _ _ (sym c.before.before.before.open-table.ensures ∙ c.before.table.given.1)
+nested-in-requires c κs = opened_in_file _ _ _ (sym c.before.before.before.open-table.ensures ∙ c.before.table.given.1)
 
 returns : tie.Need-returns
-unfolding lookupTable lookupItem atOpened atItem
+unfolding lookup_table lookup_item at_opened at_item
 returns c = simp (sym c.before.before.before.open-table.ensures ∙ c.before.unopened.given.1)
 
 returns-2 : tie.Need-returns-2
-unfolding lookupTable lookupItem atOpened
+unfolding lookup_table lookup_item at_opened
 returns-2 c = simp (sym c.before.before.before.before.open-table.ensures ∙ c.before.before.table.given.1) c.nested-in.ensures
 
 pub lookup-table-spec : {M : Type 1} → statement M

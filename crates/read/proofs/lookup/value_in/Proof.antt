@@ -2,7 +2,7 @@
 use mathlib.Core.Path.{refl, sym, ◌∙◌}
 use borrow.Author.Rules.{rules}
 use Rattle.read_find.proofs.FindLaws.{found_below}
-use Rattle.read.proofs.LookupLaws.{looked-bad, looked-none, looked-some}
+use Rattle.read.proofs.LookupLaws.{looked_bad, looked_none, looked_some}
 use Rattle.read.proofs.lookup.value_in.Statement.{statement}
 use Rattle.read.proofs.lookup.value_in.Tie as tie
 
@@ -28,13 +28,13 @@ first-bad-requires : tie.Need-first-bad-requires
 first-bad-requires c κs = search rules
 
 returns : tie.Need-returns
-returns c = looked-none _ _ _ _ _ (sym c.before.before.before.before.is-utf8.ensures ∙ c.before.before.before.if1.true) c.before.before.find-item.ensures c.enum_told.given.1 refl
+returns c = looked_none _ _ _ _ _ (sym c.before.before.before.before.is-utf8.ensures ∙ c.before.before.before.if1.true) c.before.before.find-item.ensures c.enum_told.given.1 refl
 
 returns-2 : tie.Need-returns-2
-returns-2 c = looked-some _ _ _ _ _ (sym c.before.before.before.before.before.before.before.is-utf8.ensures ∙ c.before.before.before.before.before.before.if1.true) c.before.before.before.before.before.find-item.ensures c.before.before.before.index.given.1 c.before.item-at.ensures c.value-of.ensures
+returns-2 c = looked_some _ _ _ _ _ (sym c.before.before.before.before.before.before.before.is-utf8.ensures ∙ c.before.before.before.before.before.before.if1.true) c.before.before.before.before.before.find-item.ensures c.before.before.before.index.given.1 c.before.item_at_lem.ensures c.value_of_lem.ensures
 
 returns-3 : tie.Need-returns-3
-returns-3 c = looked-bad _ _ _ _ _ (sym c.before.before.is-utf8.ensures ∙ c.before.if1.false) c.first-bad.ensures
+returns-3 c = looked_bad _ _ _ _ _ (sym c.before.before.is-utf8.ensures ∙ c.before.if1.false) c.first-bad.ensures
 
 pub value-in-spec : {M : Type 1} → statement M
 value-in-spec =

@@ -2,9 +2,9 @@
 use mathlib.Core.Path.{sym, ◌∙◌}
 use borrow.Author.Rules.{rules}
 use borrow.Author.Tests.{not-true, not-false}
-use Rattle.key_order.proofs.CompareLaws.{ends-split}
-use Rattle.read_chain.proofs.ChainLaws.{parent-root, parent_up, parent-outside}
-use Rattle.read_chain.proofs.MatchLaws.{match-other, match-cut, text-refused, text-root, text-up}
+use Rattle.key_order.proofs.CompareLaws.{ends_split}
+use Rattle.read_chain.proofs.ChainLaws.{parent_root, parent_up, parent_outside}
+use Rattle.read_chain.proofs.MatchLaws.{match_other, match_cut, text_refused, text_root, text_up}
 use Rattle.read_chain.proofs.chain.match_fragment.Statement.{statement}
 use Rattle.read_chain.proofs.chain.match_fragment.Tie as tie
 
@@ -12,7 +12,7 @@ ends-with-requires : tie.Need-ends-with-requires
 ends-with-requires c κs = search rules
 
 returns : tie.Need-returns
-returns c = match-other _ _ _ (sym c.before.ends_with.ensures ∙ not-true _ c.if1.true)
+returns c = match_other _ _ _ (sym c.before.ends_with.ensures ∙ not-true _ c.if1.true)
 
 starts-whole-requires : tie.Need-starts-whole-requires
 starts-whole-requires c κs = search rules
@@ -20,15 +20,15 @@ starts-whole-requires c κs = search rules
 returns-2 : tie.Need-returns-2
 returns-2 c =
     let at-ends = c.before.before.before in
-    match-cut _ _ (sym at-ends.ends_with.ensures ∙ not-false _ c.before.before.if1.false) at-ends.before.before.before.requires _
+    match_cut _ _ (sym at-ends.ends_with.ensures ∙ not-false _ c.before.before.if1.false) at-ends.before.before.before.requires _
     (sym c.before.starts-whole.ensures ∙ not-true _ c.if2.true)
 
 returns-3 : tie.Need-returns-3
 returns-3 c =
     let at-whole = c.before in
     let at-ends = at-whole.before.before.before in
-    text-root _ _ (sym at-ends.ends_with.ensures ∙ not-false _ at-whole.before.before.if1.false) at-ends.before.before.before.requires
-    (sym at-whole.before.starts-whole.ensures ∙ not-false _ at-whole.if2.false) (parent-root _ _ c.if3.true)
+    text_root _ _ (sym at-ends.ends_with.ensures ∙ not-false _ at-whole.before.before.if1.false) at-ends.before.before.before.requires
+    (sym at-whole.before.starts-whole.ensures ∙ not-false _ at-whole.if2.false) (parent_root _ _ c.if3.true)
 
 word-size-requires : tie.Need-word-size-requires
 word-size-requires c κs = search rules
@@ -36,21 +36,21 @@ word-size-requires c κs = search rules
 sub-t14 : tie.Need-overflow-sub-t14
 sub-t14 c =
     let at-ends = c.before.before.before.before.before.before in
-    (ends-split _ _ _ (sym at-ends.ends_with.ensures ∙ not-false _ c.before.before.before.before.before.if1.false)).0
+    (ends_split _ _ _ (sym at-ends.ends_with.ensures ∙ not-false _ c.before.before.before.before.before.if1.false)).0
 
 returns-4 : tie.Need-returns-4
 returns-4 c =
     let at-whole = c.before.before.before in
     let at-ends = at-whole.before.before.before in
-    text-up _ _ (sym at-ends.ends_with.ensures ∙ not-false _ at-whole.before.before.if1.false) at-ends.before.before.before.requires
+    text_up _ _ (sym at-ends.ends_with.ensures ∙ not-false _ at-whole.before.before.if1.false) at-ends.before.before.before.requires
     (sym at-whole.before.starts-whole.ensures ∙ not-false _ at-whole.if2.false) (parent_up _ _ c.before.before.if3.false c.before.word_size.ensures.0 c.if4.true)
 
 returns-5 : tie.Need-returns-5
 returns-5 c =
     let at-whole = c.before.before.before in
     let at-ends = at-whole.before.before.before in
-    text-refused _ _ (sym at-ends.ends_with.ensures ∙ not-false _ at-whole.before.before.if1.false) at-ends.before.before.before.requires
-    (sym at-whole.before.starts-whole.ensures ∙ not-false _ at-whole.if2.false) (parent-outside _ _ c.before.before.if3.false c.before.word_size.ensures.0 c.if4.false)
+    text_refused _ _ (sym at-ends.ends_with.ensures ∙ not-false _ at-whole.before.before.if1.false) at-ends.before.before.before.requires
+    (sym at-whole.before.starts-whole.ensures ∙ not-false _ at-whole.if2.false) (parent_outside _ _ c.before.before.if3.false c.before.word_size.ensures.0 c.if4.false)
 
 pub match-fragment-spec : {M : Type 1} → statement M
 match-fragment-spec =

@@ -1,7 +1,7 @@
 -- `read_chain::chain::match_item` meets its contract: the pointer refuses, or the fragment lies in the file and says it.
 use mathlib.Core.Path.{sym, ◌∙◌}
-use Rattle.layout.proofs.OpenLaws.{pointer-inside}
-use Rattle.read_chain.proofs.MatchLaws.{match-refused, match-inside}
+use Rattle.layout.proofs.OpenLaws.{pointer_inside}
+use Rattle.read_chain.proofs.MatchLaws.{match_refused, match_inside}
 use borrow.Author.Rules.{rules}
 use Rattle.read_chain.proofs.chain.match_item.Statement.{statement}
 use Rattle.read_chain.proofs.chain.match_item.Tie as tie
@@ -34,7 +34,7 @@ part-match-fragment-start : tie.Need-slice-bounds-match-fragment-start
 part-match-fragment-start c = search rules
 
 part-match-fragment-end : tie.Need-slice-bounds-match-fragment-end
-part-match-fragment-end c = (pointer-inside _ _ _ _ (sym c.before.before.open-pointer.ensures ∙ c.enum-told2.given.1)).1
+part-match-fragment-end c = (pointer_inside _ _ _ _ (sym c.before.before.open-pointer.ensures ∙ c.enum-told2.given.1)).1
 
 match-fragment-requires : tie.Need-match-fragment-requires
 match-fragment-requires c κs = search rules
@@ -42,7 +42,7 @@ match-fragment-requires c κs = search rules
 returns : tie.Need-returns
 returns c =
     let at_open = c.before.before in
-    match-refused _ _ _ _ at_open.before.before.before.item-at.ensures at_open.before.before.word_size.ensures.0 at_open.before.half-size.ensures.0
+    match_refused _ _ _ _ at_open.before.before.before.item_at_lem.ensures at_open.before.before.word_size.ensures.0 at_open.before.half-size.ensures.0
     (sym at_open.open-pointer.ensures ∙ c.enum_told.given.1)
 
 returns-2 : tie.Need-returns-2
@@ -50,7 +50,7 @@ returns-2 c =
     let at_told = c.before.before in
     let at_open = at_told.before.before in
     c.match-fragment.ensures
-    ∙ match-inside _ _ _ _ at_open.before.before.before.item-at.ensures at_open.before.before.word_size.ensures.0 at_open.before.half-size.ensures.0
+    ∙ match_inside _ _ _ _ at_open.before.before.before.item_at_lem.ensures at_open.before.before.word_size.ensures.0 at_open.before.half-size.ensures.0
     (sym at_open.open-pointer.ensures ∙ at_told.enum-told2.given.1)
 
 pub match-item-spec : {M : Type 1} → statement M

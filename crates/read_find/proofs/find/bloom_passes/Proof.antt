@@ -5,13 +5,13 @@ use native.Mathlib.Nat.{mod-lt}
 use borrow.Author.Rules.{rules}
 use borrow.Author.Tests.{eq-eqb}
 use Rattle.words.specs.Choice.{pick}
-use Rattle.read_find.specs.Find.{bloomPasses}
-use Rattle.read_find.proofs.FindLaws.{bloom-word}
+use Rattle.read_find.specs.Find.{bloom_passes}
+use Rattle.read_find.proofs.FindLaws.{bloom_word}
 use Rattle.read_find.proofs.find.bloom_passes.Statement.{statement}
 use Rattle.read_find.proofs.find.bloom_passes.Tie as tie
 
 returns : tie.Need-returns
-unfolding bloomPasses pick
+unfolding bloom_passes pick
 returns c = simp (eq-eqb _ _ c.if1.true)
 
 word-size-requires : tie.Need-word-size-requires
@@ -52,7 +52,7 @@ bit-set-requires-2 c κs = search rules
 
 returns-2 : tie.Need-returns-2
 returns-2 c =
-    bloom-word _ _ _ _ c.before.before.before.before.before.word_size.ensures.0 c.before.before.before.before.before.before.if1.false c.before.before.before.word_at.ensures
+    bloom_word _ _ _ _ c.before.before.before.before.before.word_size.ensures.0 c.before.before.before.before.before.before.if1.false c.before.before.before.word_at.ensures
     c.before.before.Shift-of.ensures.0 c.before.bit-set.ensures c.bit-set2.ensures
 
 pub bloom-passes-spec : {M : Type 1} → statement M

@@ -4,15 +4,15 @@ use mathlib.Core.Path.{sym, ◌∙◌}
 use native.Mathlib.Omega.{arith}
 use native.Mathlib.Nat.{mod-lt}
 use borrow.Author.Rules.{rules}
-use Rattle.read_find.proofs.FindLaws.{find-no-buckets, find-no-items, find-filtered, find-in-run}
+use Rattle.read_find.proofs.FindLaws.{find_no_buckets, find_no_items, find_filtered, find_in_run}
 use Rattle.read_find.proofs.find.find_item.Statement.{statement}
 use Rattle.read_find.proofs.find.find_item.Tie as tie
 
 returns : tie.Need-returns
-returns c = find-no-buckets _ _ _ _ c.if1.true
+returns c = find_no_buckets _ _ _ _ c.if1.true
 
 returns-2 : tie.Need-returns-2
-returns-2 c = find-no-items _ _ _ _ c.before.before.if1.false c.if2.true
+returns-2 c = find_no_items _ _ _ _ c.before.before.if1.false c.if2.true
 
 hash-key-requires : tie.Need-hash-key-requires
 hash-key-requires c κs = search rules
@@ -39,13 +39,13 @@ first-of-requires c κs =
 
 returns-3 : tie.Need-returns-3
 returns-3 c =
-    let at-hash = c.before.before.before.before.before in
-    find-in-run _ _ _ _ at-hash.before.before.before.if1.false at-hash.before.if2.false at-hash.hash-key.ensures (sym c.before.before.before.before.bloom-passes.ensures ∙ c.before.before.before.if3.true) c.before.before.word_size.ensures.0 c.before.run_of.ensures c.first_of.ensures
+    let at_hash = c.before.before.before.before.before in
+    find_in_run _ _ _ _ at_hash.before.before.before.if1.false at_hash.before.if2.false at_hash.hash-key.ensures (sym c.before.before.before.before.bloom-passes.ensures ∙ c.before.before.before.if3.true) c.before.before.word_size.ensures.0 c.before.run_of.ensures c.first_of.ensures
 
 returns-4 : tie.Need-returns-4
 returns-4 c =
-    let at-hash = c.before.before in
-    find-filtered _ _ _ _ at-hash.before.before.before.if1.false at-hash.before.if2.false at-hash.hash-key.ensures (sym c.before.bloom-passes.ensures ∙ c.if3.false)
+    let at_hash = c.before.before in
+    find_filtered _ _ _ _ at_hash.before.before.before.if1.false at_hash.before.if2.false at_hash.hash-key.ensures (sym c.before.bloom-passes.ensures ∙ c.if3.false)
 
 pub find-item-spec : {M : Type 1} → statement M
 find-item-spec =

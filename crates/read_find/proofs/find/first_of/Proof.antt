@@ -2,13 +2,13 @@
 use Prim.Native.Nat.{◌-◌}
 use mathlib.Core.Path.{◌≡◌}
 use borrow.Author.Rules.{rules}
-use Rattle.read_find.specs.Find.{mannerOf, firstFrom, first_of, itemMatches}
-use Rattle.read_find.proofs.FindLaws.{first_past, first-hit, first_on, first-over}
+use Rattle.read_find.specs.Find.{manner_of, first_from, first_of, item_matches}
+use Rattle.read_find.proofs.FindLaws.{first_past, first_hit, first_on, first_over}
 use Rattle.read_find.proofs.find.first_of.Statement.{statement}
 use Rattle.read_find.proofs.find.first_of.Tie as tie
 
 abbrev invariant-loop : tie.invariant-loop
-invariant-loop file table hash key manner last count at₀ at = firstFrom (itemMatches (mannerOf manner) file table key) count (last - at) at ≡ firstFrom (itemMatches (mannerOf manner) file table key) count (last - at₀) at₀
+invariant-loop file table hash key manner last count at₀ at = first_from (item_matches (manner_of manner) file table key) count (last - at) at ≡ first_from (item_matches (manner_of manner) file table key) count (last - at₀) at₀
 
 abbrev decreases-loop : tie.decreases-loop
 decreases-loop file table hash key manner last count at₀ at = last - at
@@ -25,7 +25,7 @@ item-matches-requires c κs = search rules
 
 returns-2 : tie.Need-returns-2 invariant-loop decreases-loop
 unfolding first_of
-returns-2 c = let if1 = c.before.before in first-hit _ _ _ _ if1.before.before.loop.invariant if1.before.loop-test.true if1.if1.false c.before.item-matches.ensures c.if2.true
+returns-2 c = let if1 = c.before.before in first_hit _ _ _ _ if1.before.before.loop.invariant if1.before.loop-test.true if1.if1.false c.before.item-matches.ensures c.if2.true
 
 add_at : tie.Need-overflow-add-at invariant-loop decreases-loop
 add_at c = search rules
@@ -38,7 +38,7 @@ loop-again c = let if1 = c.before.before in first_on _ _ _ _ if1.before.before.l
 
 returns-3 : tie.Need-returns-3 invariant-loop decreases-loop
 unfolding first_of
-returns-3 c = first-over _ _ _ _ c.before.loop.invariant c.loop-test.false
+returns-3 c = first_over _ _ _ _ c.before.loop.invariant c.loop-test.false
 
 pub first-of-spec : {M : Type 1} → statement M
 first-of-spec =

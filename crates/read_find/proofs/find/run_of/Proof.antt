@@ -5,7 +5,7 @@ use native.Mathlib.Omega.{arith}
 use borrow.Author.Rules.{rules}
 use borrow.Author.Tests.{lt-ltb, le-ltb}
 use Rattle.words.specs.Choice.{pick}
-use Rattle.read_find.specs.Find.{run_of, bucketWord}
+use Rattle.read_find.specs.Find.{run_of, bucket_word}
 use Rattle.read_find.proofs.find.run_of.Statement.{statement}
 use Rattle.read_find.proofs.find.run_of.Tie as tie
 
@@ -43,14 +43,14 @@ word-size-requires-2 : tie.Need-word-size-requires-2
 word-size-requires-2 c κs = search rules
 
 returns : tie.Need-returns
-unfolding run_of bucketWord pick
+unfolding run_of bucket_word pick
 returns c =
     let a = c.before.before.before.before.before.before.before.before.before.args in
     let next : a.table.start + 8 + 4 * a.table.blooms + 4 * a.bucket + 4 ≡ a.table.start + 8 + 4 * a.table.blooms + 4 * (a.bucket + 1) = omega arith in
     simp (lt-ltb _ _ c.before.before.if1.true, c.before.before.before.before.word_size.ensures.0 ∙ c.before.before.before.before.before.word_at.ensures, c.word-size2.ensures.0 ∙ c.before.word-at2.ensures, next)
 
 returns-2 : tie.Need-returns-2
-unfolding run_of bucketWord pick
+unfolding run_of bucket_word pick
 returns-2 c = simp (le-ltb _ _ c.if1.false, c.before.before.word_size.ensures.0 ∙ c.before.before.before.word_at.ensures)
 
 pub run-of-spec : {M : Type 1} → statement M

@@ -1,6 +1,6 @@
 -- `read_listing::children::child_count` meets its contract: it is the definition.
 use native.Mathlib.Omega.{arith}
-use Rattle.read_listing.specs.Children.{childCount}
+use Rattle.read_listing.specs.Children.{child_count}
 use borrow.Author.Rules.{rules}
 use Rattle.read_listing.proofs.children.child_count.Statement.{statement}
 use Rattle.read_listing.proofs.children.child_count.Tie as tie
@@ -15,7 +15,7 @@ sub-result : tie.Need-overflow-sub-result
 sub-result c = omega (arith, c.word-size2.ensures.0, c.before.word_size.ensures.0, c.before.before.requires)
 
 returns : tie.Need-returns
-unfolding childCount
+unfolding child_count
 returns c = rw (c.word-size2.ensures.0, c.before.word_size.ensures.0)
 
 pub child-count-spec : {M : Type 1} → statement M

@@ -1,6 +1,6 @@
 -- `read_listing::children::child_in` meets its contract: what the lookup answers, and then the container.
 use mathlib.Core.Path.{sym, ◌∙◌}
-use Rattle.read_listing.specs.Children.{childOfSought, childInOpened}
+use Rattle.read_listing.specs.Children.{child_of_sought, child_in_opened}
 use borrow.Author.Rules.{rules}
 use Rattle.read_listing.proofs.children.child_in.Statement.{statement}
 use Rattle.read_listing.proofs.children.child_in.Tie as tie
@@ -18,11 +18,11 @@ child-from-requires : tie.Need-child-from-requires
 child-from-requires c κs = search rules
 
 returns : tie.Need-returns
-unfolding childInOpened childOfSought
+unfolding child_in_opened child_of_sought
 returns c = rw (sym c.before.before.before.lookup-in.ensures ∙ c.before.why.given.1)
 
 returns-2 : tie.Need-returns-2
-unfolding childInOpened childOfSought
+unfolding child_in_opened child_of_sought
 returns-2 c = c.child-from.ensures ∙ rw (sym c.before.before.before.before.lookup-in.ensures ∙ c.before.before.item.given.1)
 
 pub child-in-spec : {M : Type 1} → statement M

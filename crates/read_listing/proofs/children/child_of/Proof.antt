@@ -2,13 +2,13 @@
 use mathlib.Core.Path.{sym, ◌∙◌}
 use borrow.Author.Tests.{le-leb, lt-leb}
 use Rattle.words.specs.Choice.{pick}
-use Rattle.read_listing.specs.Children.{childOf}
+use Rattle.read_listing.specs.Children.{child_of}
 use borrow.Author.Rules.{rules}
 use Rattle.read_listing.proofs.children.child_of.Statement.{statement}
 use Rattle.read_listing.proofs.children.child_of.Tie as tie
 
 returns : tie.Need-returns
-unfolding childOf pick
+unfolding child_of pick
 returns c = simp (le-leb _ _ c.if1.true)
 
 item-at-requires : tie.Need-item-at-requires
@@ -21,12 +21,12 @@ child-named-requires : tie.Need-child-named-requires
 child-named-requires c κs = search rules
 
 returns-2 : tie.Need-returns-2
-unfolding childOf pick
-returns-2 c = c.child-named.ensures ∙ rw (lt-leb _ _ c.before.before.before.before.if1.false, ← c.before.before.before.item-at.ensures, sym c.before.before.kind-known.ensures ∙ c.before.if2.true)
+unfolding child_of pick
+returns-2 c = c.child-named.ensures ∙ rw (lt-leb _ _ c.before.before.before.before.if1.false, ← c.before.before.before.item_at_lem.ensures, sym c.before.before.kind-known.ensures ∙ c.before.if2.true)
 
 returns-3 : tie.Need-returns-3
-unfolding childOf pick
-returns-3 c = rw (lt-leb _ _ c.before.before.before.if1.false, ← c.before.before.item-at.ensures, sym c.before.kind-known.ensures ∙ c.if2.false)
+unfolding child_of pick
+returns-3 c = rw (lt-leb _ _ c.before.before.before.if1.false, ← c.before.before.item_at_lem.ensures, sym c.before.kind-known.ensures ∙ c.if2.false)
 
 pub child-of-spec : {M : Type 1} → statement M
 child-of-spec =

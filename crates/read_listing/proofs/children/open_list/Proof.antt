@@ -2,15 +2,15 @@
 use mathlib.Core.Path.{sym, ◌∙◌}
 use borrow.Author.Tests.{ne_eqb}
 use Rattle.words.specs.Choice.{pick}
-use Rattle.layout.proofs.OpenLaws.{pointer-inside}
-use Rattle.read_listing.specs.Children.{openList}
-use Rattle.read_listing.proofs.ChildLaws.{list-refused, list-whole, list-uneven}
+use Rattle.layout.proofs.OpenLaws.{pointer_inside}
+use Rattle.read_listing.specs.Children.{open_list}
+use Rattle.read_listing.proofs.ChildLaws.{list-refused, list_whole, list_uneven}
 use borrow.Author.Rules.{rules}
 use Rattle.read_listing.proofs.children.open_list.Statement.{statement}
 use Rattle.read_listing.proofs.children.open_list.Tie as tie
 
 returns : tie.Need-returns
-unfolding openList pick
+unfolding open_list pick
 returns c = simp (ne_eqb _ _ c.if1.true)
 
 word-size-requires : tie.Need-word-size-requires
@@ -29,7 +29,7 @@ enum_told : tie.Need-enum-told
 enum_told c = search rules
 
 sub-if2 : tie.Need-overflow-sub-if2
-sub-if2 c = (pointer-inside _ _ _ _ (sym c.before.before.open-pointer.ensures ∙ c.enum_told.given.1)).0
+sub-if2 c = (pointer_inside _ _ _ _ (sym c.before.before.open-pointer.ensures ∙ c.enum_told.given.1)).0
 
 returns-2 : tie.Need-returns-2
 returns-2 c =
@@ -39,12 +39,12 @@ returns-2 c =
 returns-3 : tie.Need-returns-3
 returns-3 c =
     let at_open = c.before.before.before in
-    list-whole _ _ at_open.before.before.before.if1.false at_open.before.before.word_size.ensures.0 at_open.before.word-size2.ensures.0 (sym at_open.open-pointer.ensures ∙ c.before.enum_told.given.1) c.if2.true
+    list_whole _ _ at_open.before.before.before.if1.false at_open.before.before.word_size.ensures.0 at_open.before.word-size2.ensures.0 (sym at_open.open-pointer.ensures ∙ c.before.enum_told.given.1) c.if2.true
 
 returns-4 : tie.Need-returns-4
 returns-4 c =
     let at_open = c.before.before.before in
-    list-uneven _ _ at_open.before.before.before.if1.false at_open.before.before.word_size.ensures.0 at_open.before.word-size2.ensures.0 (sym at_open.open-pointer.ensures ∙ c.before.enum_told.given.1) c.if2.false
+    list_uneven _ _ at_open.before.before.before.if1.false at_open.before.before.word_size.ensures.0 at_open.before.word-size2.ensures.0 (sym at_open.open-pointer.ensures ∙ c.before.enum_told.given.1) c.if2.false
 
 pub open-list-spec : {M : Type 1} → statement M
 open-list-spec =

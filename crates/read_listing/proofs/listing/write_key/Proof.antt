@@ -1,7 +1,7 @@
 -- `read_listing::listing::write_key` meets its contract: the invariant is `Writing`, and the measure is the steps left.
 use mathlib.Core.Path.{◌≡◌, refl, sym, subst, ◌∙◌}
 use borrow.Author.Rules.{rules}
-use Rattle.read_listing.proofs.WriteLaws.{Writing, write-start, write-over, write-inside, write-fits, write-room, write_root, write-refused, write_up}
+use Rattle.read_listing.proofs.WriteLaws.{Writing, write-start, write_over, write_inside, write_fits, write_room, write_root, write-refused, write_up}
 use Rattle.read_listing.proofs.listing.write_key.Statement.{statement}
 use Rattle.read_listing.proofs.listing.write_key.Tie as tie
 
@@ -28,9 +28,9 @@ add-stop c = search rules
 
 sub-end : tie.Need-overflow-sub-end invariant-loop decreases-loop
 sub-end c =
-    let at_item = c.before.before in
-    let at_test = at_item.before in
-    write-fits _ _ _ _ at_test.before.loop.invariant.1 at_test.loop-test.true at_item.item-at.ensures c.before.word_size.ensures.0 c.half-size.ensures.0
+    let at_item_lem = c.before.before in
+    let at_test = at_item_lem.before in
+    write_fits _ _ _ _ at_test.before.loop.invariant.1 at_test.loop-test.true at_item_lem.item_at_lem.ensures c.before.word_size.ensures.0 c.half-size.ensures.0
 
 sub-put-bytes : tie.Need-overflow-sub-put-bytes invariant-loop decreases-loop
 sub-put-bytes c = search rules
@@ -41,16 +41,16 @@ part-put-bytes-start c = search rules
 part-put-bytes-end : tie.Need-slice-bounds-put-bytes-end invariant-loop decreases-loop
 part-put-bytes-end c =
     let at_size = c.before in
-    let at_item = at_size.before.before in
-    let at_test = at_item.before in
-    write-inside _ _ _ _ at_test.before.loop.invariant.1 at_test.loop-test.true at_item.item-at.ensures at_size.before.word_size.ensures.0 at_size.half-size.ensures.0
+    let at_item_lem = at_size.before.before in
+    let at_test = at_item_lem.before in
+    write_inside _ _ _ _ at_test.before.loop.invariant.1 at_test.loop-test.true at_item_lem.item_at_lem.ensures at_size.before.word_size.ensures.0 at_size.half-size.ensures.0
 
 put-bytes-requires : tie.Need-put-bytes-requires invariant-loop decreases-loop
 put-bytes-requires c κs =
     let at_size = c.before.before in
-    let at_item = at_size.before.before in
-    let at_test = at_item.before in
-    write-room _ _ _ _ at_test.before.loop.invariant.1 at_test.loop-test.true at_item.item-at.ensures at_size.before.word_size.ensures.0 at_size.half-size.ensures.0
+    let at_item_lem = at_size.before.before in
+    let at_test = at_item_lem.before in
+    write_room _ _ _ _ at_test.before.loop.invariant.1 at_test.loop-test.true at_item_lem.item_at_lem.ensures at_size.before.word_size.ensures.0 at_size.half-size.ensures.0
 
 parent-of-requires : tie.Need-parent-of-requires invariant-loop decreases-loop
 parent-of-requires c κs = search rules
@@ -64,10 +64,10 @@ same_length c = search rules
 returns : tie.Need-returns invariant-loop decreases-loop
 returns c =
     let at_size = c.before.before.before.before.before.before.before.before in
-    let at_item = at_size.before.before in
-    let at_test = at_item.before in
+    let at_item_lem = at_size.before.before in
+    let at_test = at_item_lem.before in
     c.before.before.before.before.before.put-bytes.ensures
-    ∙ write-refused _ _ _ _ at_test.before.loop.invariant.1 at_test.loop-test.true at_item.item-at.ensures at_size.before.word_size.ensures.0 at_size.half-size.ensures.0 (sym c.before.before.parent_of.ensures ∙ c.enum_told.given.1)
+    ∙ write-refused _ _ _ _ at_test.before.loop.invariant.1 at_test.loop-test.true at_item_lem.item_at_lem.ensures at_size.before.word_size.ensures.0 at_size.half-size.ensures.0 (sym c.before.before.parent_of.ensures ∙ c.enum_told.given.1)
 
 enum-told-2 : tie.Need-enum-told-2 invariant-loop decreases-loop
 enum-told-2 c = search rules
@@ -78,10 +78,10 @@ same-length-2 c = search rules
 returns-2 : tie.Need-returns-2 invariant-loop decreases-loop
 returns-2 c =
     let at_size = c.before.before.before.before.before.before.before.before in
-    let at_item = at_size.before.before in
-    let at_test = at_item.before in
+    let at_item_lem = at_size.before.before in
+    let at_test = at_item_lem.before in
     c.before.before.before.before.before.put-bytes.ensures
-    ∙ write_root _ _ _ _ at_test.before.loop.invariant.1 at_test.loop-test.true at_item.item-at.ensures at_size.before.word_size.ensures.0 at_size.half-size.ensures.0 (sym c.before.before.parent_of.ensures ∙ c.enum-told2.given.1)
+    ∙ write_root _ _ _ _ at_test.before.loop.invariant.1 at_test.loop-test.true at_item_lem.item_at_lem.ensures at_size.before.word_size.ensures.0 at_size.half-size.ensures.0 (sym c.before.before.parent_of.ensures ∙ c.enum-told2.given.1)
 
 enum-known-parent : tie.Need-enum-known-parent invariant-loop decreases-loop
 enum-known-parent c = search rules
@@ -95,18 +95,18 @@ loop-less c = search rules
 loop-again : tie.Need-loop-preserved invariant-loop decreases-loop
 loop-again c =
     let at_size = c.before.before.before.before.before.before.before.before.before in
-    let at_item = at_size.before.before in
-    let at_test = at_item.before in (
+    let at_item_lem = at_size.before.before in
+    let at_test = at_item_lem.before in (
       refl,
       subst (Writing _ _ _ _ _ _ _) (sym c.before.before.before.before.before.before.put-bytes.ensures)
-          (write_up _ _ _ _ at_test.before.loop.invariant.1 at_test.loop-test.true at_item.item-at.ensures at_size.before.word_size.ensures.0 at_size.half-size.ensures.0 (sym c.before.before.before.parent_of.ensures ∙ c.before.parent.given.1)),
+          (write_up _ _ _ _ at_test.before.loop.invariant.1 at_test.loop-test.true at_item_lem.item_at_lem.ensures at_size.before.word_size.ensures.0 at_size.half-size.ensures.0 (sym c.before.before.before.parent_of.ensures ∙ c.before.parent.given.1)),
     )
 
 same-length-3 : tie.Need-same-length-3 invariant-loop decreases-loop
 same-length-3 c = c.before.loop.invariant.1.long
 
 returns-3 : tie.Need-returns-3 invariant-loop decreases-loop
-returns-3 c = write-over _ _ _ _ c.before.loop.invariant.1 c.loop-test.false
+returns-3 c = write_over _ _ _ _ c.before.loop.invariant.1 c.loop-test.false
 
 pub write-key-spec : {M : Type 1} → statement M
 write-key-spec =

@@ -4,13 +4,13 @@ use Prim.Native.Nat.{◌-◌, ◌≤◌}
 use native.Mathlib.Omega.{arith}
 use borrow.Author.Rules.{rules}
 use lib.ListN.{length, drop}
-use Rattle.text.specs.Ascii.{isAscii}
-use Rattle.text.proofs.AsciiLaws.{byte_high, byte_low, bytes-end}
+use Rattle.text.specs.Ascii.{is_ascii}
+use Rattle.text.proofs.AsciiLaws.{byte_high, byte_low, bytes_end}
 use Rattle.text.proofs.ascii.is_ascii_few.Statement.{statement}
 use Rattle.text.proofs.ascii.is_ascii_few.Tie as tie
 
 abbrev invariant-loop : tie.invariant-loop
-invariant-loop s i₀ i = (i ≤ length s) × (isAscii s ≡ isAscii (drop i s))
+invariant-loop s i₀ i = (i ≤ length s) × (is_ascii s ≡ is_ascii (drop i s))
 
 abbrev decreases-loop : tie.decreases-loop
 decreases-loop s i₀ i = length s - i
@@ -43,7 +43,7 @@ returns-2 : tie.Need-returns-2 invariant-loop decreases-loop
 returns-2 c =
     let at = c.before in
     let s = at.before.args.s.now in
-    sym (at.loop.invariant.1 ∙ bytes-end s at.loop.i (omega arith))
+    sym (at.loop.invariant.1 ∙ bytes_end s at.loop.i (omega arith))
 
 pub is-ascii-few-spec : {M : Type 1} → statement M
 is-ascii-few-spec =

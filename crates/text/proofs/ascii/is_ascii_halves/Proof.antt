@@ -1,4 +1,4 @@
--- `text::ascii::is_ascii_halves` meets its contract: two stretches cover the text (`ascii-two`).
+-- `text::ascii::is_ascii_halves` meets its contract: two stretches cover the text (`ascii_two`).
 use mathlib.Core.Path.{ap₂, ◌∙◌}
 use mathlib.Core.Bool.{◌&&◌}
 use Prim.Native.Nat.{ℕ, ◌-◌, ◌<◌}
@@ -6,7 +6,7 @@ use native.Mathlib.Omega.{arith}
 use lib.ListN.{length, get_or}
 use lib.Dec.{eqb}
 use lib.Bits.{bit_and}
-use Rattle.text.proofs.AsciiLaws.{highest, ascii-two}
+use Rattle.text.proofs.AsciiLaws.{highest, ascii_two}
 use borrow.Author.Rules.{rules}
 use Rattle.text.proofs.ascii.is_ascii_halves.Statement.{statement}
 use Rattle.text.proofs.ascii.is_ascii_halves.Tie as tie
@@ -26,7 +26,7 @@ returns c =
     let s = c.before.before.before.args.s.now in
     let bytes : (i : ℕ) → get_or s i 0 < 256 = λ i. omega (arith, c.before.before.shared-slice-known.given i) in
     ap₂ (λ (x y : ℕ). eqb (bit_and x 0x8080) 0 && eqb (bit_and y 0x8080) 0) c.before.half_at.ensures c.half-at2.ensures
-    ∙ ascii-two 2 s (length s - 2) bytes (omega arith) (omega arith)
+    ∙ ascii_two 2 s (length s - 2) bytes (omega arith) (omega arith)
 
 pub is-ascii-halves-spec : {M : Type 1} → statement M
 is-ascii-halves-spec = tie.close (tie.spec sub-last half-at-requires half-at-requires-2 returns)

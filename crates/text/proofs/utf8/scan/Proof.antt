@@ -1,17 +1,17 @@
 -- `text::utf8::scan` meets its contract. The invariant: all before `at` is good, so the answer is `at` and what the rest gives.
-use Rattle.text.specs.Utf8.{stepLen}
-use Rattle.text.proofs.Utf8Laws.{bad-here, step_room, good_turn, good-end}
+use Rattle.text.specs.Utf8.{step_len}
+use Rattle.text.proofs.Utf8Laws.{bad_here, step_room, good_turn, good_end}
 use mathlib.Core.Path.{◌≡◌}
 use Prim.Native.Nat.{◌+◌, ◌-◌, ◌≤◌}
 use native.Mathlib.Omega.{arith}
 use borrow.Author.Rules.{rules}
 use lib.ListN.{length, drop}
-use Rattle.text.specs.Utf8.{firstBad}
+use Rattle.text.specs.Utf8.{first_bad}
 use Rattle.text.proofs.utf8.scan.Statement.{statement}
 use Rattle.text.proofs.utf8.scan.Tie as tie
 
 abbrev invariant-loop : tie.invariant-loop
-invariant-loop s at₀ at = (at ≤ length s) × (firstBad s ≡ at + firstBad (drop at s))
+invariant-loop s at₀ at = (at ≤ length s) × (first_bad s ≡ at + first_bad (drop at s))
 
 abbrev decreases-loop : tie.decreases-loop
 decreases-loop s at₀ at = length s - at
@@ -33,8 +33,8 @@ returns : tie.Need-returns invariant-loop decreases-loop
 returns c =
     let at = c.before.before.before in
     let s = at.before.before.args.s.now in
-    let none : stepLen (drop at.loop.at s) ≡ 0 = cc in
-    omega (arith, bad-here (drop at.loop.at s) none)
+    let none : step_len (drop at.loop.at s) ≡ 0 = cc in
+    omega (arith, bad_here (drop at.loop.at s) none)
 
 add_at : tie.Need-overflow-add-at invariant-loop decreases-loop
 add_at c = omega (arith, room c)
@@ -51,7 +51,7 @@ loop-again c =
 returns-2 : tie.Need-returns-2 invariant-loop decreases-loop
 returns-2 c =
     let s = c.before.before.before.args.s.now in
-    omega (arith, good-end s c.before.loop.at c.loop-test.false)
+    omega (arith, good_end s c.before.loop.at c.loop-test.false)
 
 pub scan-spec : {M : Type 1} → statement M
 scan-spec =

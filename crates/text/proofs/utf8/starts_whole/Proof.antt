@@ -2,7 +2,7 @@
 use mathlib.Core.Path.{ap, ◌∙◌}
 use mathlib.Core.Bool.{not}
 use borrow.Author.Rules.{rules}
-use Rattle.text.specs.Utf8.{tail, startsWhole}
+use Rattle.text.specs.Utf8.{tail, starts_whole}
 use Rattle.text.proofs.utf8.starts_whole.Statement.{statement}
 use Rattle.text.proofs.utf8.starts_whole.Tie as tie
 
@@ -13,7 +13,7 @@ is-tail-requires : tie.Need-is-tail-requires
 is-tail-requires c κs = search rules
 
 returns : tie.Need-returns
-unfolding startsWhole
+unfolding starts_whole
 returns c = ap not (c.is-tail.ensures ∙ ap tail c.before.byte-or-zero.ensures)
 
 pub starts-whole-spec : {M : Type 1} → statement M

@@ -1,6 +1,6 @@
--- `text::utf8::step_len` meets its contract: an ASCII byte is one character (`step-one`), else the four bytes are the first of what is left
--- (`step-at`).
-use Rattle.text.proofs.Utf8Laws.{step-at, step-one}
+-- `text::utf8::step_len` meets its contract: an ASCII byte is one character (`step_one`), else the four bytes are the first of what is left
+-- (`step_at`).
+use Rattle.text.proofs.Utf8Laws.{step_at, step_one}
 use borrow.Author.Rules.{rules}
 use Rattle.text.proofs.utf8.step_len.Statement.{statement}
 use Rattle.text.proofs.utf8.step_len.Tie as tie
@@ -11,7 +11,7 @@ shared-slice-read-b0 c = search rules
 returns : tie.Need-returns
 returns c =
     let start = c.before.before.before in
-    step-one start.args.s.now start.args.at start.requires c.if1.true
+    step_one start.args.s.now start.args.at start.requires c.if1.true
 
 add-byte-or-zero : tie.Need-overflow-add-byte-or-zero
 add-byte-or-zero c = search rules
@@ -37,7 +37,7 @@ sequence-len-requires c κs = search rules
 returns-2 : tie.Need-returns-2
 returns-2 c =
     let start = c.before.before.before.before.before.before.before in
-    cc (step-at start.args.s.now start.args.at start.requires)
+    cc (step_at start.args.s.now start.args.at start.requires)
 
 pub step-len-spec : {M : Type 1} → statement M
 step-len-spec =

@@ -39,8 +39,8 @@ use denote.Triple.Table.{entered, cited}
 use denote.Triple.Walked.{says, Stays, stay_none, stay_none_slice, walk_of, Goes-none, Goes-none_slice, Walks, ends_at, walked, walk_Meets}
 use denote.Exit.{yes}
 use denote.Triple.Clauses.{ensured, lasts}
-use Rattle.layout.specs.Table.{openTable}
-use Rattle.view_part.specs.Part.{OpenedIn, openedPointer}
+use Rattle.layout.specs.Table.{open_table}
+use Rattle.view_part.specs.Part.{OpenedIn, opened_pointer}
 use Rattle.view.specs.Views.{OpenedOf}
 use Rattle.layout.specs.declared.table.Opened.{Opened}
 use Rattle.layout.specs.contracts.table.Opened as DOpened
@@ -103,8 +103,8 @@ module _ {M : Type 1} {𝓤 : Ura M} (𝓛 : Logic 𝓤) (mem : Memory → SProp
   asked-1 : ent 𝓤 (on_entry 𝓛 of-open-table.signature (κ₀, tt) (q₀, tt) (file, (start, (end, tt))) ((slice_val file.ref_ptr (length file.now)) ∷ [], ((vint w32 start) ∷ [], ((vint w32 end) ∷ [], tt)))) ((Contract-open-table 𝓛 mem run).pre (to-1))
   asked-1 = qed 𝓛 ((‵ (flft κ₀ q₀) ⊛ ‵ ftrue) ∷ ‵ (owns ((ShrSlice (named 0) κ₀ u8) ∷ u32 ∷ u32 ∷ []) (file, (start, (end, tt))) ((slice_val file.ref_ptr (length file.now)) ∷ [], ((vint w32 start) ∷ [], ((vint w32 end) ∷ [], tt)))) ∷ []) ∵ join ! $ frame ! $ done !
 
-  said-1 : (r1 : Opened) → ent 𝓤 (ensured 𝓛 of-open-table.ended (of-open-table.clauses 𝓛 mem run) (κ₀, tt) (file, (start, (end, tt))) tt r1) (fact 𝓤 (r1 ≡ openTable file.now start end))
-  said-1 r1 = ex_e 𝓤 _ (λ ws. snd∗ 𝓤 (sem 𝓛 (lasts of-open-table.ended (κ₀, tt) (file, (start, (end, tt))) ws)) (fact 𝓤 (r1 ≡ openTable file.now start end)))
+  said-1 : (r1 : Opened) → ent 𝓤 (ensured 𝓛 of-open-table.ended (of-open-table.clauses 𝓛 mem run) (κ₀, tt) (file, (start, (end, tt))) tt r1) (fact 𝓤 (r1 ≡ open_table file.now start end))
+  said-1 r1 = ex_e 𝓤 _ (λ ws. snd∗ 𝓤 (sem 𝓛 (lasts of-open-table.ended (κ₀, tt) (file, (start, (end, tt))) ws)) (fact 𝓤 (r1 ≡ open_table file.now start end)))
 
   -- call 2, of `view_part::part::opened_part`: what it is passed, what it asks, and what it says of its result
   abbrev to-2 : (r1 : Opened) (u1 : Val) → (Contract-opened-part 𝓛 mem run).Ghost
@@ -123,8 +123,8 @@ module _ {M : Type 1} {𝓤 : Ura M} (𝓛 : Logic 𝓤) (mem : Memory → SProp
   asked-3 : (r1 : Opened) (r2 : Bor (List ℕ)) (u1 : Val) (u2 : Val) → ent 𝓤 (on_entry 𝓛 of-opened-pointer.signature tt tt (r1, (start, tt)) (u1 ∷ [], ((vint w32 start) ∷ [], tt))) ((Contract-opened-pointer 𝓛 mem run).pre (to-3 r1 r2 u1 u2))
   asked-3 r1 r2 u1 u2 = qed 𝓛 ((‵ ftrue) ∷ ‵ (owns (DOpened.the_row ∷ u32 ∷ []) (r1, (start, tt)) (u1 ∷ [], ((vint w32 start) ∷ [], tt))) ∷ []) ∵ join ! $ frame ! $ done !
 
-  said-3 : (r1 : Opened) (r2 : Bor (List ℕ)) (u1 : Val) (u2 : Val) (r3 : ℕ) → ent 𝓤 (ensured 𝓛 of-opened-pointer.ended (of-opened-pointer.clauses 𝓛 mem run) tt (r1, (start, tt)) tt r3) (fact 𝓤 (r3 ≡ openedPointer r1 start))
-  said-3 r1 r2 u1 u2 r3 = ex_e 𝓤 _ (λ ws. snd∗ 𝓤 (sem 𝓛 (lasts of-opened-pointer.ended tt (r1, (start, tt)) ws)) (fact 𝓤 (r3 ≡ openedPointer r1 start)))
+  said-3 : (r1 : Opened) (r2 : Bor (List ℕ)) (u1 : Val) (u2 : Val) (r3 : ℕ) → ent 𝓤 (ensured 𝓛 of-opened-pointer.ended (of-opened-pointer.clauses 𝓛 mem run) tt (r1, (start, tt)) tt r3) (fact 𝓤 (r3 ≡ opened_pointer r1 start))
+  said-3 r1 r2 u1 u2 r3 = ex_e 𝓤 _ (λ ws. snd∗ 𝓤 (sem 𝓛 (lasts of-opened-pointer.ended tt (r1, (start, tt)) ws)) (fact 𝓤 (r3 ≡ opened_pointer r1 start)))
 
   -- call 4, of `view_part::part::opened_pointer`: what it is passed, what it asks, and what it says of its result
   abbrev to-4 : (r1 : Opened) (r2 : Bor (List ℕ)) (r3 : ℕ) (u1 : Val) (u2 : Val) (u3 : Val) → (Contract-opened-pointer 𝓛 mem run).Ghost
@@ -133,8 +133,8 @@ module _ {M : Type 1} {𝓤 : Ura M} (𝓛 : Logic 𝓤) (mem : Memory → SProp
   asked-4 : (r1 : Opened) (r2 : Bor (List ℕ)) (r3 : ℕ) (u1 : Val) (u2 : Val) (u3 : Val) → ent 𝓤 (on_entry 𝓛 of-opened-pointer.signature tt tt (r1, (end, tt)) (u1 ∷ [], ((vint w32 end) ∷ [], tt))) ((Contract-opened-pointer 𝓛 mem run).pre (to-4 r1 r2 r3 u1 u2 u3))
   asked-4 r1 r2 r3 u1 u2 u3 = qed 𝓛 ((‵ ftrue) ∷ ‵ (owns (DOpened.the_row ∷ u32 ∷ []) (r1, (end, tt)) (u1 ∷ [], ((vint w32 end) ∷ [], tt))) ∷ []) ∵ join ! $ frame ! $ done !
 
-  said-4 : (r1 : Opened) (r2 : Bor (List ℕ)) (r3 : ℕ) (u1 : Val) (u2 : Val) (u3 : Val) (r4 : ℕ) → ent 𝓤 (ensured 𝓛 of-opened-pointer.ended (of-opened-pointer.clauses 𝓛 mem run) tt (r1, (end, tt)) tt r4) (fact 𝓤 (r4 ≡ openedPointer r1 end))
-  said-4 r1 r2 r3 u1 u2 u3 r4 = ex_e 𝓤 _ (λ ws. snd∗ 𝓤 (sem 𝓛 (lasts of-opened-pointer.ended tt (r1, (end, tt)) ws)) (fact 𝓤 (r4 ≡ openedPointer r1 end)))
+  said-4 : (r1 : Opened) (r2 : Bor (List ℕ)) (r3 : ℕ) (u1 : Val) (u2 : Val) (u3 : Val) (r4 : ℕ) → ent 𝓤 (ensured 𝓛 of-opened-pointer.ended (of-opened-pointer.clauses 𝓛 mem run) tt (r1, (end, tt)) tt r4) (fact 𝓤 (r4 ≡ opened_pointer r1 end))
+  said-4 r1 r2 r3 u1 u2 u3 r4 = ex_e 𝓤 _ (λ ws. snd∗ 𝓤 (sem 𝓛 (lasts of-opened-pointer.ended tt (r1, (end, tt)) ws)) (fact 𝓤 (r4 ≡ opened_pointer r1 end)))
 
   module _ (is0 : Is (ShrSlice (named 0) κ₀ u8) file ((slice_val file.ref_ptr (length file.now)) ∷ [])) (fit1 : start < 2 ^ 32) (fit2 : end < 2 ^ 32) (wt3 : Holds (has_ty DManner'.mir (LL.val DManner.the_type DManner'.the_laws manner)) × WT (LL.val DManner.the_type DManner'.the_laws manner)) (is3 : Is DManner.the_row manner ((LL.val DManner.the_type DManner'.the_laws manner) ∷ [])) where
     exits : (x : OpenedView) (w : Val) → OpenedOf file start end manner x → ent 𝓤 (⋆ 𝓛 (‵ ((DOpenedView.the_row (named_lft 1 0 tt (κ₀, tt))).own_val x (w ∷ [])) ∷ ‵ (flft κ₀ q₀) ∷ ‵ ((ShrSlice (named 0) κ₀ u8).own_val file ((slice_val file.ref_ptr (length file.now)) ∷ [])) ∷ [])) (Post w)
@@ -154,7 +154,7 @@ module _ {M : Type 1} {𝓤 : Ura M} (𝓛 : Logic 𝓤) (mem : Memory → SProp
           nothing ! $ owned ! u32 (Is u32) (uint_Makes 𝓛 w32) end ((vint w32 end) ∷ []) (refl, fit2) $ fjoin ! $ owned ! u32 (Is u32) (uint_Makes 𝓛 w32) start ((vint w32 start) ∷ []) (refl, fit1) $ fjoin ! $ move ! (1 ∷ []) $ use1 𝓛 (‵ ((ShrSlice (named 0) κ₀ u8).own_val file ((slice_val file.ref_ptr (length file.now)) ∷ [])) ⊛ ‵ ((ShrSlice (named 0) κ₀ u8).own_val file ((slice_val file.ref_ptr (length file.now)) ∷ []))) ((shr_slice_copy 𝓛 (named 0) κ₀ u8).twice file ((slice_val file.ref_ptr (length file.now)) ∷ [])) $ split ! $ move ! (0 ∷ 2 ∷ []) $ fjoin ! $ nothing ! $ move ! (3 ∷ 0 ∷ []) $ join ! $ use2 𝓛 (raw ((Contract-open-table 𝓛 mem run).pre (to-1))) (asked-1) $
           calls_at ! fm (Contract-open-table 𝓛 mem run) known-open-table (to-1) (and_then ! (load ! (from ! (stop !)) (look ! 18 refl)) (and_then ! (load ! (from ! (stop !)) (look ! 16 refl)) (and_then ! (load ! (from ! (stop !)) (look ! 14 refl)) (no_more !)))) (λ u1.
           use1 𝓛 (later (some (λ (r1 : Opened). ((‵ (flft κ₀ q₀) ⊛ ‵ ftrue) ⊛ ‵ ((DOpened.the_row).own_val r1 (u1 ∷ []))) ⊛ raw (ensured 𝓛 of-open-table.ended (of-open-table.clauses 𝓛 mem run) (κ₀, tt) (file, (start, (end, tt))) tt r1)))) (id⊢ 𝓤 _) $ await ! tt $ pick ! (λ r1.
-          split ! $ move ! (1 ∷ []) $ use1 𝓛 (raw (fact 𝓤 (r1 ≡ openTable file.now start end))) (said-1 r1) $ heard ! (r1 ≡ openTable file.now start end) (λ e1. split ! $ split ! $ move ! (1 ∷ []) $ drop ! $ move ! (1 ∷ []) $ facts ! DOpened.the_row (Is DOpened.the_row) (shows 𝓛 DOpened.the_row) r1 (u1 ∷ []) (λ i1.
+          split ! $ move ! (1 ∷ []) $ use1 𝓛 (raw (fact 𝓤 (r1 ≡ open_table file.now start end))) (said-1 r1) $ heard ! (r1 ≡ open_table file.now start end) (λ e1. split ! $ split ! $ move ! (1 ∷ []) $ drop ! $ move ! (1 ∷ []) $ facts ! DOpened.the_row (Is DOpened.the_row) (shows 𝓛 DOpened.the_row) r1 (u1 ∷ []) (λ i1.
           land ! (from ! (stop !)) (init ! 10 refl ((EL.lawful DOpened.the_type DOpened'.the_laws 𝓛 tt).typed r1 _ i1).0) $
           -- call 2, of `view_part::part::opened_part`
           nothing ! $ owned ! DOpened.the_row (Is DOpened.the_row) (EL.makes DOpened.the_type DOpened'.the_plain 𝓛) r1 (u1 ∷ []) i1 $ fjoin ! $ move ! (2 ∷ []) $ use1 𝓛 (‵ ((ShrSlice (named 0) κ₀ u8).own_val file ((slice_val file.ref_ptr (length file.now)) ∷ [])) ⊛ ‵ ((ShrSlice (named 0) κ₀ u8).own_val file ((slice_val file.ref_ptr (length file.now)) ∷ []))) ((shr_slice_copy 𝓛 (named 0) κ₀ u8).twice file ((slice_val file.ref_ptr (length file.now)) ∷ [])) $ split ! $ move ! (0 ∷ 2 ∷ []) $ fjoin ! $ nothing ! $ move ! (3 ∷ 0 ∷ []) $ join ! $ use2 𝓛 (raw ((Contract-opened-part 𝓛 mem run).pre (to-2 r1 u1))) (asked-2 r1 u1) $
@@ -166,13 +166,13 @@ module _ {M : Type 1} {𝓤 : Ura M} (𝓛 : Logic 𝓤) (mem : Memory → SProp
           nothing ! $ owned ! u32 (Is u32) (uint_Makes 𝓛 w32) start ((vint w32 start) ∷ []) (refl, fit1) $ fjoin ! $ owned ! DOpened.the_row (Is DOpened.the_row) (EL.makes DOpened.the_type DOpened'.the_plain 𝓛) r1 (u1 ∷ []) i1 $ fjoin ! $ nothing ! $ use2 𝓛 (raw ((Contract-opened-pointer 𝓛 mem run).pre (to-3 r1 r2 u1 u2))) (asked-3 r1 r2 u1 u2) $
           calls_at ! fm (Contract-opened-pointer 𝓛 mem run) known-opened-pointer (to-3 r1 r2 u1 u2) (and_then ! (load ! (from ! (stop !)) (look ! 12 refl)) (and_then ! (load ! (from ! (stop !)) (look ! 18 refl)) (no_more !))) (λ u3.
           use1 𝓛 (later (some (λ (r3 : ℕ). ((‵ ftrue) ⊛ ‵ (u32.own_val r3 (u3 ∷ []))) ⊛ raw (ensured 𝓛 of-opened-pointer.ended (of-opened-pointer.clauses 𝓛 mem run) tt (r1, (start, tt)) tt r3)))) (id⊢ 𝓤 _) $ await ! tt $ pick ! (λ r3.
-          split ! $ move ! (1 ∷ []) $ use1 𝓛 (raw (fact 𝓤 (r3 ≡ openedPointer r1 start))) (said-3 r1 r2 u1 u2 r3) $ heard ! (r3 ≡ openedPointer r1 start) (λ e3. split ! $ drop ! $ facts ! u32 (Is u32) (shows 𝓛 u32) r3 (u3 ∷ []) (λ i3.
+          split ! $ move ! (1 ∷ []) $ use1 𝓛 (raw (fact 𝓤 (r3 ≡ opened_pointer r1 start))) (said-3 r1 r2 u1 u2 r3) $ heard ! (r3 ≡ opened_pointer r1 start) (λ e3. split ! $ drop ! $ facts ! u32 (Is u32) (shows 𝓛 u32) r3 (u3 ∷ []) (λ i3.
           land ! (from ! (stop !)) (init ! 7 refl ((uint_Lawful 𝓛 w32).typed r3 _ i3).0) $
           -- call 4, of `view_part::part::opened_pointer`
           nothing ! $ owned ! u32 (Is u32) (uint_Makes 𝓛 w32) end ((vint w32 end) ∷ []) (refl, fit2) $ fjoin ! $ owned ! DOpened.the_row (Is DOpened.the_row) (EL.makes DOpened.the_type DOpened'.the_plain 𝓛) r1 (u1 ∷ []) i1 $ fjoin ! $ nothing ! $ use2 𝓛 (raw ((Contract-opened-pointer 𝓛 mem run).pre (to-4 r1 r2 r3 u1 u2 u3))) (asked-4 r1 r2 r3 u1 u2 u3) $
           calls_at ! fm (Contract-opened-pointer 𝓛 mem run) known-opened-pointer (to-4 r1 r2 r3 u1 u2 u3) (and_then ! (load ! (from ! (stop !)) (look ! 12 refl)) (and_then ! (load ! (from ! (stop !)) (look ! 16 refl)) (no_more !))) (λ u4.
           use1 𝓛 (later (some (λ (r4 : ℕ). ((‵ ftrue) ⊛ ‵ (u32.own_val r4 (u4 ∷ []))) ⊛ raw (ensured 𝓛 of-opened-pointer.ended (of-opened-pointer.clauses 𝓛 mem run) tt (r1, (end, tt)) tt r4)))) (id⊢ 𝓤 _) $ await ! tt $ pick ! (λ r4.
-          split ! $ move ! (1 ∷ []) $ use1 𝓛 (raw (fact 𝓤 (r4 ≡ openedPointer r1 end))) (said-4 r1 r2 r3 u1 u2 u3 r4) $ heard ! (r4 ≡ openedPointer r1 end) (λ e4. split ! $ drop ! $ facts ! u32 (Is u32) (shows 𝓛 u32) r4 (u4 ∷ []) (λ i4.
+          split ! $ move ! (1 ∷ []) $ use1 𝓛 (raw (fact 𝓤 (r4 ≡ opened_pointer r1 end))) (said-4 r1 r2 r3 u1 u2 u3 r4) $ heard ! (r4 ≡ opened_pointer r1 end) (λ e4. split ! $ drop ! $ facts ! u32 (Is u32) (shows 𝓛 u32) r4 (u4 ∷ []) (λ i4.
           land ! (from ! (stop !)) (init ! 5 refl ((uint_Lawful 𝓛 w32).typed r4 _ i4).0) $
           -- `view::table::TableView` is made
           nothing ! $ owned ! DManner.the_row (Is DManner.the_row) (LL.makes DManner.the_type DManner'.the_plain 𝓛) manner ((LL.val DManner.the_type DManner'.the_laws manner) ∷ []) is3 $ fjoin ! $ owned ! u32 (Is u32) (uint_Makes 𝓛 w32) r4 (u4 ∷ []) i4 $ fjoin ! $ owned ! u32 (Is u32) (uint_Makes 𝓛 w32) r3 (u3 ∷ []) i3 $ fjoin ! $ move ! (1 ∷ []) $ use1 𝓛 (‵ ((ShrSlice (named 0) κ₀ u8).own_val r2 (u2 ∷ [])) ⊛ ‵ ((ShrSlice (named 0) κ₀ u8).own_val r2 (u2 ∷ []))) ((shr_slice_copy 𝓛 (named 0) κ₀ u8).twice r2 (u2 ∷ [])) $ split ! $ move ! (0 ∷ 2 ∷ []) $ fjoin ! $ use1 𝓛 (‵ ((DTableView.the_row (named_lft 1 0 tt (κ₀, tt))).own_val (record { file = r2; start = r3; end = r4; manner = manner }) ((vstruct (vcons u2 (vcons u3 (vcons u4 (vcons (LL.val DManner.the_type DManner'.the_laws manner) vnil))))) ∷ []))) (makes 𝓛 ((ShrSlice (named 0) κ₀ u8) ∷ u32 ∷ u32 ∷ DManner.the_row ∷ []) (owns ((ShrSlice (named 0) κ₀ u8) ∷ u32 ∷ u32 ∷ DManner.the_row ∷ []) (r2, (r3, (r4, (manner, tt))))) (u2 ∷ [], (u3 ∷ [], (u4 ∷ [], ((LL.val DManner.the_type DManner'.the_laws manner) ∷ [], tt))))) $ peeks ! (DTableView.the_row (named_lft 1 0 tt (κ₀, tt))) (Is (DTableView.the_row (named_lft 1 0 tt (κ₀, tt)))) (shows 𝓛 (DTableView.the_row (named_lft 1 0 tt (κ₀, tt)))) (record { file = r2; start = r3; end = r4; manner = manner }) ((vstruct (vcons u2 (vcons u3 (vcons u4 (vcons (LL.val DManner.the_type DManner'.the_laws manner) vnil))))) ∷ []) (λ j1.

@@ -40,11 +40,11 @@ use denote.Triple.Table.{entered, cited}
 use denote.Triple.Walked.{says, Stays, stay_none, stay_none_slice, walk_of, Goes-none, Goes-none_slice, Walks, ends_at, walked, walk_Meets}
 use denote.Exit.{yes}
 use denote.Triple.Clauses.{ensured, lasts}
-use Rattle.read_find.specs.Find.{mannerOf}
-use Rattle.read.specs.Layered.{layeredValue}
+use Rattle.read_find.specs.Find.{manner_of}
+use Rattle.read.specs.Layered.{layered_value}
 use Rattle.view_part.specs.Part.{LayeredIn}
 use Rattle.view.specs.Views.{OpenedOf, LayeredOf}
-use Rattle.view_layered.proofs.LayeredLaws.{layered-through}
+use Rattle.view_layered.proofs.LayeredLaws.{layered_through}
 use Rattle.view.proofs.HoldsLaws.{and_left, and_right}
 use Rattle.layout.specs.contracts.table.Opened as DOpened
 use Rattle.layout.proofs.table.Opened.TheLaws as DOpened'
@@ -182,7 +182,7 @@ module _ {M : Type 1} {𝓤 : Ura M} (𝓛 : Logic 𝓤) (mem : Memory → SProp
       use1 𝓛 (‵ (field_own (DLayeredView.the_type (named_lft 2 0 tt (κ₀, (κ₁, tt)))).parts (DLayeredView'.the_laws (named_lft 2 0 tt (κ₀, (κ₁, tt)))) 2 (r3.bytes)) ⊛ ‵ (rest (DLayeredView.the_type (named_lft 2 0 tt (κ₀, (κ₁, tt)))).parts (DLayeredView'.the_laws (named_lft 2 0 tt (κ₀, (κ₁, tt)))) 2 (r3.answer, (r3.from, (r3.bytes, tt))))) (own_out 𝓛 (DLayeredView.the_type (named_lft 2 0 tt (κ₀, (κ₁, tt)))).parts (DLayeredView'.the_laws (named_lft 2 0 tt (κ₀, (κ₁, tt)))) 2 (r3.answer, (r3.from, (r3.bytes, tt)))) $ split ! $ move ! (1 ∷ []) $ drop ! $ done !)
 
   module _ (is0 : Is (ShrSlice (named 0) κ₀ u8) owner ((slice_val owner.ref_ptr (length owner.now)) ∷ [])) (fit1 : ostart < 2 ^ 32) (fit2 : oend < 2 ^ 32) (is3 : Is (ShrSlice (named 0) κ₀ u8) district ((slice_val district.ref_ptr (length district.now)) ∷ [])) (fit4 : dstart < 2 ^ 32) (fit5 : dend < 2 ^ 32) (is6 : Is (ShrSlice (named 1) κ₁ u8) key ((slice_val key.ref_ptr (length key.now)) ∷ [])) (wt7 : Holds (has_ty DManner'.mir (LL.val DManner.the_type DManner'.the_laws omanner)) × WT (LL.val DManner.the_type DManner'.the_laws omanner)) (is7 : Is DManner.the_row omanner ((LL.val DManner.the_type DManner'.the_laws omanner) ∷ [])) (wt8 : Holds (has_ty DManner'.mir (LL.val DManner.the_type DManner'.the_laws dmanner)) × WT (LL.val DManner.the_type DManner'.the_laws dmanner)) (is8 : Is DManner.the_row dmanner ((LL.val DManner.the_type DManner'.the_laws dmanner) ∷ [])) where
-    exits : (x : Bor (List ℕ)) (w : Val) → LayeredIn owner district (layeredValue (mannerOf omanner) (mannerOf dmanner) owner.now ostart oend district.now dstart dend key.now) x → ent 𝓤 (⋆ 𝓛 (‵ ((ShrSlice (named 0) κ₀ u8).own_val x (w ∷ [])) ∷ ‵ (flft κ₀ q₀) ∷ ‵ (flft κ₁ q₁) ∷ ‵ ((ShrSlice (named 0) κ₀ u8).own_val owner ((slice_val owner.ref_ptr (length owner.now)) ∷ [])) ∷ ‵ ((ShrSlice (named 0) κ₀ u8).own_val district ((slice_val district.ref_ptr (length district.now)) ∷ [])) ∷ ‵ ((ShrSlice (named 1) κ₁ u8).own_val key ((slice_val key.ref_ptr (length key.now)) ∷ [])) ∷ [])) (Post w)
+    exits : (x : Bor (List ℕ)) (w : Val) → LayeredIn owner district (layered_value (manner_of omanner) (manner_of dmanner) owner.now ostart oend district.now dstart dend key.now) x → ent 𝓤 (⋆ 𝓛 (‵ ((ShrSlice (named 0) κ₀ u8).own_val x (w ∷ [])) ∷ ‵ (flft κ₀ q₀) ∷ ‵ (flft κ₁ q₁) ∷ ‵ ((ShrSlice (named 0) κ₀ u8).own_val owner ((slice_val owner.ref_ptr (length owner.now)) ∷ [])) ∷ ‵ ((ShrSlice (named 0) κ₀ u8).own_val district ((slice_val district.ref_ptr (length district.now)) ∷ [])) ∷ ‵ ((ShrSlice (named 1) κ₁ u8).own_val key ((slice_val key.ref_ptr (length key.now)) ∷ [])) ∷ [])) (Post w)
     exits x w e =
         qed 𝓛 (‵ ((ShrSlice (named 0) κ₀ u8).own_val x (w ∷ [])) ∷ ‵ (flft κ₀ q₀) ∷ ‵ (flft κ₁ q₁) ∷ ‵ ((ShrSlice (named 0) κ₀ u8).own_val owner ((slice_val owner.ref_ptr (length owner.now)) ∷ [])) ∷ ‵ ((ShrSlice (named 0) κ₀ u8).own_val district ((slice_val district.ref_ptr (length district.now)) ∷ [])) ∷ ‵ ((ShrSlice (named 1) κ₁ u8).own_val key ((slice_val key.ref_ptr (length key.now)) ∷ [])) ∷ []) ∵
         suffices ! _ (ends_at 𝓛 it.ended stayed (it.clauses 𝓛 mem run) (((κ₀, (κ₁, tt)), (q₀, (q₁, tt)), tt, (owner, (ostart, (oend, (district, (dstart, (dend, (key, (omanner, (dmanner, tt))))))))), at), tt) w x (tt, (tt, (tt, (tt, (tt, (tt, (tt, (tt, (tt, tt))))))))) (tt, (tt, (tt, (tt, (tt, (tt, (tt, (tt, (tt, tt)))))))))) $ says ! e $
@@ -220,7 +220,7 @@ module _ {M : Type 1} {𝓤 : Ura M} (𝓛 : Logic 𝓤) (mem : Memory → SProp
           fsplit ! $ move ! (1 ∷ []) $ drop ! $
           returns ! (look ! 37 refl) $ forget ! 9 refl $ forget ! 11 refl $ forget ! 13 refl $ forget ! 15 refl $ forget ! 17 refl $ forget ! 19 refl $ forget ! 21 refl $ forget ! 23 refl $ forget ! 25 refl $ forget ! 27 refl $ forget ! 29 refl $ forget ! 31 refl $ forget ! 33 refl $ forget ! 35 refl $ forget ! 37 refl $
           move ! (37 ∷ 38 ∷ []) $ free1 ! $ move ! (35 ∷ 36 ∷ []) $ free1 ! $ move ! (33 ∷ 34 ∷ []) $ free1 ! $ move ! (31 ∷ 32 ∷ []) $ free1 ! $ move ! (29 ∷ 30 ∷ []) $ free1 ! $ move ! (27 ∷ 28 ∷ []) $ free1 ! $ move ! (25 ∷ 26 ∷ []) $ free1 ! $ move ! (23 ∷ 24 ∷ []) $ free1 ! $ move ! (21 ∷ 22 ∷ []) $ free1 ! $ move ! (19 ∷ 20 ∷ []) $ free1 ! $ move ! (17 ∷ 18 ∷ []) $ free1 ! $ move ! (15 ∷ 16 ∷ []) $ free1 ! $ move ! (13 ∷ 14 ∷ []) $ free1 ! $ move ! (11 ∷ 12 ∷ []) $ free1 ! $ move ! (9 ∷ 10 ∷ []) $ free1 ! $ free0 ! $
-          keep ! (0 ∷ 3 ∷ 2 ∷ 8 ∷ 7 ∷ 6 ∷ []) $ by ! (exits r3.bytes (slice_val r3.bytes.ptr (length r3.bytes.now)) (layered-through owner ostart oend omanner district dstart dend dmanner key.now r1 r2 r3 e1 e2 e3))))))))))))))))))))))))))))))))
+          keep ! (0 ∷ 3 ∷ 2 ∷ 8 ∷ 7 ∷ 6 ∷ []) $ by ! (exits r3.bytes (slice_val r3.bytes.ptr (length r3.bytes.now)) (layered_through owner ostart oend omanner district dstart dend dmanner key.now r1 r2 r3 e1 e2 e3))))))))))))))))))))))))))))))))
 
 module _ {M : Type 1} {𝓤 : Ura M} (𝓛 : Logic 𝓤) (mem : Memory → SProp 𝓤) (run : Routine → Fun 𝓤) where
   open 𝓛 use {H}

@@ -1,5 +1,5 @@
 use mathlib.Core.Path.{sym, ap}
-use Rattle.view_part.specs.Part.{childStart}
+use Rattle.view_part.specs.Part.{child_start}
 use borrow.Author.Rules.{rules}
 use Rattle.view_part.proofs.part.child_start.Statement.{statement}
 use Rattle.view_part.proofs.part.child_start.Tie as tie
@@ -11,7 +11,7 @@ enum_told : tie.Need-enum-told
 enum_told c = search rules
 
 returns : tie.Need-returns
-returns c = sym (ap childStart c.before.childed.given.1)
+returns c = sym (ap child_start c.before.childed.given.1)
 
 returns-2 : tie.Need-returns-2
 returns-2 c = search rules

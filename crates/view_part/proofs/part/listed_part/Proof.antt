@@ -1,4 +1,4 @@
-use Rattle.view_part.proofs.PartLaws.{stretch-same}
+use Rattle.view_part.proofs.PartLaws.{stretch_same}
 use borrow.Author.Rules.{rules}
 use Rattle.view_part.proofs.part.listed_part.Statement.{statement}
 use Rattle.view_part.proofs.part.listed_part.Tie as tie
@@ -13,7 +13,7 @@ stretch-requires : tie.Need-stretch-requires
 stretch-requires c κs = search rules
 
 returns : tie.Need-returns
-returns c = stretch-same _ _ _ _ _ _ c.before.before.Listed-start.ensures c.before.listed-end.ensures c.stretch.ensures
+returns c = stretch_same _ _ _ _ _ _ c.before.before.Listed-start.ensures c.before.listed-end.ensures c.stretch.ensures
 
 pub listed-part-spec : {M : Type 1} → statement M
 listed-part-spec =

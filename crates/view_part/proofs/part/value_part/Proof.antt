@@ -1,4 +1,4 @@
-use Rattle.view_part.proofs.PartLaws.{stretch-same}
+use Rattle.view_part.proofs.PartLaws.{stretch_same}
 use borrow.Author.Rules.{rules}
 use Rattle.view_part.proofs.part.value_part.Statement.{statement}
 use Rattle.view_part.proofs.part.value_part.Tie as tie
@@ -13,7 +13,7 @@ stretch-requires : tie.Need-stretch-requires
 stretch-requires c κs = search rules
 
 returns : tie.Need-returns
-returns c = stretch-same _ _ _ _ _ _ c.before.before.pointer-start.ensures c.before.pointer-end.ensures c.stretch.ensures
+returns c = stretch_same _ _ _ _ _ _ c.before.before.pointer-start.ensures c.before.pointer-end.ensures c.stretch.ensures
 
 pub value-part-spec : {M : Type 1} → statement M
 value-part-spec =

@@ -40,11 +40,11 @@ use denote.Triple.Table.{entered, cited}
 use denote.Triple.Walked.{says, Stays, stay_none, stay_none_slice, walk_of, Goes-none, Goes-none_slice, Walks, ends_at, walked, walk_Meets}
 use denote.Exit.{yes}
 use denote.Triple.Clauses.{ensured, lasts}
-use Rattle.read_find.specs.Find.{mannerOf}
+use Rattle.read_find.specs.Find.{manner_of}
 use Rattle.view_part.specs.Part.{ValueIn}
 use Rattle.view.specs.Views.{OpenedOf, ValueOf, NestedOf}
-use Rattle.view.specs.Through.{nestedValue}
-use Rattle.view.proofs.ThroughLaws.{nested-through}
+use Rattle.view.specs.Through.{nested_value}
+use Rattle.view.proofs.ThroughLaws.{nested_through}
 use Rattle.view.proofs.HoldsLaws.{and_left, and_right}
 use Rattle.layout.specs.contracts.table.Opened as DOpened
 use Rattle.layout.proofs.table.Opened.TheLaws as DOpened'
@@ -195,7 +195,7 @@ module _ {M : Type 1} {𝓤 : Ura M} (𝓛 : Logic 𝓤) (mem : Memory → SProp
       use1 𝓛 (‵ (field_own (DValueView.the_type (named_lft 3 0 tt (κ₀, (κ₁, (κ₂, tt))))).parts (DValueView'.the_laws (named_lft 3 0 tt (κ₀, (κ₁, (κ₂, tt))))) 1 (r3.bytes)) ⊛ ‵ (rest (DValueView.the_type (named_lft 3 0 tt (κ₀, (κ₁, (κ₂, tt))))).parts (DValueView'.the_laws (named_lft 3 0 tt (κ₀, (κ₁, (κ₂, tt))))) 1 (r3.answer, (r3.bytes, tt)))) (own_out 𝓛 (DValueView.the_type (named_lft 3 0 tt (κ₀, (κ₁, (κ₂, tt))))).parts (DValueView'.the_laws (named_lft 3 0 tt (κ₀, (κ₁, (κ₂, tt))))) 1 (r3.answer, (r3.bytes, tt))) $ split ! $ move ! (1 ∷ []) $ drop ! $ done !)
 
   module _ (is0 : Is (ShrSlice (named 0) κ₀ u8) file ((slice_val file.ref_ptr (length file.now)) ∷ [])) (fit1 : start < 2 ^ 32) (fit2 : end < 2 ^ 32) (is3 : Is (ShrSlice (named 1) κ₁ u8) table ((slice_val table.ref_ptr (length table.now)) ∷ [])) (is4 : Is (ShrSlice (named 2) κ₂ u8) key ((slice_val key.ref_ptr (length key.now)) ∷ [])) (wt5 : Holds (has_ty DManner'.mir (LL.val DManner.the_type DManner'.the_laws manner)) × WT (LL.val DManner.the_type DManner'.the_laws manner)) (is5 : Is DManner.the_row manner ((LL.val DManner.the_type DManner'.the_laws manner) ∷ [])) where
-    exits : (x : Bor (List ℕ)) (w : Val) → ValueIn file (nestedValue (mannerOf manner) file.now start end table.now key.now) x → ent 𝓤 (⋆ 𝓛 (‵ ((ShrSlice (named 0) κ₀ u8).own_val x (w ∷ [])) ∷ ‵ (flft κ₀ q₀) ∷ ‵ (flft κ₁ q₁) ∷ ‵ (flft κ₂ q₂) ∷ ‵ ((ShrSlice (named 0) κ₀ u8).own_val file ((slice_val file.ref_ptr (length file.now)) ∷ [])) ∷ ‵ ((ShrSlice (named 1) κ₁ u8).own_val table ((slice_val table.ref_ptr (length table.now)) ∷ [])) ∷ ‵ ((ShrSlice (named 2) κ₂ u8).own_val key ((slice_val key.ref_ptr (length key.now)) ∷ [])) ∷ [])) (Post w)
+    exits : (x : Bor (List ℕ)) (w : Val) → ValueIn file (nested_value (manner_of manner) file.now start end table.now key.now) x → ent 𝓤 (⋆ 𝓛 (‵ ((ShrSlice (named 0) κ₀ u8).own_val x (w ∷ [])) ∷ ‵ (flft κ₀ q₀) ∷ ‵ (flft κ₁ q₁) ∷ ‵ (flft κ₂ q₂) ∷ ‵ ((ShrSlice (named 0) κ₀ u8).own_val file ((slice_val file.ref_ptr (length file.now)) ∷ [])) ∷ ‵ ((ShrSlice (named 1) κ₁ u8).own_val table ((slice_val table.ref_ptr (length table.now)) ∷ [])) ∷ ‵ ((ShrSlice (named 2) κ₂ u8).own_val key ((slice_val key.ref_ptr (length key.now)) ∷ [])) ∷ [])) (Post w)
     exits x w e =
         qed 𝓛 (‵ ((ShrSlice (named 0) κ₀ u8).own_val x (w ∷ [])) ∷ ‵ (flft κ₀ q₀) ∷ ‵ (flft κ₁ q₁) ∷ ‵ (flft κ₂ q₂) ∷ ‵ ((ShrSlice (named 0) κ₀ u8).own_val file ((slice_val file.ref_ptr (length file.now)) ∷ [])) ∷ ‵ ((ShrSlice (named 1) κ₁ u8).own_val table ((slice_val table.ref_ptr (length table.now)) ∷ [])) ∷ ‵ ((ShrSlice (named 2) κ₂ u8).own_val key ((slice_val key.ref_ptr (length key.now)) ∷ [])) ∷ []) ∵
         suffices ! _ (ends_at 𝓛 it.ended stayed (it.clauses 𝓛 mem run) (((κ₀, (κ₁, (κ₂, tt))), (q₀, (q₁, (q₂, tt))), tt, (file, (start, (end, (table, (key, (manner, tt)))))), at), tt) w x (tt, (tt, (tt, (tt, (tt, (tt, tt)))))) (tt, (tt, (tt, (tt, (tt, (tt, tt))))))) $ says ! e $
@@ -233,7 +233,7 @@ module _ {M : Type 1} {𝓤 : Ura M} (𝓛 : Logic 𝓤) (mem : Memory → SProp
           fsplit ! $ move ! (1 ∷ []) $ drop ! $
           returns ! (look ! 32 refl) $ forget ! 10 refl $ forget ! 12 refl $ forget ! 14 refl $ forget ! 16 refl $ forget ! 18 refl $ forget ! 20 refl $ forget ! 22 refl $ forget ! 24 refl $ forget ! 26 refl $ forget ! 28 refl $ forget ! 30 refl $ forget ! 32 refl $
           move ! (32 ∷ 33 ∷ []) $ free1 ! $ move ! (30 ∷ 31 ∷ []) $ free1 ! $ move ! (28 ∷ 29 ∷ []) $ free1 ! $ move ! (26 ∷ 27 ∷ []) $ free1 ! $ move ! (24 ∷ 25 ∷ []) $ free1 ! $ move ! (22 ∷ 23 ∷ []) $ free1 ! $ move ! (20 ∷ 21 ∷ []) $ free1 ! $ move ! (18 ∷ 19 ∷ []) $ free1 ! $ move ! (16 ∷ 17 ∷ []) $ free1 ! $ move ! (14 ∷ 15 ∷ []) $ free1 ! $ move ! (12 ∷ 13 ∷ []) $ free1 ! $ move ! (10 ∷ 11 ∷ []) $ free1 ! $ free0 ! $
-          keep ! (0 ∷ 3 ∷ 6 ∷ 2 ∷ 9 ∷ 8 ∷ 5 ∷ []) $ by ! (exits r3.bytes (slice_val r3.bytes.ptr (length r3.bytes.now)) (nested-through file start end manner table.now key.now r1 r2 r3 e1 e2 e3)))))))))))))))))))))))))))))
+          keep ! (0 ∷ 3 ∷ 6 ∷ 2 ∷ 9 ∷ 8 ∷ 5 ∷ []) $ by ! (exits r3.bytes (slice_val r3.bytes.ptr (length r3.bytes.now)) (nested_through file start end manner table.now key.now r1 r2 r3 e1 e2 e3)))))))))))))))))))))))))))))
 
 module _ {M : Type 1} {𝓤 : Ura M} (𝓛 : Logic 𝓤) (mem : Memory → SProp 𝓤) (run : Routine → Fun 𝓤) where
   open 𝓛 use {H}

@@ -40,11 +40,11 @@ use denote.Triple.Table.{entered, cited}
 use denote.Triple.Walked.{says, Stays, stay_none, stay_none_slice, walk_of, Goes-none, Goes-none_slice, Walks, ends_at, walked, walk_Meets}
 use denote.Exit.{yes}
 use denote.Triple.Clauses.{ensured, lasts}
-use Rattle.read_find.specs.Find.{mannerOf}
-use Rattle.read.specs.Lookup.{lookupValue}
+use Rattle.read_find.specs.Find.{manner_of}
+use Rattle.read.specs.Lookup.{lookup_value}
 use Rattle.view_part.specs.Part.{ValueIn}
 use Rattle.view.specs.Views.{OpenedOf, ValueOf}
-use Rattle.view.proofs.ThroughLaws.{value-through}
+use Rattle.view.proofs.ThroughLaws.{value_through}
 use Rattle.view.proofs.HoldsLaws.{and_left, and_right}
 use Rattle.layout.specs.contracts.table.Opened as DOpened
 use Rattle.layout.proofs.table.Opened.TheLaws as DOpened'
@@ -153,7 +153,7 @@ module _ {M : Type 1} {𝓤 : Ura M} (𝓛 : Logic 𝓤) (mem : Memory → SProp
       use1 𝓛 (‵ (field_own (DValueView.the_type (named_lft 2 0 tt (κ₀, (κ₁, tt)))).parts (DValueView'.the_laws (named_lft 2 0 tt (κ₀, (κ₁, tt)))) 1 (r2.bytes)) ⊛ ‵ (rest (DValueView.the_type (named_lft 2 0 tt (κ₀, (κ₁, tt)))).parts (DValueView'.the_laws (named_lft 2 0 tt (κ₀, (κ₁, tt)))) 1 (r2.answer, (r2.bytes, tt)))) (own_out 𝓛 (DValueView.the_type (named_lft 2 0 tt (κ₀, (κ₁, tt)))).parts (DValueView'.the_laws (named_lft 2 0 tt (κ₀, (κ₁, tt)))) 1 (r2.answer, (r2.bytes, tt))) $ split ! $ move ! (1 ∷ []) $ drop ! $ done !)
 
   module _ (is0 : Is (ShrSlice (named 0) κ₀ u8) file ((slice_val file.ref_ptr (length file.now)) ∷ [])) (fit1 : start < 2 ^ 32) (fit2 : end < 2 ^ 32) (is3 : Is (ShrSlice (named 1) κ₁ u8) key ((slice_val key.ref_ptr (length key.now)) ∷ [])) (wt4 : Holds (has_ty DManner'.mir (LL.val DManner.the_type DManner'.the_laws manner)) × WT (LL.val DManner.the_type DManner'.the_laws manner)) (is4 : Is DManner.the_row manner ((LL.val DManner.the_type DManner'.the_laws manner) ∷ [])) where
-    exits : (x : Bor (List ℕ)) (w : Val) → ValueIn file (lookupValue (mannerOf manner) file.now start end key.now) x → ent 𝓤 (⋆ 𝓛 (‵ ((ShrSlice (named 0) κ₀ u8).own_val x (w ∷ [])) ∷ ‵ (flft κ₀ q₀) ∷ ‵ (flft κ₁ q₁) ∷ ‵ ((ShrSlice (named 0) κ₀ u8).own_val file ((slice_val file.ref_ptr (length file.now)) ∷ [])) ∷ ‵ ((ShrSlice (named 1) κ₁ u8).own_val key ((slice_val key.ref_ptr (length key.now)) ∷ [])) ∷ [])) (Post w)
+    exits : (x : Bor (List ℕ)) (w : Val) → ValueIn file (lookup_value (manner_of manner) file.now start end key.now) x → ent 𝓤 (⋆ 𝓛 (‵ ((ShrSlice (named 0) κ₀ u8).own_val x (w ∷ [])) ∷ ‵ (flft κ₀ q₀) ∷ ‵ (flft κ₁ q₁) ∷ ‵ ((ShrSlice (named 0) κ₀ u8).own_val file ((slice_val file.ref_ptr (length file.now)) ∷ [])) ∷ ‵ ((ShrSlice (named 1) κ₁ u8).own_val key ((slice_val key.ref_ptr (length key.now)) ∷ [])) ∷ [])) (Post w)
     exits x w e =
         qed 𝓛 (‵ ((ShrSlice (named 0) κ₀ u8).own_val x (w ∷ [])) ∷ ‵ (flft κ₀ q₀) ∷ ‵ (flft κ₁ q₁) ∷ ‵ ((ShrSlice (named 0) κ₀ u8).own_val file ((slice_val file.ref_ptr (length file.now)) ∷ [])) ∷ ‵ ((ShrSlice (named 1) κ₁ u8).own_val key ((slice_val key.ref_ptr (length key.now)) ∷ [])) ∷ []) ∵
         suffices ! _ (ends_at 𝓛 it.ended stayed (it.clauses 𝓛 mem run) (((κ₀, (κ₁, tt)), (q₀, (q₁, tt)), tt, (file, (start, (end, (key, (manner, tt))))), at), tt) w x (tt, (tt, (tt, (tt, (tt, tt))))) (tt, (tt, (tt, (tt, (tt, tt)))))) $ says ! e $
@@ -184,7 +184,7 @@ module _ {M : Type 1} {𝓤 : Ura M} (𝓛 : Logic 𝓤) (mem : Memory → SProp
           fsplit ! $ move ! (1 ∷ []) $ drop ! $
           returns ! (look ! 23 refl) $ forget ! 7 refl $ forget ! 9 refl $ forget ! 11 refl $ forget ! 13 refl $ forget ! 15 refl $ forget ! 17 refl $ forget ! 19 refl $ forget ! 21 refl $ forget ! 23 refl $
           move ! (23 ∷ 24 ∷ []) $ free1 ! $ move ! (21 ∷ 22 ∷ []) $ free1 ! $ move ! (19 ∷ 20 ∷ []) $ free1 ! $ move ! (17 ∷ 18 ∷ []) $ free1 ! $ move ! (15 ∷ 16 ∷ []) $ free1 ! $ move ! (13 ∷ 14 ∷ []) $ free1 ! $ move ! (11 ∷ 12 ∷ []) $ free1 ! $ move ! (9 ∷ 10 ∷ []) $ free1 ! $ move ! (7 ∷ 8 ∷ []) $ free1 ! $ free0 ! $
-          keep ! (0 ∷ 3 ∷ 2 ∷ 6 ∷ 5 ∷ []) $ by ! (exits r2.bytes (slice_val r2.bytes.ptr (length r2.bytes.now)) (value-through file start end manner key.now r1 r2 e1 e2)))))))))))))))))))))
+          keep ! (0 ∷ 3 ∷ 2 ∷ 6 ∷ 5 ∷ []) $ by ! (exits r2.bytes (slice_val r2.bytes.ptr (length r2.bytes.now)) (value_through file start end manner key.now r1 r2 e1 e2)))))))))))))))))))))
 
 module _ {M : Type 1} {𝓤 : Ura M} (𝓛 : Logic 𝓤) (mem : Memory → SProp 𝓤) (run : Routine → Fun 𝓤) where
   open 𝓛 use {H}

@@ -5,7 +5,7 @@ use native.Mathlib.Omega.{arith}
 use native.Mathlib.Nat.{one-mul}
 use lib.Bits.{bit_or}
 use lib.Pow.{shl_exact}
-use Rattle.words.specs.Bits.{bitPut}
+use Rattle.words.specs.Bits.{bit_put}
 use borrow.Author.Rules.{rules}
 use Rattle.words.proofs.bits.put_bit.Statement.{statement}
 use Rattle.words.proofs.bits.put_bit.Tie as tie
@@ -14,7 +14,7 @@ shl-result : tie.Need-overflow-shl-result
 shl-result c = search rules
 
 returns : tie.Need-returns
-unfolding bitPut
+unfolding bit_put
 returns c =
     let b = c.args.bit % 32 in
     let exact : 1 * 2 ^ b % 2 ^ 32 ≡ 2 ^ b = shl_exact 1 b 32 (omega arith) (omega arith) ∙ one-mul (2 ^ b) in

@@ -1,6 +1,6 @@
--- `words::field::half_at` meets its contract: the two bytes are the field, byte by byte (`half-bytes`).
+-- `words::field::half_at` meets its contract: the two bytes are the field, byte by byte (`half_bytes`).
 use native.Mathlib.Omega.{arith}
-use Rattle.words.proofs.FieldLaws.{half-bytes}
+use Rattle.words.proofs.FieldLaws.{half_bytes}
 use borrow.Author.Rules.{rules}
 use Rattle.words.proofs.field.half_at.Statement.{statement}
 use Rattle.words.proofs.field.half_at.Tie as tie
@@ -29,7 +29,7 @@ add-result c = search rules
 returns : tie.Need-returns
 returns c =
     let start = c.before.before.before.before.before in
-    omega (arith, half-bytes start.args.file.now start.args.at start.requires)
+    omega (arith, half_bytes start.args.file.now start.args.at start.requires)
 
 pub half-at-spec : {M : Type 1} → statement M
 half-at-spec =

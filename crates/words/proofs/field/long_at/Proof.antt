@@ -1,6 +1,6 @@
--- `words::field::long_at` meets its contract: a field of eight bytes is two of four (`long-words`).
+-- `words::field::long_at` meets its contract: a field of eight bytes is two of four (`long_words`).
 use native.Mathlib.Omega.{arith}
-use Rattle.words.proofs.FieldLaws.{long-words}
+use Rattle.words.proofs.FieldLaws.{long_words}
 use borrow.Author.Rules.{rules}
 use Rattle.words.proofs.field.long_at.Statement.{statement}
 use Rattle.words.proofs.field.long_at.Tie as tie
@@ -29,7 +29,7 @@ add-result c = search rules
 returns : tie.Need-returns
 returns c =
     let start = c.before.before.before.before.before in
-    omega (arith, long-words start.args.file.now start.args.at start.requires)
+    omega (arith, long_words start.args.file.now start.args.at start.requires)
 
 pub long-at-spec : {M : Type 1} → statement M
 long-at-spec =

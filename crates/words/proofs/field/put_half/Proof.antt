@@ -1,7 +1,7 @@
--- `words::field::put_half` meets its contract: two stores are the one store of the definition (`two-stores`).
+-- `words::field::put_half` meets its contract: two stores are the one store of the definition (`two_stores`).
 use native.Mathlib.Omega.{arith}
 use lib.ListN.{length-set}
-use Rattle.words.proofs.FieldLaws.{two-stores}
+use Rattle.words.proofs.FieldLaws.{two_stores}
 use borrow.Author.Rules.{rules}
 use Rattle.words.proofs.field.put_half.Statement.{statement}
 use Rattle.words.proofs.field.put_half.Tie as tie
@@ -25,7 +25,7 @@ same_length : tie.Need-same-length
 same_length c = search rules
 
 returns : tie.Need-returns
-returns c = two-stores _ _ _
+returns c = two_stores _ _ _
 
 pub put-half-spec : {M : Type 1} → statement M
 put-half-spec =

@@ -1,7 +1,7 @@
--- `words::field::put_word` meets its contract: four stores are the one store of the definition (`four-stores`).
+-- `words::field::put_word` meets its contract: four stores are the one store of the definition (`four_stores`).
 use native.Mathlib.Omega.{arith}
 use lib.ListN.{length-set}
-use Rattle.words.proofs.FieldLaws.{four-stores}
+use Rattle.words.proofs.FieldLaws.{four_stores}
 use borrow.Author.Rules.{rules}
 use Rattle.words.proofs.field.put_word.Statement.{statement}
 use Rattle.words.proofs.field.put_word.Tie as tie
@@ -43,7 +43,7 @@ same_length : tie.Need-same-length
 same_length c = search rules
 
 returns : tie.Need-returns
-returns c = four-stores _ _ _
+returns c = four_stores _ _ _
 
 pub put-word-spec : {M : Type 1} → statement M
 put-word-spec =

@@ -1,5 +1,5 @@
 -- `words::store::fill_words` meets its contract. The invariant: the first i words are written, and the rest is as it was.
-use Rattle.words.proofs.StoreLaws.{copy_start, fill-turn, fill_end}
+use Rattle.words.proofs.StoreLaws.{copy_start, fill_turn, fill_end}
 use Rattle.words.specs.Store.{put_at, copies}
 use lib.ListN.{length, take, length-set}
 use native.Mathlib.Omega.{arith}
@@ -37,7 +37,7 @@ loop-again c = let a = c.before.before.args in
     let l = c.before.loop in (
       omega arith,
       simp length-set l.invariant.1,
-      rw l.invariant.2 (fill-turn a.out.now a.at a.n a.v l.i (omega arith)),
+      rw l.invariant.2 (fill_turn a.out.now a.at a.n a.v l.i (omega arith)),
     )
 
 same_length : tie.Need-same-length invariant-loop decreases-loop

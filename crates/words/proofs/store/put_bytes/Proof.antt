@@ -5,7 +5,7 @@ use native.Mathlib.Omega.{arith}
 use borrow.Author.Rules.{rules}
 use lib.ListN.{length, take, length-set}
 use Rattle.words.specs.Store.{put_at}
-use Rattle.words.proofs.StoreLaws.{copy_start, copy-turn, copy-end}
+use Rattle.words.proofs.StoreLaws.{copy_start, copy_turn, copy_end}
 use Rattle.words.proofs.store.put_bytes.Statement.{statement}
 use Rattle.words.proofs.store.put_bytes.Tie as tie
 
@@ -41,7 +41,7 @@ loop-again c =
     let args = at.before.args in (
       omega arith,
       simp length-set (omega arith),
-      rw at.loop.invariant.2 (copy-turn args.out.now args.at args.src.now at.loop.j (omega arith)),
+      rw at.loop.invariant.2 (copy_turn args.out.now args.at args.src.now at.loop.j (omega arith)),
     )
 
 same_length : tie.Need-same-length invariant-loop decreases-loop
@@ -50,7 +50,7 @@ same_length c = search rules
 returns : tie.Need-returns invariant-loop decreases-loop
 returns c =
     let args = c.before.before.args in
-    c.before.loop.invariant.2 ∙ copy-end args.out.now args.at args.src.now c.before.loop.j (omega arith)
+    c.before.loop.invariant.2 ∙ copy_end args.out.now args.at args.src.now c.before.loop.j (omega arith)
 
 pub put-bytes-spec : {M : Type 1} → statement M
 put-bytes-spec =

@@ -5,7 +5,7 @@ use native.Mathlib.Omega.{arith}
 use borrow.Author.Rules.{rules}
 use lib.ListN.{length, take, length-set}
 use Rattle.words.specs.Store.{put_at, zeros}
-use Rattle.words.proofs.StoreLaws.{copy_start, fill-turn, fill_end}
+use Rattle.words.proofs.StoreLaws.{copy_start, fill_turn, fill_end}
 use Rattle.words.proofs.store.put_zeros.Statement.{statement}
 use Rattle.words.proofs.store.put_zeros.Tie as tie
 
@@ -38,7 +38,7 @@ loop-again c =
     let args = at.before.args in (
       omega arith,
       simp length-set (omega arith),
-      rw at.loop.invariant.2 (fill-turn args.out.now args.at args.size 0 at.loop.i (omega arith)),
+      rw at.loop.invariant.2 (fill_turn args.out.now args.at args.size 0 at.loop.i (omega arith)),
     )
 
 same_length : tie.Need-same-length invariant-loop decreases-loop

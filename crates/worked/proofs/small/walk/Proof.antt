@@ -1,10 +1,10 @@
--- `worked::small::walk` is safe and ends: while the end of the prefix is not that of the key, the next one lies further on (`next-rises`).
+-- `worked::small::walk` is safe and ends: while the end of the prefix is not that of the key, the next one lies further on (`next_rises`).
 use Prim.Native.Nat.{◌≤◌, ◌<◌, ◌-◌}
 use native.Mathlib.Omega.{arith}
 use mathlib.Core.Path.{sym}
 use lib.ListN.{length}
 use lib.Seq.{length-take-le}
-use Rattle.key_order.proofs.PrefixLaws.{next-rises}
+use Rattle.key_order.proofs.PrefixLaws.{next_rises}
 use borrow.Author.Rules.{rules}
 use Rattle.worked.proofs.small.walk.Statement.{statement}
 use Rattle.worked.proofs.small.walk.Tie as tie
@@ -38,7 +38,7 @@ next-end-requires c κs = search rules
 
 slice-aggregate-prefix : tie.Need-slice-aggregate-prefix invariant-loop decreases-loop
 slice-aggregate-prefix c =
-    let e = c.before.next-end.result in
+    let e = c.before.next_end_lem.result in
     let key = c.before.before.before.before.before.before.before.before.before.args.key.now in
     sym (length-take-le e key (omega arith))
 
@@ -55,9 +55,9 @@ loop-less : tie.Need-loop-smaller invariant-loop decreases-loop
 loop-less c =
     let at = c.before.before.before.before in
     let args = at.before.before.before.before.before.before.before.args in
-    let e = c.before.before.before.next-end in
+    let e = c.before.before.before.next_end_lem in
     let l : e.result < length args.key.now = c.if1.false in
-    omega (arith, next-rises args.separator args.key.now at.loop.end at.loop.invariant (omega arith), e.ensures.0)
+    omega (arith, next_rises args.separator args.key.now at.loop.end at.loop.invariant (omega arith), e.ensures.0)
 
 loop-again : tie.Need-loop-preserved invariant-loop decreases-loop
 loop-again c = search rules

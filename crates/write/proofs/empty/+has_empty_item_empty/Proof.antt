@@ -4,9 +4,9 @@ use mathlib.Core.Path.{◌≡◌, sym, ◌∙◌}
 use mathlib.Core.Bool.{false}
 use native.Mathlib.Omega.{arith}
 use borrow.Author.Rules.{rules}
-use Rattle.key_hash.specs.Hash.{ruleOf}
-use Rattle.write_slots.proofs.StateLaws.{fully-valid}
-use Rattle.write.proofs.EmptyLaws.{foundBelow, empty-own, empty-plain, empty-held, slot_at, slot-in, slots-few, found_none, found_turn, empty-end, empty-hit, empty-nowhere}
+use Rattle.key_hash.specs.Hash.{rule_of}
+use Rattle.write_slots.proofs.StateLaws.{fully_valid_lem}
+use Rattle.write.proofs.EmptyLaws.{found_below_lem, empty_own, empty_plain, empty_held_lem, slot_at, slot_in, slots_few, found_none, found_turn, empty_end, empty_hit, empty_nowhere}
 use Prim.Native.Nat.{ℕ, ◌+◌, ◌-◌, ◌≤◌, ◌<◌}
 use borrow.Fn.Kinds.{In}
 use borrow.Fn.PlainCycle.{Measures, is, falls, and}
@@ -49,13 +49,13 @@ abbrev item-empty-claims : ℕ → item-empty-lts.Claims
 item-empty-claims t = (item-word-reads.Asked, item-word-reads.Learnt, has-empty-below t, has-empty.Post)
 
 abbrev has-empty-Inv-loop : has-empty-lts.invariant-loop
-has-empty-Inv-loop words arena roster table depth form first count k₀ k = (k ≤ count) × (foundBelow (ruleOf form) words arena table (depth - 1) k ≡ false)
+has-empty-Inv-loop words arena roster table depth form first count k₀ k = (k ≤ count) × (found_below_lem (rule_of form) words arena table (depth - 1) k ≡ false)
 
 abbrev has-empty-μ-loop : has-empty-lts.decreases-loop
 has-empty-μ-loop words arena roster table depth form first count k₀ k = count - k
 
 has-empty-returns : (t : ℕ) → has-empty-lts.Need-returns (has-empty-claims t) (has-empty-at t) has-empty.Post has-empty-Inv-loop has-empty-μ-loop
-has-empty-returns t c = let a = c.before.before.before.before.args in empty-nowhere a.words.now a.arena.now a.depth a.table c.if1.true
+has-empty-returns t c = let a = c.before.before.before.before.args in empty_nowhere a.words.now a.arena.now a.depth a.table c.if1.true
 
 has-empty-mul-first : (t : ℕ) → has-empty-lts.Need-overflow-mul-first (has-empty-claims t) (has-empty-at t) has-empty.Post has-empty-Inv-loop has-empty-μ-loop
 has-empty-mul-first t c = search rules
@@ -82,31 +82,31 @@ has-empty-loop-holds : (t : ℕ) → has-empty-lts.Need-loop-init (has-empty-cla
 has-empty-loop-holds t c =
     let a = c.before.before.before.before.before.before.args in
     let p = c.before.before.before.before.before.before.requires in
-    (omega arith, found_none a.words.now a.arena.now a.roster.now (fully-valid _ _ p.1.0) p.1.1.0 a.table p.1.1.1 (a.depth - 1))
+    (omega arith, found_none a.words.now a.arena.now a.roster.now (fully_valid_lem _ _ p.1.0) p.1.1.0 a.table p.1.1.1 (a.depth - 1))
 
 has-empty-add-item : (t : ℕ) → has-empty-lts.Need-overflow-add-item (has-empty-claims t) (has-empty-at t) has-empty.Post has-empty-Inv-loop has-empty-μ-loop
 has-empty-add-item t c =
     let a = c.before.before.before.before.before.before.before.before.args in
     let p = c.before.before.before.before.before.before.before.before.requires in
-    omega (arith, slots-few a.words.now a.arena.now a.roster.now (fully-valid _ _ p.1.0) p.1.1.0 a.table p.1.1.1, p.1.1.0.long)
+    omega (arith, slots_few a.words.now a.arena.now a.roster.now (fully_valid_lem _ _ p.1.0) p.1.1.0 a.table p.1.1.1, p.1.1.0.long)
 
 has-empty-add-item-2 : (t : ℕ) → has-empty-lts.Need-overflow-add-item-2 (has-empty-claims t) (has-empty-at t) has-empty.Post has-empty-Inv-loop has-empty-μ-loop
 has-empty-add-item-2 t c =
     let a = c.before.before.before.before.before.before.before.before.args in
     let p = c.before.before.before.before.before.before.before.before.requires in
-    omega (arith, slots-few a.words.now a.arena.now a.roster.now (fully-valid _ _ p.1.0) p.1.1.0 a.table p.1.1.1, p.1.1.0.long)
+    omega (arith, slots_few a.words.now a.arena.now a.roster.now (fully_valid_lem _ _ p.1.0) p.1.1.0 a.table p.1.1.1, p.1.1.0.long)
 
 has-empty-mul-item : (t : ℕ) → has-empty-lts.Need-overflow-mul-item (has-empty-claims t) (has-empty-at t) has-empty.Post has-empty-Inv-loop has-empty-μ-loop
 has-empty-mul-item t c =
     let a = c.before.before.before.before.before.before.before.before.args in
     let p = c.before.before.before.before.before.before.before.before.requires in
-    omega (arith, slots-few a.words.now a.arena.now a.roster.now (fully-valid _ _ p.1.0) p.1.1.0 a.table p.1.1.1, p.1.1.0.long)
+    omega (arith, slots_few a.words.now a.arena.now a.roster.now (fully_valid_lem _ _ p.1.0) p.1.1.0 a.table p.1.1.1, p.1.1.0.long)
 
 has-empty-shared-slice-read-item : (t : ℕ) → has-empty-lts.Need-shared-slice-read-item (has-empty-claims t) (has-empty-at t) has-empty.Post has-empty-Inv-loop has-empty-μ-loop
 has-empty-shared-slice-read-item t c =
     let a = c.before.before.before.before.before.before.before.before.before.args in
     let p = c.before.before.before.before.before.before.before.before.before.requires in
-    omega (arith, slots-few a.words.now a.arena.now a.roster.now (fully-valid _ _ p.1.0) p.1.1.0 a.table p.1.1.1, p.1.1.0.long)
+    omega (arith, slots_few a.words.now a.arena.now a.roster.now (fully_valid_lem _ _ p.1.0) p.1.1.0 a.table p.1.1.1, p.1.1.0.long)
 
 has-empty-sub-item-empty : (t : ℕ) → has-empty-lts.Need-overflow-sub-item-empty (has-empty-claims t) (has-empty-at t) has-empty.Post has-empty-Inv-loop has-empty-μ-loop
 has-empty-sub-item-empty t c = omega (arith, c.before.before.before.before.before.if1.false)
@@ -117,19 +117,19 @@ has-empty-item-empty-requires t c κs =
     let p = c.before.before.before.before.before.before.before.before.before.requires in
     let k = c.before.before.loop.k in
     let low = c.before.loop-test.true in
-    (omega (arith, p.0, c.before.before.before.before.before.if1.false), (p.1.0, (p.1.1.0, rw (slot_at a.words.now a.arena.now a.roster.now (fully-valid _ _ p.1.0) p.1.1.0 a.table p.1.1.1 k low) (slot-in a.words.now a.arena.now a.roster.now (fully-valid _ _ p.1.0) p.1.1.0 a.table p.1.1.1 k low))))
+    (omega (arith, p.0, c.before.before.before.before.before.if1.false), (p.1.0, (p.1.1.0, rw (slot_at a.words.now a.arena.now a.roster.now (fully_valid_lem _ _ p.1.0) p.1.1.0 a.table p.1.1.1 k low) (slot_in a.words.now a.arena.now a.roster.now (fully_valid_lem _ _ p.1.0) p.1.1.0 a.table p.1.1.1 k low))))
 
 has-empty-returns-2 : (t : ℕ) → has-empty-lts.Need-returns-2 (has-empty-claims t) (has-empty-at t) has-empty.Post has-empty-Inv-loop has-empty-μ-loop
 has-empty-returns-2 t c =
     let a = c.before.before.before.before.before.before.before.before.before.before.before.args in
     let p = c.before.before.before.before.before.before.before.before.before.before.before.requires in
-    empty-hit a.words.now a.arena.now a.roster.now (fully-valid _ _ p.1.0) p.1.1.0 a.table p.1.1.1 a.depth c.before.before.before.before.loop.k _ _ c.before.before.before.before.before.before.before.if1.false c.before.before.before.loop-test.true (slot_at a.words.now a.arena.now a.roster.now (fully-valid _ _ p.1.0) p.1.1.0 a.table p.1.1.1 c.before.before.before.before.loop.k c.before.before.before.loop-test.true) c.before.item-empty.ensures c.if2.true
+    empty_hit a.words.now a.arena.now a.roster.now (fully_valid_lem _ _ p.1.0) p.1.1.0 a.table p.1.1.1 a.depth c.before.before.before.before.loop.k _ _ c.before.before.before.before.before.before.before.if1.false c.before.before.before.loop-test.true (slot_at a.words.now a.arena.now a.roster.now (fully_valid_lem _ _ p.1.0) p.1.1.0 a.table p.1.1.1 c.before.before.before.before.loop.k c.before.before.before.loop-test.true) c.before.item-empty.ensures c.if2.true
 
 has-empty-add-k : (t : ℕ) → has-empty-lts.Need-overflow-add-k (has-empty-claims t) (has-empty-at t) has-empty.Post has-empty-Inv-loop has-empty-μ-loop
 has-empty-add-k t c =
     let a = c.before.before.before.before.before.before.before.before.before.before.before.args in
     let p = c.before.before.before.before.before.before.before.before.before.before.before.requires in
-    omega (arith, slots-few a.words.now a.arena.now a.roster.now (fully-valid _ _ p.1.0) p.1.1.0 a.table p.1.1.1, c.before.before.before.loop-test.true)
+    omega (arith, slots_few a.words.now a.arena.now a.roster.now (fully_valid_lem _ _ p.1.0) p.1.1.0 a.table p.1.1.1, c.before.before.before.loop-test.true)
 
 has-empty-loop-less : (t : ℕ) → has-empty-lts.Need-loop-smaller (has-empty-claims t) (has-empty-at t) has-empty.Post has-empty-Inv-loop has-empty-μ-loop
 has-empty-loop-less t c = omega (arith, c.before.before.before.loop-test.true)
@@ -138,52 +138,52 @@ has-empty-loop-again : (t : ℕ) → has-empty-lts.Need-loop-preserved (has-empt
 has-empty-loop-again t c =
     let a = c.before.before.before.before.before.before.before.before.before.before.before.args in
     let p = c.before.before.before.before.before.before.before.before.before.before.before.requires in
-    (omega (arith, c.before.before.before.loop-test.true), found_turn a.words.now a.arena.now a.roster.now (fully-valid _ _ p.1.0) p.1.1.0 a.table p.1.1.1 (a.depth - 1) c.before.before.before.before.loop.k _ _ (slot_at a.words.now a.arena.now a.roster.now (fully-valid _ _ p.1.0) p.1.1.0 a.table p.1.1.1 c.before.before.before.before.loop.k c.before.before.before.loop-test.true) c.before.item-empty.ensures c.if2.false c.before.before.before.before.loop.invariant.1)
+    (omega (arith, c.before.before.before.loop-test.true), found_turn a.words.now a.arena.now a.roster.now (fully_valid_lem _ _ p.1.0) p.1.1.0 a.table p.1.1.1 (a.depth - 1) c.before.before.before.before.loop.k _ _ (slot_at a.words.now a.arena.now a.roster.now (fully_valid_lem _ _ p.1.0) p.1.1.0 a.table p.1.1.1 c.before.before.before.before.loop.k c.before.before.before.loop-test.true) c.before.item-empty.ensures c.if2.false c.before.before.before.before.loop.invariant.1)
 
 has-empty-returns-3 : (t : ℕ) → has-empty-lts.Need-returns-3 (has-empty-claims t) (has-empty-at t) has-empty.Post has-empty-Inv-loop has-empty-μ-loop
 has-empty-returns-3 t c =
     let a = c.before.before.before.before.before.before.before.before.args in
     let p = c.before.before.before.before.before.before.before.before.requires in
-    empty-end a.words.now a.arena.now a.roster.now (fully-valid _ _ p.1.0) p.1.1.0 a.table p.1.1.1 a.depth c.before.loop.k c.before.before.before.before.if1.false (omega arith) c.before.loop.invariant.1
+    empty_end a.words.now a.arena.now a.roster.now (fully_valid_lem _ _ p.1.0) p.1.1.0 a.table p.1.1.1 a.depth c.before.loop.k c.before.before.before.before.if1.false (omega arith) c.before.loop.invariant.1
 
 item-empty-item-word-requires : (t : ℕ) → item-empty-lts.Need-item-word-requires (item-empty-claims t) (item-empty-at t) item-empty.Post
 item-empty-item-word-requires t c κs =
     let a = c.before.before.before.args in
     let p = c.before.before.before.requires in
-    let r = fully-valid _ _ p.1.0 in
+    let r = fully_valid_lem _ _ p.1.0 in
     (r.valid.long, omega (arith, r.valid.items, p.1.1.1), omega arith)
 
 item-empty-returns : (t : ℕ) → item-empty-lts.Need-returns (item-empty-claims t) (item-empty-at t) item-empty.Post
 item-empty-returns t c =
     let a = c.before.before.before.before.before.args in
     let p = c.before.before.before.before.before.requires in
-    empty-own a.words.now a.arena.now a.depth a.item _ c.before.item-word.ensures c.if1.true
+    empty_own a.words.now a.arena.now a.depth a.item _ c.before.item-word.ensures c.if1.true
 
 item-empty-item-word-requires-2 : (t : ℕ) → item-empty-lts.Need-item-word-requires-2 (item-empty-claims t) (item-empty-at t) item-empty.Post
 item-empty-item-word-requires-2 t c κs =
     let a = c.before.before.before.before.before.args in
     let p = c.before.before.before.before.before.requires in
-    let r = fully-valid _ _ p.1.0 in
+    let r = fully_valid_lem _ _ p.1.0 in
     (r.valid.long, omega (arith, r.valid.items, p.1.1.1), omega arith)
 
 item-empty-returns-2 : (t : ℕ) → item-empty-lts.Need-returns-2 (item-empty-claims t) (item-empty-at t) item-empty.Post
 item-empty-returns-2 t c =
     let a = c.before.before.before.before.before.before.before.args in
     let p = c.before.before.before.before.before.before.before.requires in
-    empty-plain a.words.now a.arena.now a.depth a.item _ _ c.before.before.before.item-word.ensures c.before.before.if1.false c.before.item-word2.ensures c.if2.true
+    empty_plain a.words.now a.arena.now a.depth a.item _ _ c.before.before.before.item-word.ensures c.before.before.if1.false c.before.item-word2.ensures c.if2.true
 
 item-empty-item-word-requires-3 : (t : ℕ) → item-empty-lts.Need-item-word-requires-3 (item-empty-claims t) (item-empty-at t) item-empty.Post
 item-empty-item-word-requires-3 t c κs =
     let a = c.before.before.before.before.before.before.before.args in
     let p = c.before.before.before.before.before.before.before.requires in
-    let r = fully-valid _ _ p.1.0 in
+    let r = fully_valid_lem _ _ p.1.0 in
     (r.valid.long, omega (arith, r.valid.items, p.1.1.1), omega arith)
 
 item-empty-has-empty-requires : (t : ℕ) → item-empty-lts.Need-has-empty-requires (item-empty-claims t) (item-empty-at t) item-empty.Post
 item-empty-has-empty-requires t c κs =
     let a = c.before.before.before.before.before.before.before.before.args in
     let p = c.before.before.before.before.before.before.before.before.requires in
-    let r = fully-valid _ _ p.1.0 in
+    let r = fully_valid_lem _ _ p.1.0 in
     let g = r.guest a.item p.1.1.1 (sym c.before.before.item-word2.ensures ∙ c.before.if2.false) in
     (omega (arith, p.0), (p.1.0, (p.1.1.0, omega (arith, g, c.item-word3.ensures))))
 
@@ -191,7 +191,7 @@ item-empty-returns-3 : (t : ℕ) → item-empty-lts.Need-returns-3 (item-empty-c
 item-empty-returns-3 t c =
     let a = c.before.before.before.before.before.before.before.before.before.args in
     let p = c.before.before.before.before.before.before.before.before.before.requires in
-    empty-held a.words.now a.arena.now a.depth a.item _ _ c.before.before.before.before.before.item-word.ensures c.before.before.before.before.if1.false c.before.before.before.item-word2.ensures c.before.before.if2.false _ _ c.before.item-word3.ensures c.has-empty.ensures
+    empty_held_lem a.words.now a.arena.now a.depth a.item _ _ c.before.before.before.before.before.item-word.ensures c.before.before.before.before.if1.false c.before.before.before.item-word2.ensures c.before.before.if2.false _ _ c.before.item-word3.ensures c.has-empty.ensures
 
 pub +has-empty-item-empty-spec : {M : Type 1} → statement M
 +has-empty-item-empty-spec = close μ-has-empty μ-item-empty (λ t. has-empty-lts.spec (has-empty-claims t)

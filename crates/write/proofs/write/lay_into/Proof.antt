@@ -2,7 +2,7 @@
 use mathlib.Core.Path.{sym}
 use native.Mathlib.Omega.{arith}
 use lib.Seq.{length-take-le}
-use Rattle.write.proofs.AnswerLaws.{laid-front}
+use Rattle.write.proofs.AnswerLaws.{laid_front}
 use borrow.Author.Rules.{rules}
 use Rattle.write.proofs.write.lay_into.Statement.{statement}
 use Rattle.write.proofs.write.lay_into.Tie as tie
@@ -30,7 +30,7 @@ returns : tie.Need-returns
 returns c =
     let a = c.before.before.before.before.before.before.before.args in
     let p = c.before.before.before.before.before.before.before.requires in
-    laid-front a.size a.image.now _ _ (omega (arith, p.1.0.2)) c.before.before.lay-image.ensures
+    laid_front a.size a.image.now _ _ (omega (arith, p.1.0.2)) c.before.before.lay-image.ensures
 
 pub lay-into-spec : {M : Type 1} → statement M
 lay-into-spec =

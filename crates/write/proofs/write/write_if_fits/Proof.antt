@@ -1,9 +1,9 @@
 -- `write::write::write_if_fits` meets its contract, answer by answer.
 use Prim.Native.Nat.{◌≤◌}
 use native.Mathlib.Omega.{arith}
-use Rattle.layout.specs.Limits.{mostItems, mostFilter}
-use Rattle.write_bytes.proofs.MeasureLaws.{end_is, long-is}
-use Rattle.write.proofs.AnswerLaws.{numbered-long, numbered-wide, numbered-laid}
+use Rattle.layout.specs.Limits.{most_items, most_filter}
+use Rattle.write_bytes.proofs.MeasureLaws.{end_is, long_is}
+use Rattle.write.proofs.AnswerLaws.{numbered_long, numbered_wide, numbered_laid}
 use borrow.Author.Rules.{rules}
 use Rattle.write.proofs.write.write_if_fits.Statement.{statement}
 use Rattle.write.proofs.write.write_if_fits.Tie as tie
@@ -20,14 +20,14 @@ enum_told c = search rules
 returns : tie.Need-returns
 returns c =
     let a = c.before.before.before.before.before.before.args in
-    let g = numbered-long a.filter a.numbered.now a.arena.now a.image.now a.table (long-is _ c.before.before.measure.ensures c.enum_told.given.1) in
+    let g = numbered_long a.filter a.numbered.now a.arena.now a.image.now a.table (long_is _ c.before.before.measure.ensures c.enum_told.given.1) in
     (g.answers, g.lays)
 
 returns-2 : tie.Need-returns-2
 returns-2 c =
     let a = c.before.before.before.before.before.before.before.before.args in
     let e = end_is _ c.before.before.before.before.measure.ensures c.before.before.size.given.1 in
-    let g = numbered-wide a.filter a.numbered.now a.arena.now a.image.now a.table (omega (arith, e.0, c.if1.true)) in
+    let g = numbered_wide a.filter a.numbered.now a.arena.now a.image.now a.table (omega (arith, e.0, c.if1.true)) in
     (g.answers, g.lays)
 
 lay-into-requires : tie.Need-lay-into-requires
@@ -46,7 +46,7 @@ slot-count-requires : tie.Need-slot-count-requires
 slot-count-requires c κs = search rules
 
 -- how many items and filter words there are
-few : (c : tie.After-slot-count) → (c.slot-count.result ≤ mostItems) × (c.before.before.before.before.before.before.before.before.before.before.before.before.before.args.filter ≤ mostFilter)
+few : (c : tie.After-slot-count) → (c.slot-count.result ≤ most_items) × (c.before.before.before.before.before.before.before.before.before.before.before.before.before.args.filter ≤ most_filter)
 few c =
     let s = c.before.before.before.before.before.before.before.before.before.before.before.before.before in
     (omega (arith, c.slot-count.ensures, s.requires.0.tables s.args.table s.requires.1.0), s.requires.1.1)
@@ -76,7 +76,7 @@ returns-3 : tie.Need-returns-3
 returns-3 c =
     let a = c.before.before.before.before.before.before.before.before.before.before.before.before.before.args in
     let e = end_is _ c.before.before.before.before.before.before.before.before.before.measure.ensures c.before.before.before.before.before.before.before.size.given.1 in
-    let g = numbered-laid a.filter a.numbered.now a.arena.now a.image.now a.table _ _ _ e.0 e.1 (omega (arith, c.before.before.before.before.before.if1.false)) c.slot-count.ensures c.before.before.before.lay-into.ensures in
+    let g = numbered_laid a.filter a.numbered.now a.arena.now a.image.now a.table _ _ _ e.0 e.1 (omega (arith, c.before.before.before.before.before.if1.false)) c.slot-count.ensures c.before.before.before.lay-into.ensures in
     (g.answers, g.lays)
 
 pub write-if-fits-spec : {M : Type 1} → statement M

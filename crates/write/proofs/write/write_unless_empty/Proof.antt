@@ -1,9 +1,9 @@
 -- `write::write::write_unless_empty` meets its contract: the numbered table's image is the one that the memory means.
 use Prim.Native.Nat.{ℕ}
 use lib.ListN.{length-replicate, get_or-replicate}
-use Rattle.key_hash.specs.Hash.{ruleOf}
-use Rattle.write_parts.specs.Numbered.{numberedSize}
-use Rattle.write.proofs.AnswerLaws.{table_empty, table-indexed}
+use Rattle.key_hash.specs.Hash.{rule_of}
+use Rattle.write_parts.specs.Numbered.{numbered_size}
+use Rattle.write.proofs.AnswerLaws.{table_empty, table_indexed}
 use borrow.Author.Rules.{rules}
 use Rattle.write.proofs.write.write_unless_empty.Statement.{statement}
 use Rattle.write.proofs.write.write_unless_empty.Tie as tie
@@ -15,14 +15,14 @@ returns : tie.Need-returns
 returns c =
     let a = c.before.before.before.before.before.before.args in
     let p = c.before.before.before.before.before.before.requires in
-    let g = table_empty (ruleOf a.form) a.filter a.words.now a.arena.now a.image.now a.table c.before.has-empty.ensures c.if1.true in
+    let g = table_empty (rule_of a.form) a.filter a.words.now a.arena.now a.image.now a.table c.before.has-empty.ensures c.if1.true in
     (g.answers, g.lays)
 
 slice-aggregate-fill-numbered : tie.Need-slice-aggregate-fill-numbered
 slice-aggregate-fill-numbered c = search rules
 
 fill-numbered-requires : tie.Need-fill-numbered-requires
-fill-numbered-requires c κs = let p = c.before.before.before.before.before.before.before.requires in (p.0, (p.1.0, (length-replicate {A = ℕ} numberedSize 0, λ k h. get_or-replicate {A = ℕ} numberedSize k 0 0 h)))
+fill-numbered-requires c κs = let p = c.before.before.before.before.before.before.before.requires in (p.0, (p.1.0, (length-replicate {A = ℕ} numbered_size 0, λ k h. get_or-replicate {A = ℕ} numbered_size k 0 0 h)))
 
 slice-aggregate-write-if-fits : tie.Need-slice-aggregate-write-if-fits
 slice-aggregate-write-if-fits c = search rules
@@ -37,7 +37,7 @@ returns-2 : tie.Need-returns-2
 returns-2 c =
     let a = c.before.before.before.before.before.before.before.before.before.before.before.before.before.before.args in
     let p = c.before.before.before.before.before.before.before.before.before.before.before.before.before.before.requires in
-    let g = table-indexed (ruleOf a.form) a.filter a.words.now a.arena.now a.image.now a.table c.before.before.before.before.before.before.before.before.before.has-empty.ensures c.before.before.before.before.before.before.before.before.if1.false _ _ _ c.before.before.before.before.before.before.fill-numbered.ensures p.1.1.0 c.before.before.write-if-fits.ensures.0 c.before.before.write-if-fits.ensures.1 in
+    let g = table_indexed (rule_of a.form) a.filter a.words.now a.arena.now a.image.now a.table c.before.before.before.before.before.before.before.before.before.has-empty.ensures c.before.before.before.before.before.before.before.before.if1.false _ _ _ c.before.before.before.before.before.before.fill-numbered.ensures p.1.1.0 c.before.before.write-if-fits.ensures.0 c.before.before.write-if-fits.ensures.1 in
     (g.answers, g.lays)
 
 pub write-unless-empty-spec : {M : Type 1} → statement M

@@ -7,14 +7,14 @@ use borrow.Author.Rules.{rules}
 use borrow.Fn.Kinds.{In}
 use borrow.Fn.PlainCycle.{Measures, is, falls, and}
 use lib.ListN.{length}
-use Rattle.layout.specs.Limits.{mostItems, mostFilter, longestFile}
+use Rattle.layout.specs.Limits.{most_items, most_filter, longest_file}
 use Rattle.image.specs.Plan.{place}
-use Rattle.layout.specs.Kind.{tableKind}
-use Rattle.write_parts.specs.Numbered.{slotKind, numberedBytes}
-use Rattle.write_parts.specs.Slot.{slotItem}
+use Rattle.layout.specs.Kind.{table_kind}
+use Rattle.write_parts.specs.Numbered.{slot_kind, numbered_bytes}
+use Rattle.write_parts.specs.Slot.{slot_item}
 use Rattle.write_bytes.specs.Measure.{measured}
-use Rattle.write_bytes.proofs.ItemLaws.{AtSlot, slot-in, slot-fits, cover-fits, item-end, table-item, plain-item}
-use Rattle.write_bytes.proofs.TurnLaws.{AtTable, plan_at, base_at, nothing-long, first-offset, table-ends, table-least, few, item-over, item-ends}
+use Rattle.write_bytes.proofs.ItemLaws.{AtSlot, slot_in, slot_fits, cover_fits, item_end, table-item, plain-item}
+use Rattle.write_bytes.proofs.TurnLaws.{AtTable, plan_at, base_at, nothing_long, first_offset, table_ends, table_least, few, item_over, item_ends}
 use Rattle.write_bytes.proofs.MeasureLaws.{within, beyond}
 use Rattle.write_bytes.proofs.measure.measure_item.Reads as measure-item
 use Rattle.write_bytes.proofs.measure.measure_item.Kinds as measure-item-kinds
@@ -74,7 +74,7 @@ measure-item-value-start-requires : (t : ℕ) → measure-item-lts.Need-value-st
 measure-item-value-start-requires t c κs =
     let s = c.before.before in
     let g = measure-item-given t s in
-    (slot-in g, ((slot-fits g).size, s.requires.1.1.1))
+    (slot_in g, ((slot_fits g).size, s.requires.1.1.1))
 
 measure-item-returns : (t : ℕ) → measure-item-lts.Need-returns (measure-item-claims t) (measure-item-at t) measure-item.Post
 measure-item-returns t c =
@@ -82,8 +82,8 @@ measure-item-returns t c =
     let g = measure-item-given t s in
     let numbered = s.args.numbered.now in
     let arena = s.args.arena.now in
-    let inner = numberedBytes s.args.filter numbered arena s.args.depth in
-    let ends = item-end g inner s.args.at in
+    let inner = numbered_bytes s.args.filter numbered arena s.args.depth in
+    let ends = item_end g inner s.args.at in
     sym (beyond _ (omega (arith, ends, c.before.value-start.ensures, c.if1.true)))
 
 measure-item-slot-word-requires : (t : ℕ) → measure-item-lts.Need-slot-word-requires (measure-item-claims t) (measure-item-at t) measure-item.Post
@@ -101,7 +101,7 @@ measure-item-measure-table-requires t c κs =
     let s = c.before.before.before.before.before.before.before in
     let kind = sym c.before.before.slot-word.ensures ∙ c.before.if2.true in
     let fits = s.requires.1.0 in
-    (omega (arith, s.requires.0), (fits, (omega (arith, c.slot-word2.ensures, (slot-fits (measure-item-given t s)).guest kind), omega (arith, c.before.before.before.if1.false), s.requires.1.1.2)))
+    (omega (arith, s.requires.0), (fits, (omega (arith, c.slot-word2.ensures, (slot_fits (measure-item-given t s)).guest kind), omega (arith, c.before.before.before.if1.false), s.requires.1.1.2)))
 
 measure-item-returns-2 : (t : ℕ) → measure-item-lts.Need-returns-2 (measure-item-claims t) (measure-item-at t) measure-item.Post
 measure-item-returns-2 t c =
@@ -109,7 +109,7 @@ measure-item-returns-2 t c =
     let g = measure-item-given t s in
     let numbered = s.args.numbered.now in
     let arena = s.args.arena.now in
-    let inner = numberedBytes s.args.filter numbered arena s.args.depth in
+    let inner = numbered_bytes s.args.filter numbered arena s.args.depth in
     let kind = sym c.before.before.before.slot-word.ensures ∙ c.before.before.if2.true in
     let ends = table-item g inner s.args.at kind c.before.slot-word2.ensures c.before.before.before.before.before.value-start.ensures in
     rw ends c.measure-table.ensures
@@ -118,7 +118,7 @@ measure-item-cover-requires : (t : ℕ) → measure-item-lts.Need-cover-requires
 measure-item-cover-requires t c κs =
     let s = c.before.before.before.before.before.before in
     let g = measure-item-given t s in
-    (slot-in g, (cover-fits g, s.requires.1.1.2))
+    (slot_in g, (cover_fits g, s.requires.1.1.2))
 
 measure-item-returns-3 : (t : ℕ) → measure-item-lts.Need-returns-3 (measure-item-claims t) (measure-item-at t) measure-item.Post
 measure-item-returns-3 t c =
@@ -126,8 +126,8 @@ measure-item-returns-3 t c =
     let g = measure-item-given t s in
     let numbered = s.args.numbered.now in
     let arena = s.args.arena.now in
-    let inner = numberedBytes s.args.filter numbered arena s.args.depth in
-    let plain : slotKind numbered s.args.slot ≡ tableKind → ⊥ = λ e. c.before.before.if2.false (c.before.before.before.slot-word.ensures ∙ e) in
+    let inner = numbered_bytes s.args.filter numbered arena s.args.depth in
+    let plain : slot_kind numbered s.args.slot ≡ table_kind → ⊥ = λ e. c.before.before.if2.false (c.before.before.before.slot-word.ensures ∙ e) in
     let ends = plain-item g inner s.args.filter s.args.at plain c.before.before.before.before.before.value-start.ensures in
     sym (beyond _ (omega (arith, ends, c.before.cover.ensures, c.if3.true, c.before.before.before.before.if1.false)))
 
@@ -140,14 +140,14 @@ measure-item-returns-4 t c =
     let g = measure-item-given t s in
     let numbered = s.args.numbered.now in
     let arena = s.args.arena.now in
-    let inner = numberedBytes s.args.filter numbered arena s.args.depth in
-    let plain : slotKind numbered s.args.slot ≡ tableKind → ⊥ = λ e. c.before.before.if2.false (c.before.before.before.slot-word.ensures ∙ e) in
+    let inner = numbered_bytes s.args.filter numbered arena s.args.depth in
+    let plain : slot_kind numbered s.args.slot ≡ table_kind → ⊥ = λ e. c.before.before.if2.false (c.before.before.before.slot-word.ensures ∙ e) in
     let ends = plain-item g inner s.args.filter s.args.at plain c.before.before.before.before.before.value-start.ensures in
-    let e : c.before.before.before.before.before.value-start.result + c.before.cover.result ≡ s.args.at + length (slotItem inner numbered arena s.args.slot s.args.at) = omega (arith, ends, c.before.cover.ensures) in
+    let e : c.before.before.before.before.before.value-start.result + c.before.cover.result ≡ s.args.at + length (slot_item inner numbered arena s.args.slot s.args.at) = omega (arith, ends, c.before.cover.ensures) in
     sym (ap measured (sym e) ∙ within _ (omega (arith, c.if3.false, c.before.before.before.before.if1.false)))
 
 abbrev measure-table-Inv-loop : measure-table-lts.invariant-loop
-measure-table-Inv-loop numbered arena table at depth filter first count end₀ k₀ end k = (k ≤ count) × (end ≤ longestFile) × (end ≡ place (plan_at filter numbered arena depth table) (base_at filter numbered arena depth table at) k)
+measure-table-Inv-loop numbered arena table at depth filter first count end₀ k₀ end k = (k ≤ count) × (end ≤ longest_file) × (end ≡ place (plan_at filter numbered arena depth table) (base_at filter numbered arena depth table at) k)
 
 abbrev measure-table-μ-loop : measure-table-lts.decreases-loop
 measure-table-μ-loop numbered arena table at depth filter first count end₀ k₀ end k = count - k
@@ -161,14 +161,14 @@ measure-table-given t c =
       known = s.requires.1.1.0;
       low = s.requires.1.1.2;
       deep = c.before.before.if1.false;
-      first-is = c.before.first_slot.ensures;
-      count-is = c.slot-count.ensures;
+      first_is = c.before.first_slot.ensures;
+      count_is = c.slot-count.ensures;
     }
 
 measure-table-returns : (t : ℕ) → measure-table-lts.Need-returns (measure-table-claims t) (measure-table-at t) measure-table.Post measure-table-Inv-loop measure-table-μ-loop
 measure-table-returns t c =
     let s = c.before.before.before in
-    sym (ap measured (nothing-long s.args.filter s.args.numbered.now s.args.arena.now s.args.table s.args.at s.args.depth c.if1.true) ∙ within _ s.requires.1.1.1)
+    sym (ap measured (nothing_long s.args.filter s.args.numbered.now s.args.arena.now s.args.table s.args.at s.args.depth c.if1.true) ∙ within _ s.requires.1.1.1)
 
 measure-table-first-slot-requires : (t : ℕ) → measure-table-lts.Need-first-slot-requires (measure-table-claims t) (measure-table-at t) measure-table.Post measure-table-Inv-loop measure-table-μ-loop
 measure-table-first-slot-requires t c κs =
@@ -181,7 +181,7 @@ measure-table-slot-count-requires t c κs =
     omega (arith, s.requires.1.0.long, s.requires.1.1)
 
 measure-table-few : (t : ℕ) (c : measure-table-lts.After-slot-count (measure-table-claims t) (measure-table-at t) measure-table.Post measure-table-Inv-loop measure-table-μ-loop)
-    → (c.slot-count.result ≤ mostItems) × (c.before.before.before.before.before.args.at ≤ longestFile) × (c.before.before.before.before.before.args.filter ≤ mostFilter)
+    → (c.slot-count.result ≤ most_items) × (c.before.before.before.before.before.args.at ≤ longest_file) × (c.before.before.before.before.before.args.filter ≤ most_filter)
 measure-table-few t c = let s = c.before.before.before.before.before in (omega (arith, few (measure-table-given t c)), s.requires.1.1.1, s.requires.1.1.2)
 
 measure-table-add-end : (t : ℕ) → measure-table-lts.Need-overflow-add-end (measure-table-claims t) (measure-table-at t) measure-table.Post measure-table-Inv-loop measure-table-μ-loop
@@ -202,12 +202,12 @@ measure-table-add-end-3 t c = omega (arith, measure-table-few t c)
 measure-table-returns-2 : (t : ℕ) → measure-table-lts.Need-returns-2 (measure-table-claims t) (measure-table-at t) measure-table.Post measure-table-Inv-loop measure-table-μ-loop
 measure-table-returns-2 t c =
     let g = measure-table-given t c.before in
-    sym (beyond _ (omega (arith, table-least g, c.if2.true)))
+    sym (beyond _ (omega (arith, table_least g, c.if2.true)))
 
 measure-table-loop-holds : (t : ℕ) → measure-table-lts.Need-loop-init (measure-table-claims t) (measure-table-at t) measure-table.Post measure-table-Inv-loop measure-table-μ-loop
 measure-table-loop-holds t c =
     let g = measure-table-given t c.before in
-    (omega arith, omega (arith, c.if2.false), first-offset g)
+    (omega arith, omega (arith, c.if2.false), first_offset g)
 
 measure-table-add-measure-item : (t : ℕ) → measure-table-lts.Need-overflow-add-measure-item (measure-table-claims t) (measure-table-at t) measure-table.Post measure-table-Inv-loop measure-table-μ-loop
 measure-table-add-measure-item t c =
@@ -235,7 +235,7 @@ measure-table-returns-3 : (t : ℕ) → measure-table-lts.Need-returns-3 (measur
 measure-table-returns-3 t c =
     let g = measure-table-given t c.before.before.before.before.before.before in
     let at = c.before.before.before.before.loop in
-    sym (beyond _ (item-over g at.k c.before.before.before.loop-test.true at.invariant.2 c.before.before.measure-item.ensures c.enum_told.given.1))
+    sym (beyond _ (item_over g at.k c.before.before.before.loop-test.true at.invariant.2 c.before.before.measure-item.ensures c.enum_told.given.1))
 
 measure-table-add-k : (t : ℕ) → measure-table-lts.Need-overflow-add-k (measure-table-claims t) (measure-table-at t) measure-table.Post measure-table-Inv-loop measure-table-μ-loop
 measure-table-add-k t c =
@@ -250,7 +250,7 @@ measure-table-loop-again t c =
     let g = measure-table-given t c.before.before.before.before.before.before.before in
     let at = c.before.before.before.before.before.loop in
     let less = c.before.before.before.before.loop-test.true in
-    let ends = item-ends g at.k less at.invariant.2 c.before.before.before.measure-item.ensures c.before.stop.given.1 in
+    let ends = item_ends g at.k less at.invariant.2 c.before.before.before.measure-item.ensures c.before.stop.given.1 in
     (omega (arith, less), ends.0, ends.1)
 
 measure-table-returns-4 : (t : ℕ) → measure-table-lts.Need-returns-4 (measure-table-claims t) (measure-table-at t) measure-table.Post measure-table-Inv-loop measure-table-μ-loop
@@ -261,8 +261,8 @@ measure-table-returns-4 t c =
     let arena = s.args.arena.now in
     let at = c.before.loop in
     let all : at.k ≡ c.before.before.before.slot-count.result = omega (arith, at.invariant.0, c.loop-test.false) in
-    let ends : s.args.at + length (numberedBytes s.args.filter numbered arena s.args.depth s.args.table s.args.at) ≡ at.end =
-    table-ends g ∙ sym (rw all at at.invariant.2) in
+    let ends : s.args.at + length (numbered_bytes s.args.filter numbered arena s.args.depth s.args.table s.args.at) ≡ at.end =
+    table_ends g ∙ sym (rw all at at.invariant.2) in
     sym (ap measured ends ∙ within _ at.invariant.1)
 
 pub +measure-item-measure-table-spec : {M : Type 1} → statement M

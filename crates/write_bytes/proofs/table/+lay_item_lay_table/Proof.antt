@@ -2,18 +2,18 @@
 -- The invariant of the loop: the records, fragments and values of the first k items are laid.
 use mathlib.Core.Path.{◌≡◌, refl, sym, ◌∙◌}
 use Prim.Native.Nat.{ℕ, ◌+◌, ◌*◌, ◌-◌, ◌≤◌, ◌<◌}
-use Rattle.layout.specs.Limits.{longestFile}
+use Rattle.layout.specs.Limits.{longest_file}
 use native.Mathlib.Omega.{arith}
 use borrow.Author.Rules.{rules}
 use borrow.Fn.Kinds.{In}
 use borrow.Fn.PlainCycle.{Measures, is, falls, and}
 use lib.ListN.{length}
-use Rattle.layout.specs.Kind.{tableKind}
-use Rattle.write_parts.specs.Numbered.{slotKind, numberedBytes}
-use Rattle.write_parts.proofs.SlotLaws.{start-above}
-use Rattle.write_bytes.proofs.ItemLaws.{AtSlot, slot-in, slot-fits, cover-fits, item-end, record-fits, item-laid, guest-is, table-item, plain_end, value-plain}
+use Rattle.layout.specs.Kind.{table_kind}
+use Rattle.write_parts.specs.Numbered.{slot_kind, numbered_bytes}
+use Rattle.write_parts.proofs.SlotLaws.{start_above}
+use Rattle.write_bytes.proofs.ItemLaws.{AtSlot, slot_in, slot_fits, cover_fits, item_end, record_fits, item_laid, guest_is, table-item, plain_end, value-plain}
 use Rattle.write_bytes.proofs.TableLaws.{Half}
-use Rattle.write_bytes.proofs.TurnLaws.{AtTable, plan_at, base_at, nothing-laid, table-least, few, front_fits, turn, begun, more, whole}
+use Rattle.write_bytes.proofs.TurnLaws.{AtTable, plan_at, base_at, nothing_laid, table_least, few, front_fits, turn, begun, more, whole}
 use Rattle.write_bytes.proofs.table.lay_item.Reads as lay-item
 use Rattle.write_bytes.proofs.table.lay_item.Kinds as lay-item-kinds
 use Rattle.write_bytes.proofs.table.+lay_item_lay_table.Lts-lay_item as lay-item-lts
@@ -65,7 +65,7 @@ lay-item-value-start-requires : (t : ℕ) → lay-item-lts.Need-value-start-requ
 lay-item-value-start-requires t c κs =
     let s = c.before.before.before in
     let g = lay-item-given t s in
-    (slot-in g, ((slot-fits g).size, omega (arith, s.requires.1.1.1)))
+    (slot_in g, ((slot_fits g).size, omega (arith, s.requires.1.1.1)))
 
 lay-item-lay-record-requires : (t : ℕ) → lay-item-lts.Need-lay-record-requires (lay-item-claims t) (lay-item-at t) lay-item.Post
 lay-item-lay-record-requires t c κs =
@@ -73,12 +73,12 @@ lay-item-lay-record-requires t c κs =
     let g = lay-item-given t s in
     let numbered = s.args.numbered.now in
     let arena = s.args.arena.now in
-    let inner = numberedBytes s.args.filter numbered arena s.args.depth in (
-      slot-in g,
+    let inner = numbered_bytes s.args.filter numbered arena s.args.depth in (
+      slot_in g,
       (
-        cover-fits g,
+        cover_fits g,
         (
-          rw c.before.value-start.ensures (record-fits g inner s.args.filter s.args.at s.requires.1.1.0.2 (omega (arith, s.requires.1.1.1))),
+          rw c.before.value-start.ensures (record_fits g inner s.args.filter s.args.at s.requires.1.1.0.2 (omega (arith, s.requires.1.1.1))),
           (s.requires.1.1.0.2, omega (arith, s.requires.1.1)),
         ),
       ),
@@ -90,13 +90,13 @@ lay-item-lay-key-requires t c κs =
     let g = lay-item-given t s in
     let numbered = s.args.numbered.now in
     let arena = s.args.arena.now in
-    let inner = numberedBytes s.args.filter numbered arena s.args.depth in (
-      slot-in g,
+    let inner = numbered_bytes s.args.filter numbered arena s.args.depth in (
+      slot_in g,
       (
-        (slot-fits g).fragment,
+        (slot_fits g).fragment,
         (
-          omega (arith, c.before.before.before.before.before.value-start.ensures, start-above numbered s.args.slot s.args.at),
-          omega (arith, c.before.before.before.before.before.value-start.ensures, c.before.before.before.lay-record.auto, item-end g inner s.args.at, s.requires.1.1.1),
+          omega (arith, c.before.before.before.before.before.value-start.ensures, start_above numbered s.args.slot s.args.at),
+          omega (arith, c.before.before.before.before.before.value-start.ensures, c.before.before.before.lay-record.auto, item_end g inner s.args.at, s.requires.1.1.1),
         ),
       ),
     )
@@ -118,7 +118,7 @@ lay-item-lay-table-requires t c κs =
     let numbered = s.args.numbered.now in
     let arena = s.args.arena.now in
     let fits = s.requires.1.0 in
-    let inner = numberedBytes s.args.filter numbered arena s.args.depth in
+    let inner = numbered_bytes s.args.filter numbered arena s.args.depth in
     let kind = sym c.before.before.before.slot-word.ensures ∙ c.before.before.if1.true in
     let guest = c.before.slot-word2.ensures in
     let ends = table-item g inner s.args.at kind guest c.before.before.before.before.before.before.before.before.before.before.before.before.value-start.ensures in (
@@ -126,7 +126,7 @@ lay-item-lay-table-requires t c κs =
       (
         fits,
         (
-          (omega (arith, guest, (slot-fits g).guest kind), s.requires.1.1.0.2),
+          (omega (arith, guest, (slot_fits g).guest kind), s.requires.1.1.0.2),
           (
             omega (arith, ends, s.requires.1.1.1, c.before.before.before.before.before.before.lay-key.auto, c.before.before.before.before.before.before.before.before.before.before.lay-record.auto),
             omega (arith, s.requires.1.1.1, c.before.before.before.before.before.before.lay-key.auto, c.before.before.before.before.before.before.before.before.before.before.lay-record.auto),
@@ -144,10 +144,10 @@ lay-item-returns t c =
     let g = lay-item-given t s in
     let numbered = s.args.numbered.now in
     let arena = s.args.arena.now in
-    let inner = numberedBytes s.args.filter numbered arena s.args.depth in
+    let inner = numbered_bytes s.args.filter numbered arena s.args.depth in
     let kind = sym c.before.before.before.before.before.before.slot-word.ensures ∙ c.before.before.before.before.before.if1.true in
-    item-laid g inner s.args.filter s.args.image.now s.args.to s.args.at c.before.before.before.before.before.before.before.before.before.before.before.before.before.before.before.value-start.ensures c.before.before.before.before.before.before.before.before.before.before.before.before.before.lay-record.ensures
-    c.before.before.before.before.before.before.before.before.before.lay-key.ensures (guest-is g inner kind c.before.before.before.before.slot-word2.ensures) c.before.before.lay-table.ensures
+    item_laid g inner s.args.filter s.args.image.now s.args.to s.args.at c.before.before.before.before.before.before.before.before.before.before.before.before.before.before.before.value-start.ensures c.before.before.before.before.before.before.before.before.before.before.before.before.before.lay-record.ensures
+    c.before.before.before.before.before.before.before.before.before.lay-key.ensures (guest_is g inner kind c.before.before.before.before.slot-word2.ensures) c.before.before.lay-table.ensures
 
 lay-item-lay-plain-requires : (t : ℕ) → lay-item-lts.Need-lay-plain-requires (lay-item-claims t) (lay-item-at t) lay-item.Post
 lay-item-lay-plain-requires t c κs =
@@ -157,8 +157,8 @@ lay-item-lay-plain-requires t c κs =
     let arena = s.args.arena.now in
     let fits = s.requires.1.0 in
     let inside = s.requires.1.1.0.0 in
-    let inner = numberedBytes s.args.filter numbered arena s.args.depth in
-    let plain : slotKind numbered s.args.slot ≡ tableKind → ⊥ = λ e. c.before.if1.false (c.before.before.slot-word.ensures ∙ e) in
+    let inner = numbered_bytes s.args.filter numbered arena s.args.depth in
+    let plain : slot_kind numbered s.args.slot ≡ table_kind → ⊥ = λ e. c.before.if1.false (c.before.before.slot-word.ensures ∙ e) in
     let ends = plain_end g inner s.args.at plain c.before.before.before.before.before.before.before.before.before.before.before.value-start.ensures in
     (fits, (inside, (plain, omega (arith, ends, s.requires.1.1.1, c.before.before.before.before.before.lay-key.auto, c.before.before.before.before.before.before.before.before.before.lay-record.auto))))
 
@@ -171,9 +171,9 @@ lay-item-returns-2 t c =
     let g = lay-item-given t s in
     let numbered = s.args.numbered.now in
     let arena = s.args.arena.now in
-    let inner = numberedBytes s.args.filter numbered arena s.args.depth in
-    let plain : slotKind numbered s.args.slot ≡ tableKind → ⊥ = λ e. c.before.before.before.before.if1.false (c.before.before.before.before.before.slot-word.ensures ∙ e) in
-    item-laid g inner s.args.filter s.args.image.now s.args.to s.args.at c.before.before.before.before.before.before.before.before.before.before.before.before.before.before.value-start.ensures c.before.before.before.before.before.before.before.before.before.before.before.before.lay-record.ensures
+    let inner = numbered_bytes s.args.filter numbered arena s.args.depth in
+    let plain : slot_kind numbered s.args.slot ≡ table_kind → ⊥ = λ e. c.before.before.before.before.if1.false (c.before.before.before.before.before.slot-word.ensures ∙ e) in
+    item_laid g inner s.args.filter s.args.image.now s.args.to s.args.at c.before.before.before.before.before.before.before.before.before.before.before.before.before.before.value-start.ensures c.before.before.before.before.before.before.before.before.before.before.before.before.lay-record.ensures
     c.before.before.before.before.before.before.before.before.lay-key.ensures (sym (value-plain g inner _ plain)) c.before.before.lay-plain.ensures
 
 abbrev lay-table-Inv-loop : lay-table-lts.invariant-loop
@@ -193,14 +193,14 @@ lay-table-given t c =
       known = s.requires.1.1.0.0;
       low = s.requires.1.1.0.1;
       deep = c.before.before.if1.false;
-      first-is = c.before.first_slot.ensures;
-      count-is = c.slot-count.ensures;
+      first_is = c.before.first_slot.ensures;
+      count_is = c.slot-count.ensures;
     }
 
 lay-table-returns : (t : ℕ) → lay-table-lts.Need-returns (lay-table-claims t) (lay-table-at t) lay-table.Post lay-table-Inv-loop lay-table-μ-loop
 lay-table-returns t c =
     let s = c.before.before.before.before in
-    nothing-laid s.args.filter s.args.numbered.now s.args.arena.now s.args.table s.args.at s.args.depth s.args.image.now c.if1.true
+    nothing_laid s.args.filter s.args.numbered.now s.args.arena.now s.args.table s.args.at s.args.depth s.args.image.now c.if1.true
 
 lay-table-first-slot-requires : (t : ℕ) → lay-table-lts.Need-first-slot-requires (lay-table-claims t) (lay-table-at t) lay-table.Post lay-table-Inv-loop lay-table-μ-loop
 lay-table-first-slot-requires t c κs =
@@ -217,12 +217,12 @@ lay-table-lay-front-requires t c κs =
     let s = c.before.before.before.before.before.before.before in
     let g = lay-table-given t c.before in
     let fits = s.requires.1.0 in
-    ((fits.long, few g, g.low), (front_fits g, omega (arith, table-least g, s.requires.1.1.1)))
+    ((fits.long, few g, g.low), (front_fits g, omega (arith, table_least g, s.requires.1.1.1)))
 
 -- its chunk ends within the longest file
 lay-table-room : (t : ℕ) (c : lay-table-lts.After-slot-count (lay-table-claims t) (lay-table-at t) lay-table.Post lay-table-Inv-loop lay-table-μ-loop)
-    → c.before.before.before.before.before.before.args.at + 8 + 4 * c.before.before.before.before.before.before.args.filter + 28 * c.slot-count.result ≤ longestFile
-lay-table-room t c = omega (arith, table-least (lay-table-given t c), c.before.before.before.before.before.before.requires.1.1.1)
+    → c.before.before.before.before.before.before.args.at + 8 + 4 * c.before.before.before.before.before.before.args.filter + 28 * c.slot-count.result ≤ longest_file
+lay-table-room t c = omega (arith, table_least (lay-table-given t c), c.before.before.before.before.before.before.requires.1.1.1)
 
 lay-table-add-records : (t : ℕ) → lay-table-lts.Need-overflow-add-records (lay-table-claims t) (lay-table-at t) lay-table.Post lay-table-Inv-loop lay-table-μ-loop
 lay-table-add-records t c = omega (arith, lay-table-room t c.before.before.before.before)
@@ -259,13 +259,13 @@ lay-table-mul-lay-item : (t : ℕ) → lay-table-lts.Need-overflow-mul-lay-item 
 lay-table-mul-lay-item t c =
     let s = c.before.before.before.before.before.before.before.before.before.before.before.before.before in
     let g = lay-table-given t c.before.before.before.before.before.before.before in
-    omega (arith, table-least g, s.requires.1.1.1, c.before.loop-test.true)
+    omega (arith, table_least g, s.requires.1.1.1, c.before.loop-test.true)
 
 lay-table-add-lay-item-2 : (t : ℕ) → lay-table-lts.Need-overflow-add-lay-item-2 (lay-table-claims t) (lay-table-at t) lay-table.Post lay-table-Inv-loop lay-table-μ-loop
 lay-table-add-lay-item-2 t c =
     let s = c.before.before.before.before.before.before.before.before.before.before.before.before.before in
     let g = lay-table-given t c.before.before.before.before.before.before.before in
-    omega (arith, table-least g, s.requires.1.1.1, c.before.loop-test.true)
+    omega (arith, table_least g, s.requires.1.1.1, c.before.loop-test.true)
 
 lay-table-sub-lay-item : (t : ℕ) → lay-table-lts.Need-overflow-sub-lay-item (lay-table-claims t) (lay-table-at t) lay-table.Post lay-table-Inv-loop lay-table-μ-loop
 lay-table-sub-lay-item t c = omega (arith, c.before.before.before.before.before.before.before.before.before.if1.false)

@@ -1,7 +1,7 @@
 -- `write_bytes::whole::lay_image` meets its contract.
 use native.Mathlib.Omega.{arith}
 use borrow.Author.Rules.{rules}
-use Rattle.write_bytes.proofs.ImageLaws.{length-image, image-laid}
+use Rattle.write_bytes.proofs.ImageLaws.{length-image, image_laid}
 use Rattle.write_bytes.proofs.whole.lay_image.Statement.{statement}
 use Rattle.write_bytes.proofs.whole.lay_image.Tie as tie
 
@@ -22,7 +22,7 @@ same_length c = search rules
 returns : tie.Need-returns
 returns c =
     let args = c.before.before.before.before.before.before.before.before.before.before.before.args in
-    image-laid args.filter args.numbered.now args.arena.now args.table args.image.now c.before.before.before.before.before.before.put-zeros.ensures c.before.before.lay-table.ensures
+    image_laid args.filter args.numbered.now args.arena.now args.table args.image.now c.before.before.before.before.before.before.put-zeros.ensures c.before.before.lay-table.ensures
 
 pub lay-image-spec : {M : Type 1} → statement M
 lay-image-spec = tie.close (tie.spec put-zeros-requires lay-table-requires same_length returns)

@@ -4,8 +4,8 @@ use native.Mathlib.Omega.{arith}
 use borrow.Author.Tests.{not-true}
 use borrow.Author.Rules.{rules}
 use lib.ListN.{length}
-use Rattle.write_numbers.proofs.BareLaws.{put-bare}
-use Rattle.write_numbers.proofs.FillLaws.{indexed-count, slots-part, slots-below, put_all}
+use Rattle.write_numbers.proofs.BareLaws.{put_bare}
+use Rattle.write_numbers.proofs.FillLaws.{indexed_count, slots_part, slots_below, put_all}
 use Rattle.write_numbers.proofs.fill.put_table.Statement.{statement}
 use Rattle.write_numbers.proofs.fill.put_table.Tie as tie
 
@@ -18,7 +18,7 @@ same_length c = search rules
 returns : tie.Need-returns
 returns c =
     let a = c.before.before.before.before.before.before.before.before.args in
-    (refl, put-bare a.words.now a.arena.now a.t (sym c.before.has-items.ensures ∙ not-true _ c.if1.true) a.first a.slots.now a.indices.now a.buckets.now)
+    (refl, put_bare a.words.now a.arena.now a.t (sym c.before.has-items.ensures ∙ not-true _ c.if1.true) a.first a.slots.now a.indices.now a.buckets.now)
 
 mul-index-table : tie.Need-overflow-mul-index-table
 mul-index-table c = search rules
@@ -52,7 +52,7 @@ add-index-items c =
     let s = c.before.before.before.before.before.before.before.before.before.before.before.before.before.before.before.before.before.before in
     let a = s.args in
     let l = c.before.before.before.before.before.before.index-table in
-    omega (arith, indexed-count a.words.now a.arena.now a.t a.first l.result a.slots.now l.new.1.1.1.0 a.buckets.now l.new.1.1.1.1.0 s.requires.0.0.fit s.requires.0.1 s.requires.1.of_slots s.requires.1.of-buckets l.ensures.1, s.requires.0.1)
+    omega (arith, indexed_count a.words.now a.arena.now a.t a.first l.result a.slots.now l.new.1.1.1.0 a.buckets.now l.new.1.1.1.1.0 s.requires.0.0.fit s.requires.0.1 s.requires.1.of_slots s.requires.1.of_buckets l.ensures.1, s.requires.0.1)
 
 mul-index-items : tie.Need-overflow-mul-index-items
 mul-index-items c = search rules
@@ -68,14 +68,14 @@ part-index-items-end c =
     let s = c.before.before.before.before.before.before.before.before.before.before.before.before.before.before.before.before.before.before.before in
     let a = s.args in
     let l = c.before.before.before.before.before.before.before.index-table in
-    omega (arith, indexed-count a.words.now a.arena.now a.t a.first l.result a.slots.now l.new.1.1.1.0 a.buckets.now l.new.1.1.1.1.0 s.requires.0.0.fit s.requires.0.1 s.requires.1.of_slots s.requires.1.of-buckets l.ensures.1, s.requires.0.1, s.requires.1.of_slots)
+    omega (arith, indexed_count a.words.now a.arena.now a.t a.first l.result a.slots.now l.new.1.1.1.0 a.buckets.now l.new.1.1.1.1.0 s.requires.0.0.fit s.requires.0.1 s.requires.1.of_slots s.requires.1.of_buckets l.ensures.1, s.requires.0.1, s.requires.1.of_slots)
 
 index-items-requires : tie.Need-index-items-requires
 index-items-requires c κs =
     let s = c.before.before.before.before.before.before.before.before.before.before.before.before.before.before.before.before.before.before.before.before.before in
     let a = s.args in
     let l = c.before.before.before.before.before.before.before.before.before.index-table in
-    rw (slots-part a.words.now a.arena.now a.t a.first l.result a.slots.now l.new.1.1.1.0 a.buckets.now l.new.1.1.1.1.0 s.requires.0.0.fit s.requires.0.1 s.requires.1.of_slots s.requires.1.of-buckets l.ensures.1) (slots-below a.words.now a.arena.now a.t a.first l.result a.slots.now l.new.1.1.1.0 a.buckets.now l.new.1.1.1.1.0 s.requires.0.0.fit s.requires.0.1 s.requires.1.of_slots s.requires.1.of-buckets l.ensures.1 (length a.indices.now) (omega (arith, s.requires.1.of-indices)))
+    rw (slots_part a.words.now a.arena.now a.t a.first l.result a.slots.now l.new.1.1.1.0 a.buckets.now l.new.1.1.1.1.0 s.requires.0.0.fit s.requires.0.1 s.requires.1.of_slots s.requires.1.of_buckets l.ensures.1) (slots_below a.words.now a.arena.now a.t a.first l.result a.slots.now l.new.1.1.1.0 a.buckets.now l.new.1.1.1.1.0 s.requires.0.0.fit s.requires.0.1 s.requires.1.of_slots s.requires.1.of_buckets l.ensures.1 (length a.indices.now) (omega (arith, s.requires.1.of_indices)))
 
 same-length-2 : tie.Need-same-length-2
 same-length-2 c = search rules
@@ -95,7 +95,7 @@ returns-2 c =
     let a = s.args in
     let l = c.before.before.before.before.before.before.before.before.before.before.before.before.index-table in
     let i = c.before.before.index-items in
-    (l.ensures.0, put_all a.words.now a.arena.now a.t a.first l.result a.slots.now l.new.1.1.1.0 a.buckets.now l.new.1.1.1.1.0 s.requires.0.0.fit s.requires.0.1 s.requires.1.of_slots s.requires.1.of-buckets l.ensures.1 a.indices.now i.new.1.0 _ (slots-part a.words.now a.arena.now a.t a.first l.result a.slots.now l.new.1.1.1.0 a.buckets.now l.new.1.1.1.1.0 s.requires.0.0.fit s.requires.0.1 s.requires.1.of_slots s.requires.1.of-buckets l.ensures.1) i.ensures)
+    (l.ensures.0, put_all a.words.now a.arena.now a.t a.first l.result a.slots.now l.new.1.1.1.0 a.buckets.now l.new.1.1.1.1.0 s.requires.0.0.fit s.requires.0.1 s.requires.1.of_slots s.requires.1.of_buckets l.ensures.1 a.indices.now i.new.1.0 _ (slots_part a.words.now a.arena.now a.t a.first l.result a.slots.now l.new.1.1.1.0 a.buckets.now l.new.1.1.1.1.0 s.requires.0.0.fit s.requires.0.1 s.requires.1.of_slots s.requires.1.of_buckets l.ensures.1) i.ensures)
 
 pub put-table-spec : {M : Type 1} → statement M
 put-table-spec =

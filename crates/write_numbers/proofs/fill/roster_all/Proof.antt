@@ -1,6 +1,6 @@
 -- `write_numbers::fill::roster_all` meets its contract: the parts filled, then copied one behind the other.
 use mathlib.Core.Path.{refl}
-use Rattle.write_numbers.proofs.RosterLaws.{whole-judged, rostered}
+use Rattle.write_numbers.proofs.RosterLaws.{whole_judged, rostered}
 use borrow.Author.Rules.{rules}
 use Rattle.write_numbers.proofs.fill.roster_all.Statement.{statement}
 use Rattle.write_numbers.proofs.fill.roster_all.Tie as tie
@@ -18,7 +18,7 @@ slice-aggregate-fill-4 : tie.Need-slice-aggregate-fill-4
 slice-aggregate-fill-4 c = search rules
 
 fill-requires : tie.Need-fill-requires
-fill-requires c κs = let s = c.before.before.before.before.before.before.before.before in ((whole-judged s.args.words.now s.args.arena.now s.requires.0, refl), record { of_slots = refl; of-indices = refl; of-buckets = refl })
+fill-requires c κs = let s = c.before.before.before.before.before.before.before.before in ((whole_judged s.args.words.now s.args.arena.now s.requires.0, refl), record { of_slots = refl; of_indices = refl; of_buckets = refl })
 
 slice-aggregate-put-words : tie.Need-slice-aggregate-put-words
 slice-aggregate-put-words c = search rules
@@ -57,7 +57,7 @@ returns c =
       f.ensures.0,
       rostered f.new.1.1.0 f.new.1.1.1.0 f.new.1.1.1.1.0 f.new.1.1.1.1.1.0 s.args.roster.now
           c.before.before.before.before.before.before.before.before.before.before.before.before.before.before.before.before.before.put-words.new.0 c.before.before.before.before.before.before.before.before.before.before.before.before.put-words2.new.0 c.before.before.before.before.before.before.before.put-words3.new.0 c.before.before.put-words4.new.0
-          s.requires.1 f.auto.1.1.0 (record { of_slots = f.auto.1.1.1.0; of-indices = f.auto.1.1.1.1.0; of-buckets = f.auto.1.1.1.1.1.0 })
+          s.requires.1 f.auto.1.1.0 (record { of_slots = f.auto.1.1.1.0; of_indices = f.auto.1.1.1.1.0; of_buckets = f.auto.1.1.1.1.1.0 })
           c.before.before.before.before.before.before.before.before.before.before.before.before.before.before.before.before.before.put-words.ensures c.before.before.before.before.before.before.before.before.before.before.before.before.put-words2.ensures c.before.before.before.before.before.before.before.put-words3.ensures c.before.before.put-words4.ensures
           s.args.words.now s.args.arena.now s.requires.0 f.ensures.1,
     )

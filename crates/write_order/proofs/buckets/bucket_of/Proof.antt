@@ -2,7 +2,7 @@
 use mathlib.Core.Path.{refl}
 use native.Mathlib.Nat.{mod-lt}
 use native.Mathlib.Omega.{arith}
-use Rattle.image.specs.Index.{bucketOf}
+use Rattle.image.specs.Index.{bucket_of}
 use borrow.Author.Rules.{rules}
 use Rattle.write_order.proofs.buckets.bucket_of.Statement.{statement}
 use Rattle.write_order.proofs.buckets.bucket_of.Tie as tie
@@ -17,7 +17,7 @@ rem-result : tie.Need-nonzero-rem-result
 rem-result c = search rules
 
 returns : tie.Need-returns
-unfolding bucketOf
+unfolding bucket_of
 returns c = (refl, mod-lt _ (omega arith))
 
 pub bucket-of-spec : {M : Type 1} → statement M

@@ -4,7 +4,7 @@ use Prim.Native.Nat.{◌-◌, ◌≤◌, ◌<◌}
 use native.Mathlib.Omega.{arith}
 use lib.ListN.{length, length-set}
 use Rattle.write_order.specs.Chain.{Chained, EmptyFrom}
-use Rattle.write_order.proofs.ChainLaws.{chained-none, chained_more, empty-from, empty-later}
+use Rattle.write_order.proofs.ChainLaws.{chained_none, chained_more, empty_from, empty_later}
 use Rattle.write_order.proofs.buckets.chain_all.Statement.{statement}
 use Rattle.write_order.proofs.buckets.chain_all.Tie as tie
 
@@ -22,7 +22,7 @@ decreases-loop hashes heads₀ links₀ p₀ heads links p = length hashes - p
 loop-holds : tie.Need-loop-init invariant-loop decreases-loop
 loop-holds c =
     let s = c.before.before.before in
-    (omega arith, refl, refl, chained-none _ _ _ s.requires.0.1 s.requires.1.0, empty-from _ s.requires.1.1)
+    (omega arith, refl, refl, chained_none _ _ _ s.requires.0.1 s.requires.1.0, empty_from _ s.requires.1.1)
 
 bucket-of-requires : tie.Need-bucket-of-requires invariant-loop decreases-loop
 bucket-of-requires c κs = omega arith
@@ -54,13 +54,13 @@ loop-less c = omega arith
 loop-again : tie.Need-loop-preserved invariant-loop decreases-loop
 loop-again c =
     let l = c.before.before.before.loop in
-    let b = c.before.bucket-of in
+    let b = c.before.bucket_of_lem in
     let inside : b.result < length l.heads = omega arith in (
       omega arith,
       simp length-set l.invariant.1,
       simp length-set l.invariant.2,
       chained_more _ _ _ _ b.ensures.0 inside (omega arith) (omega arith) l.invariant.3,
-      empty-later _ _ _ l.invariant.4,
+      empty_later _ _ _ l.invariant.4,
     )
 
 same_length : tie.Need-same-length invariant-loop decreases-loop

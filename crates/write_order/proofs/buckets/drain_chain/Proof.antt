@@ -6,12 +6,12 @@ use Prim.Native.Nat.{ℕ, ◌+◌, ◌-◌, ◌≤◌, ◌<◌}
 use native.Mathlib.Omega.{arith}
 use lib.ListN.{length, get_or, set, length-set, length-append}
 use Rattle.words.specs.Store.{put_at}
-use Rattle.words.proofs.StoreLaws.{put-none, put-snoc}
+use Rattle.words.proofs.StoreLaws.{put-none, put_snoc}
 use Rattle.model.specs.Table.{times}
-use Rattle.image.proofs.TimesLaws.{times-here, times-cons}
+use Rattle.image.proofs.TimesLaws.{times_here, times_cons}
 use Rattle.layout.specs.Item.{no_item}
 use Rattle.write_order.specs.Chain.{Chain, cleared, Drained}
-use Rattle.write_order.proofs.ChainLaws.{chain-set, chain-unique, cleared-nil, cleared-snoc}
+use Rattle.write_order.proofs.ChainLaws.{chain_set, chain_unique, cleared_nil, cleared_snoc}
 use Rattle.write_order.proofs.buckets.drain_chain.Statement.{statement}
 use Rattle.write_order.proofs.buckets.drain_chain.Tie as tie
 
@@ -23,9 +23,9 @@ record Draining (links₀ order₀ : List ℕ) (head at : ℕ) (links order : Li
   once : (x : ℕ) → times x rest ≤ 1
   end_is : end ≡ at + length done
   order_is : order ≡ put_at order₀ at done
-  links-is : links ≡ cleared links₀ done
+  links_is : links ≡ cleared links₀ done
   fits : end + length rest ≤ length order₀
-  links-long : length links ≡ length links₀
+  links_long : length links ≡ length links₀
   order-long : length order ≡ length order₀
 
 -- what a turn needs, and what it leaves
@@ -48,28 +48,28 @@ module _ {links₀ order₀ : List ℕ} {head at : ℕ} {links order : List ℕ}
           done = done ++ (x ∷ []);
           rest = rest;
           whole = rw append_assoc w;
-          chained = chain-set links x no_item (get_or links x 0) rest (omega (arith, d x, times-here x x rest refl)) c.3;
-          once = λ y. omega (arith, d y, times-cons y x rest);
+          chained = chain_set links x no_item (get_or links x 0) rest (omega (arith, d x, times_here x x rest refl)) c.3;
+          once = λ y. omega (arith, d y, times_cons y x rest);
           end_is = simp length-append (omega arith);
-          order_is = rw (put-snoc, ← o, ← e);
-          links-is = rw (cleared-snoc, ← k);
+          order_is = rw (put_snoc, ← o, ← e);
+          links_is = rw (cleared_snoc, ← k);
           fits = omega arith;
-          links-long = length-set links x no_item ∙ ll;
+          links_long = length-set links x no_item ∙ ll;
           order-long = length-set order end x ∙ lo;
         });
       }
 
   turn : Draining links₀ order₀ head at links order p end → (p ≡ no_item → ⊥) → Turn links₀ order₀ head at links order p end
-  turn s n = turn_at s.done s.rest s.whole s.chained s.once s.end_is s.order_is s.links-is s.fits s.links-long s.order-long n
+  turn s n = turn_at s.done s.rest s.whole s.chained s.once s.end_is s.order_is s.links_is s.fits s.links_long s.order-long n
 
   -- at the empty mark nothing is left
   drained : Draining links₀ order₀ head at links order p end → p ≡ no_item → Drained links₀ links order₀ order head at end
   unfolding Drained Chain
   drained s e l c =
-      let none : s.rest ≡ [] = chain-unique links p s.rest [] s.chained e in
+      let none : s.rest ≡ [] = chain_unique links p s.rest [] s.chained e in
       let all : s.done ≡ l =
-      sym (append-nil s.done) ∙ ap (λ (r : List ℕ). s.done ++ r) (sym none) ∙ chain-unique links₀ head (s.done ++ s.rest) l s.whole c in
-      record { end_is = rw all at s.end_is; order_is = rw all at s.order_is; links-is = rw all at s.links-is }
+      sym (append-nil s.done) ∙ ap (λ (r : List ℕ). s.done ++ r) (sym none) ∙ chain_unique links₀ head (s.done ++ s.rest) l s.whole c in
+      record { end_is = rw all at s.end_is; order_is = rw all at s.order_is; links_is = rw all at s.links_is }
 
 abbrev invariant-loop : tie.invariant-loop
 invariant-loop head links₀ order₀ at p₀ end₀ links order p end = Draining links₀ order₀ head at links order p end
@@ -88,9 +88,9 @@ loop-holds c =
       once = s.once;
       end_is = omega arith;
       order_is = sym (put-none _ _);
-      links-is = sym (cleared-nil _);
+      links_is = sym (cleared_nil _);
       fits = s.fits;
-      links-long = refl;
+      links_long = refl;
       order-long = refl;
     }
 
@@ -122,7 +122,7 @@ loop-again : tie.Need-loop-preserved invariant-loop decreases-loop
 loop-again c = (turn c.before.before.loop.invariant c.before.loop-test.true).next
 
 same_length : tie.Need-same-length invariant-loop decreases-loop
-same_length c = c.before.loop.invariant.links-long
+same_length c = c.before.loop.invariant.links_long
 
 same-length-2 : tie.Need-same-length-2 invariant-loop decreases-loop
 same-length-2 c = c.before.loop.invariant.order-long

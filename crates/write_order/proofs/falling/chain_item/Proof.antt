@@ -2,8 +2,8 @@
 use native.Mathlib.Omega.{arith}
 use lib.ListN.{length-set}
 use Rattle.build_memory.specs.Memory.{key_of}
-use Rattle.write_order.proofs.LinkLaws.{but-none, but-set}
-use Rattle.write_order.proofs.PlaceLaws.{placed-front, placed-behind}
+use Rattle.write_order.proofs.LinkLaws.{but_none, but_set}
+use Rattle.write_order.proofs.PlaceLaws.{placed_front, placed_behind}
 use borrow.Author.Rules.{rules}
 use Rattle.write_order.proofs.falling.chain_item.Statement.{statement}
 use Rattle.write_order.proofs.falling.chain_item.Tie as tie
@@ -48,7 +48,7 @@ returns : tie.Need-returns
 returns c =
     let s = c.before.before.before.before.before.before.before.before in
     let a = s.args in
-    (but-set a.words.now a.words.now a.i _ s.requires.0.1 (but-none a.words.now), placed-front a.words.now a.heads.now (key_of a.words.now a.arena.now) a.b a.i s.requires.0.0 s.requires.0.1 c.before.before.last-above.ensures.0 c.before.if1.true)
+    (but_set a.words.now a.words.now a.i _ s.requires.0.1 (but_none a.words.now), placed_front a.words.now a.heads.now (key_of a.words.now a.arena.now) a.b a.i s.requires.0.0 s.requires.0.1 c.before.before.last-above.ensures.0 c.before.if1.true)
 
 add-words-2 : tie.Need-overflow-add-words-2
 add-words-2 c = let inside = c.before.last-above.ensures.1 c.if1.false in omega (arith, inside)
@@ -83,7 +83,7 @@ same-length-3 c = search rules
 returns-2 : tie.Need-returns-2
 returns-2 c =
     let s = c.before.before.before.before.before.before.before.before in let a = s.args in let inside = c.before.before.last-above.ensures.1 c.before.if1.false in
-    (but-set a.words.now _ _ a.i inside (but-set a.words.now a.words.now a.i _ s.requires.0.1 (but-none a.words.now)), placed-behind a.words.now a.heads.now (key_of a.words.now a.arena.now) a.b a.i s.requires.0.0 s.requires.0.1 c.before.before.last-above.ensures.0 inside c.before.if1.false)
+    (but_set a.words.now _ _ a.i inside (but_set a.words.now a.words.now a.i _ s.requires.0.1 (but_none a.words.now)), placed_behind a.words.now a.heads.now (key_of a.words.now a.arena.now) a.b a.i s.requires.0.0 s.requires.0.1 c.before.before.last-above.ensures.0 inside c.before.if1.false)
 
 pub chain-item-spec : {M : Type 1} → statement M
 chain-item-spec =

@@ -7,15 +7,15 @@ use native.Mathlib.Numerals.{add-one}
 use native.Mathlib.Omega.{arith}
 use lib.ListN.{length, get_or}
 use Rattle.key_hash.specs.declared.hash.Form.{Form}
-use Rattle.layout.specs.Limits.{mostItems}
+use Rattle.layout.specs.Limits.{most_items}
 use Rattle.model.specs.Table.{times}
-use Rattle.build_memory.specs.Memory.{leastWords, key_of}
+use Rattle.build_memory.specs.Memory.{least_words, key_of}
 use Rattle.write_order.specs.Key.{Known}
-use Rattle.write_order.specs.Items.{hashFor}
-use Rattle.write_order.specs.Chain.{Empty, Bounded, Placed, ButLinks, linksOf, chainOf, ChainedBy}
+use Rattle.write_order.specs.Items.{hash_for}
+use Rattle.write_order.specs.Chain.{Empty, Bounded, Placed, ButLinks, links_of, chain_of, ChainedBy}
 use Rattle.write_order.proofs.KeyLaws.{known_at}
-use Rattle.write_order.proofs.LinkLaws.{links-long, but-none, but-then, but-key, but-hash}
-use Rattle.write_order.proofs.BucketLaws.{chain-most, chained-start, chained_more}
+use Rattle.write_order.proofs.LinkLaws.{links_long, but_none, but_then, but_key, but_hash}
+use Rattle.write_order.proofs.BucketLaws.{chain_most, chained_start, chained_more}
 use Rattle.write_order.proofs.falling.chain_members.Statement.{statement}
 use Rattle.write_order.proofs.falling.chain_members.Tie as tie
 
@@ -24,47 +24,47 @@ record Chaining (form : Form) (ws₀ ar members heads₀ ws heads : List ℕ) (k
   words_long : length ws ≡ length ws₀
   heads-long : length heads ≡ length heads₀
   but : ButLinks ws₀ ws
-  chained : ChainedBy form ws₀ ar members k heads (linksOf ws)
+  chained : ChainedBy form ws₀ ar members k heads (links_of ws)
 
-begin : (form : Form) (ws ar members heads : List ℕ) → length members ≤ length heads → Empty heads → Empty (linksOf ws) → Chaining form ws ar members heads ws heads 0
+begin : (form : Form) (ws ar members heads : List ℕ) → length members ≤ length heads → Empty heads → Empty (links_of ws) → Chaining form ws ar members heads ws heads 0
 begin form ws ar members heads room e f = record {
   within = omega arith;
   words_long = refl;
   heads-long = refl;
-  but = but-none ws;
-  chained = chained-start form ws ar members heads (linksOf ws) room e f;
+  but = but_none ws;
+  chained = chained_start form ws ar members heads (links_of ws) room e f;
 }
 
 -- one turn, for the item at place k
 module _ {form : Form} {ws₀ ar members heads₀ ws heads : List ℕ} {k : ℕ} (known : Known ws₀ members) (once : (x : ℕ) → times x members ≤ 1)
-    (few : length members ≤ mostItems) (room : length members ≤ length heads₀) (s : Chaining form ws₀ ar members heads₀ ws heads k) (more : k < length members) where
-  item-small : get_or members k 0 < mostItems
+    (few : length members ≤ most_items) (room : length members ≤ length heads₀) (s : Chaining form ws₀ ar members heads₀ ws heads k) (more : k < length members) where
+  item-small : get_or members k 0 < most_items
   item-small = (known_at ws₀ members known k more).1
 
-  room-words : leastWords ≤ length ws
+  room-words : least_words ≤ length ws
   room-words = omega (arith, (known_at ws₀ members known k more).0, s.words_long)
 
   bucket-small : (hash : ℕ) → hash % length members < length members
   bucket-small hash = mod-lt hash (omega arith)
 
-  bounded : (b : ℕ) → b < length members → Bounded (linksOf ws) (get_or heads b 0)
+  bounded : (b : ℕ) → b < length members → Bounded (links_of ws) (get_or heads b 0)
   bounded b l = record {
-    items = chainOf form ws₀ ar members k b;
+    items = chain_of form ws₀ ar members k b;
     chain = s.chained.chain b l;
-    few = omega (arith, chain-most form ws₀ ar members k b);
+    few = omega (arith, chain_most form ws₀ ar members k b);
   }
 
-  turn : {hash : ℕ} {ws' heads' : List ℕ} → hash ≡ hashFor form ws ar (get_or members k 0) → length ws' ≡ length ws → length heads' ≡ length heads → ButLinks ws ws'
-      → Placed (key_of ws ar) (linksOf ws) heads (hash % length members) (get_or members k 0) (linksOf ws') heads' → Chaining form ws₀ ar members heads₀ ws' heads' (k + 1)
+  turn : {hash : ℕ} {ws' heads' : List ℕ} → hash ≡ hash_for form ws ar (get_or members k 0) → length ws' ≡ length ws → length heads' ≡ length heads → ButLinks ws ws'
+      → Placed (key_of ws ar) (links_of ws) heads (hash % length members) (get_or members k 0) (links_of ws') heads' → Chaining form ws₀ ar members heads₀ ws' heads' (k + 1)
   unfolding Known
   turn {hash} {ws'} {heads'} is wl hl but placed = record {
     within = omega arith;
     words_long = wl ∙ s.words_long;
     heads-long = hl ∙ s.heads-long;
-    but = but-then ws₀ ws ws' s.but but;
-    chained = rw add-one (chained_more form ws₀ ar members k heads (linksOf ws) (linksOf ws') heads' (key_of ws ar) (hash % length members) more (links-long ws room-words)
-        once known.1 (λ x l. but-key ws₀ ws ar s.but x l)
-        (ap (λ (h : ℕ). h % length members) (sym (is ∙ but-hash ws₀ ws ar s.but form (get_or members k 0) item-small)))
+    but = but_then ws₀ ws ws' s.but but;
+    chained = rw add-one (chained_more form ws₀ ar members k heads (links_of ws) (links_of ws') heads' (key_of ws ar) (hash % length members) more (links_long ws room-words)
+        once known.1 (λ x l. but_key ws₀ ws ar s.but x l)
+        (ap (λ (h : ℕ). h % length members) (sym (is ∙ but_hash ws₀ ws ar s.but form (get_or members k 0) item-small)))
         (omega (arith, bucket-small hash, s.heads-long)) s.chained (bucket-small hash) placed);
   }
 

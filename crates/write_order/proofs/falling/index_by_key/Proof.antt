@@ -2,11 +2,11 @@
 use mathlib.Core.Path.{◌∙◌}
 use native.Mathlib.Omega.{arith}
 use borrow.Author.Rules.{rules}
-use Rattle.layout.specs.Limits.{mostItems}
+use Rattle.layout.specs.Limits.{most_items}
 use Rattle.write_order.specs.Key.{Known}
-use Rattle.write_order.proofs.ChainLaws.{empty-fresh}
-use Rattle.write_order.proofs.LinkLaws.{links-long, but-empty}
-use Rattle.write_order.proofs.BucketLaws.{lists, all-chained, all-indexed}
+use Rattle.write_order.proofs.ChainLaws.{empty_fresh}
+use Rattle.write_order.proofs.LinkLaws.{links_long, but_empty}
+use Rattle.write_order.proofs.BucketLaws.{lists, all_chained, all_indexed}
 use Rattle.write_order.proofs.falling.index_by_key.Statement.{statement}
 use Rattle.write_order.proofs.falling.index_by_key.Tie as tie
 
@@ -14,7 +14,7 @@ slice-aggregate-chain-members : tie.Need-slice-aggregate-chain-members
 slice-aggregate-chain-members c = search rules
 
 chain-members-requires : tie.Need-chain-members-requires
-chain-members-requires c κs = let p = c.before.before.before.before.before.before.before.requires in let few = p.1.0.few in (p.0, ((few, few), (empty-fresh mostItems, p.1.1)))
+chain-members-requires c κs = let p = c.before.before.before.before.before.before.before.requires in let few = p.1.0.few in (p.0, ((few, few), (empty_fresh most_items, p.1.1)))
 
 slice-aggregate-index-all : tie.Need-slice-aggregate-index-all
 slice-aggregate-index-all c = search rules
@@ -37,7 +37,7 @@ index-all-requires c κs =
       (omega (arith, s.requires.1.0.few, chained.auto.1.1.1.0), s.requires.1.0),
       record {
         lists = lists a.form a.words.now a.arena.now a.members.now;
-        chains = all-chained a.form a.words.now a.arena.now a.members.now _ _ s.requires.0.1 chained.ensures.1;
+        chains = all_chained a.form a.words.now a.arena.now a.members.now _ _ s.requires.0.1 chained.ensures.1;
       },
     )
 
@@ -58,9 +58,9 @@ returns c =
     let chained = c.before.before.before.before.before.before.before.before.before.before.before.before.before.before.chain-members in
     let call = c.before.before.before.before.before.before.index-all in
     let long = s.requires.0.0.0 in (
-      but-empty a.words.now chained.new.0 call.new.1.1.0 long chained.ensures.0
-          (call.auto.1.1.0 ∙ links-long chained.new.0 (omega (arith, long, chained.auto.0))) call.ensures.1 s.requires.1.1,
-      all-indexed a.form a.words.now a.arena.now a.members.now (call.ensures.0 _ (all-chained a.form a.words.now a.arena.now a.members.now _ _ s.requires.0.1 chained.ensures.1)),
+      but_empty a.words.now chained.new.0 call.new.1.1.0 long chained.ensures.0
+          (call.auto.1.1.0 ∙ links_long chained.new.0 (omega (arith, long, chained.auto.0))) call.ensures.1 s.requires.1.1,
+      all_indexed a.form a.words.now a.arena.now a.members.now (call.ensures.0 _ (all_chained a.form a.words.now a.arena.now a.members.now _ _ s.requires.0.1 chained.ensures.1)),
     )
 
 pub index-by-key-spec : {M : Type 1} → statement M

@@ -9,14 +9,14 @@ use borrow.Author.Tests.{eq-eqb, ne_eqb, not-true, not-false}
 use lib.ListN.{length, get_or}
 use Rattle.words.specs.Choice.{pick}
 use Rattle.key_order.specs.Order.{precedes}
-use Rattle.layout.specs.Limits.{mostItems}
+use Rattle.layout.specs.Limits.{most_items}
 use Rattle.layout.specs.Item.{no_item}
-use Rattle.build_memory.specs.Memory.{linksFrom, leastWords, key_of}
-use Rattle.write_order.specs.Fall.{lastAbove}
-use Rattle.write_order.specs.Chain.{Chain, linksOf}
-use Rattle.write_order.proofs.ChainLaws.{chain-unique}
-use Rattle.write_order.proofs.LinkLaws.{links-long, link_at}
-use Rattle.write_order.proofs.PlaceLaws.{above-stop, above_on}
+use Rattle.build_memory.specs.Memory.{links_from, least_words, key_of}
+use Rattle.write_order.specs.Fall.{last_above}
+use Rattle.write_order.specs.Chain.{Chain, links_of}
+use Rattle.write_order.proofs.ChainLaws.{chain_unique}
+use Rattle.write_order.proofs.LinkLaws.{links_long, link_at}
+use Rattle.write_order.proofs.PlaceLaws.{above_stop, above_on}
 use Rattle.write_order.proofs.falling.last_above.Statement.{statement}
 use Rattle.write_order.proofs.falling.last_above.Tie as tie
 
@@ -34,31 +34,31 @@ size_is links (suc most) p (x ∷ l) c h =
     rw (ne_eqb p no_item (λ e. omega (arith, c.0, c.2)), c.0) (ap suc (size_is links most (get_or links x 0) l c.3 (omega arith)))
 
 record Walking (words arena : List ℕ) (head i last p : ℕ) : Type 0 where
-  known : (last ≡ no_item → ⊥) → last < mostItems
+  known : (last ≡ no_item → ⊥) → last < most_items
   rest : List ℕ
-  chained : Chain (linksOf words) p rest
-  few : length rest ≤ mostItems
-  same : (l : List ℕ) → Chain (linksOf words) head l → lastAbove (key_of words arena) i no_item l ≡ lastAbove (key_of words arena) i last rest
+  chained : Chain (links_of words) p rest
+  few : length rest ≤ most_items
+  same : (l : List ℕ) → Chain (links_of words) head l → last_above (key_of words arena) i no_item l ≡ last_above (key_of words arena) i last rest
 
 -- an item is met: it has a link, and the chain goes on behind it if its key comes behind that of i
 record Met (words arena : List ℕ) (head i last p : ℕ) : Type 0 where
-  inside : p < mostItems
-  stop : {told : Bool} → told ≡ precedes (key_of words arena i) (key_of words arena p) → told ≡ false → (l : List ℕ) → Chain (linksOf words) head l → last ≡ lastAbove (key_of words arena) i no_item l
-  on : {told : Bool} → told ≡ precedes (key_of words arena i) (key_of words arena p) → told ≡ true → Walking words arena head i p (get_or words (linksFrom + p) 0)
-  less : size (linksOf words) mostItems (get_or words (linksFrom + p) 0) < size (linksOf words) mostItems p
+  inside : p < most_items
+  stop : {told : Bool} → told ≡ precedes (key_of words arena i) (key_of words arena p) → told ≡ false → (l : List ℕ) → Chain (links_of words) head l → last ≡ last_above (key_of words arena) i no_item l
+  on : {told : Bool} → told ≡ precedes (key_of words arena i) (key_of words arena p) → told ≡ true → Walking words arena head i p (get_or words (links_from + p) 0)
+  less : size (links_of words) most_items (get_or words (links_from + p) 0) < size (links_of words) most_items p
 
-module _ {words arena : List ℕ} {head i last p : ℕ} (long : leastWords ≤ length words) where
-  met_at : (rest : List ℕ) → Chain (linksOf words) p rest → length rest ≤ mostItems
-      → ((l : List ℕ) → Chain (linksOf words) head l → lastAbove (key_of words arena) i no_item l ≡ lastAbove (key_of words arena) i last rest) → (p ≡ no_item → ⊥)
+module _ {words arena : List ℕ} {head i last p : ℕ} (long : least_words ≤ length words) where
+  met_at : (rest : List ℕ) → Chain (links_of words) p rest → length rest ≤ most_items
+      → ((l : List ℕ) → Chain (links_of words) head l → last_above (key_of words arena) i no_item l ≡ last_above (key_of words arena) i last rest) → (p ≡ no_item → ⊥)
       → Met words arena head i last p
   unfolding Chain
   met_at [] c few same n = absurd (n c)
   met_at (x ∷ rest) c few same n =
-      let inside : x < mostItems = omega (arith, c.1, links-long words long) in
-      let next : get_or (linksOf words) x 0 ≡ get_or words (linksFrom + x) 0 = link_at words long x inside in
+      let inside : x < most_items = omega (arith, c.1, links_long words long) in
+      let next : get_or (links_of words) x 0 ≡ get_or words (links_from + x) 0 = link_at words long x inside in
       rw c.0 (record {
         inside = inside;
-        stop = λ {told} is e l d. sym (same l d ∙ above-stop (key_of words arena) i last x rest (sym is ∙ e));
+        stop = λ {told} is e l d. sym (same l d ∙ above_stop (key_of words arena) i last x rest (sym is ∙ e));
         on = λ {told} is e. record {
           known = λ _. inside;
           rest = rest;
@@ -68,8 +68,8 @@ module _ {words arena : List ℕ} {head i last p : ℕ} (long : leastWords ≤ l
         };
         less = rw (← next) (omega (
           arith,
-          size_is (linksOf words) mostItems (get_or (linksOf words) x 0) rest c.3 (omega arith),
-          size_is (linksOf words) mostItems x (x ∷ rest) (refl, c.1, c.2, c.3) few,
+          size_is (links_of words) most_items (get_or (links_of words) x 0) rest c.3 (omega arith),
+          size_is (links_of words) most_items x (x ∷ rest) (refl, c.1, c.2, c.3) few,
         ));
       })
 
@@ -77,15 +77,15 @@ module _ {words arena : List ℕ} {head i last p : ℕ} (long : leastWords ≤ l
   met s n = met_at s.rest s.chained s.few s.same n
 
   -- at the empty mark nothing is left
-  ended : Walking words arena head i last p → p ≡ no_item → (l : List ℕ) → Chain (linksOf words) head l → last ≡ lastAbove (key_of words arena) i no_item l
-  unfolding Chain lastAbove
-  ended s e l c = sym (s.same l c ∙ ap (lastAbove (key_of words arena) i last) (chain-unique (linksOf words) p s.rest [] s.chained e))
+  ended : Walking words arena head i last p → p ≡ no_item → (l : List ℕ) → Chain (links_of words) head l → last ≡ last_above (key_of words arena) i no_item l
+  unfolding Chain last_above
+  ended s e l c = sym (s.same l c ∙ ap (last_above (key_of words arena) i last) (chain_unique (links_of words) p s.rest [] s.chained e))
 
 abbrev invariant-loop : tie.invariant-loop
 invariant-loop words arena head i last₀ p₀ last p = Walking words arena head i last p
 
 abbrev decreases-loop : tie.decreases-loop
-decreases-loop words arena head i last₀ p₀ last p = size (linksOf words) mostItems p
+decreases-loop words arena head i last₀ p₀ last p = size (links_of words) most_items p
 
 loop-holds : tie.Need-loop-init invariant-loop decreases-loop
 loop-holds c =
@@ -97,7 +97,7 @@ loop-holds c =
       rest = t.items;
       chained = t.chain;
       few = t.few;
-      same = λ l d. ap (lastAbove (key_of a.words.now a.arena.now) a.i no_item) (chain-unique (linksOf a.words.now) a.head l t.items d t.chain);
+      same = λ l d. ap (last_above (key_of a.words.now a.arena.now) a.i no_item) (chain_unique (links_of a.words.now) a.head l t.items d t.chain);
     }
 
 comes-before-requires : tie.Need-comes-before-requires invariant-loop decreases-loop

@@ -3,20 +3,20 @@ use mathlib.Core.Path.{◌≡◌, refl}
 use Prim.Native.Nat.{◌-◌, ◌≤◌}
 use native.Mathlib.Omega.{arith}
 use lib.ListN.{length, length-set}
-use Rattle.write_order.specs.Items.{AllBelow, indicesPut}
-use Rattle.write_order.proofs.ItemLaws.{indices-start, indices-turn}
+use Rattle.write_order.specs.Items.{AllBelow, indices_put}
+use Rattle.write_order.proofs.ItemLaws.{indices_start, indices_turn}
 use Rattle.write_order.proofs.items.index_items.Statement.{statement}
 use Rattle.write_order.proofs.items.index_items.Tie as tie
 
 abbrev invariant-loop : tie.invariant-loop
 invariant-loop items indices₀ k₀ indices k =
-    (k ≤ length items) × (length indices ≡ length indices₀) × (indices ≡ indicesPut indices₀ items k)
+    (k ≤ length items) × (length indices ≡ length indices₀) × (indices ≡ indices_put indices₀ items k)
 
 abbrev decreases-loop : tie.decreases-loop
 decreases-loop items indices₀ k₀ indices k = length items - k
 
 loop-holds : tie.Need-loop-init invariant-loop decreases-loop
-loop-holds c = (omega arith, refl, indices-start c.args.indices.now c.args.items.now)
+loop-holds c = (omega arith, refl, indices_start c.args.indices.now c.args.items.now)
 
 mul-item : tie.Need-overflow-mul-item invariant-loop decreases-loop
 mul-item c = omega arith
@@ -26,7 +26,7 @@ shared-slice-read-item c = omega arith
 
 mul-indices : tie.Need-overflow-mul-indices invariant-loop decreases-loop
 unfolding AllBelow
-mul-indices c = let s = c.before.before.before in omega (arith, s.well-formed, s.requires c.before.before.loop.k c.before.loop-test.true)
+mul-indices c = let s = c.before.before.before in omega (arith, s.well_formed_lem, s.requires c.before.before.loop.k c.before.loop-test.true)
 
 slice-write-indices : tie.Need-slice-write-indices invariant-loop decreases-loop
 unfolding AllBelow
@@ -42,7 +42,7 @@ loop-again : tie.Need-loop-preserved invariant-loop decreases-loop
 loop-again c =
     let a = c.before.before.before.args in
     let l = c.before.before.loop in
-    (omega arith, simp length-set l.invariant.1, rw l.invariant.2 (indices-turn a.indices.now a.items.now l.k))
+    (omega arith, simp length-set l.invariant.1, rw l.invariant.2 (indices_turn a.indices.now a.items.now l.k))
 
 same_length : tie.Need-same-length invariant-loop decreases-loop
 same_length c = omega arith

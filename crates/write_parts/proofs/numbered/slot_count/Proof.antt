@@ -1,6 +1,6 @@
 -- `write_parts::numbered::slot_count` meets its contract: it reads the word that the definition names.
 use borrow.Author.Rules.{rules}
-use Rattle.write_parts.specs.Numbered.{slotCount}
+use Rattle.write_parts.specs.Numbered.{slot_count}
 use Rattle.write_parts.proofs.numbered.slot_count.Statement.{statement}
 use Rattle.write_parts.proofs.numbered.slot_count.Tie as tie
 
@@ -17,7 +17,7 @@ shared-slice-read-result : tie.Need-shared-slice-read-result
 shared-slice-read-result c = search rules
 
 returns : tie.Need-returns
-unfolding slotCount
+unfolding slot_count
 returns c = search rules
 
 pub slot-count-spec : {M : Type 1} → statement M

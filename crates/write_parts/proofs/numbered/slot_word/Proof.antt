@@ -1,6 +1,6 @@
 -- `write_parts::numbered::slot_word` meets its contract: it reads the word that the definition names.
 use borrow.Author.Rules.{rules}
-use Rattle.write_parts.specs.Numbered.{slotWord}
+use Rattle.write_parts.specs.Numbered.{slot_word}
 use Rattle.write_parts.proofs.numbered.slot_word.Statement.{statement}
 use Rattle.write_parts.proofs.numbered.slot_word.Tie as tie
 
@@ -20,7 +20,7 @@ shared-slice-read-result : tie.Need-shared-slice-read-result
 shared-slice-read-result c = search rules
 
 returns : tie.Need-returns
-unfolding slotWord
+unfolding slot_word
 returns c = search rules
 
 pub slot-word-spec : {M : Type 1} → statement M

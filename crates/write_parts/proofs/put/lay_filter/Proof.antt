@@ -7,14 +7,14 @@ use borrow.Author.Rules.{rules}
 use lib.ListN.{length}
 use Rattle.words.specs.Store.{put_at}
 use Rattle.words.proofs.StoreLaws.{length-put}
-use Rattle.write_parts.specs.Slot.{slotFilter}
-use Rattle.write_parts.proofs.FilterLaws.{filter_none, filter-start, filter-turn, filter-end}
+use Rattle.write_parts.specs.Slot.{slot_filter}
+use Rattle.write_parts.proofs.FilterLaws.{filter_none, filter_start, filter_turn, filter_end}
 use Rattle.write_parts.proofs.put.lay_filter.Statement.{statement}
 use Rattle.write_parts.proofs.put.lay_filter.Tie as tie
 
 abbrev invariant-loop : tie.invariant-loop
 invariant-loop numbered image₀ first count at filter k₀ image k =
-    (k ≤ count) × (length image ≡ length image₀) × (image ≡ put_at image₀ at (slotFilter numbered filter first k))
+    (k ≤ count) × (length image ≡ length image₀) × (image ≡ put_at image₀ at (slot_filter numbered filter first k))
 
 abbrev decreases-loop : tie.decreases-loop
 decreases-loop numbered image₀ first count at filter k₀ image k = count - k
@@ -33,7 +33,7 @@ put-zeros-requires c κs = search rules
 loop-holds : tie.Need-loop-init invariant-loop decreases-loop
 loop-holds c =
     let args = c.before.before.before.before.before.before.before.args in
-    (omega arith, refl, filter-start args.numbered.now args.filter args.first args.image.now args.at c.before.before.put-zeros.ensures)
+    (omega arith, refl, filter_start args.numbered.now args.filter args.first args.image.now args.at c.before.before.put-zeros.ensures)
 
 add-slot-word : tie.Need-overflow-add-slot-word invariant-loop decreases-loop
 add-slot-word c = search rules
@@ -77,7 +77,7 @@ loop-again c =
     let at = c.before.before.before.before.before.before.loop in (
       omega (arith, c.before.before.before.before.before.loop-test.true),
       ap length c.before.before.add-hash.ensures ∙ length-put _ _ _ ∙ at.invariant.1,
-      filter-turn s.args.numbered.now s.args.filter s.args.first _ s.args.at at.k (omega (arith, c.before.before.before.before.before.before.before.before.before.before.before.if1.false))
+      filter_turn s.args.numbered.now s.args.filter s.args.first _ s.args.at at.k (omega (arith, c.before.before.before.before.before.before.before.before.before.before.before.if1.false))
           (omega (arith, s.requires.1.1, c.before.before.before.before.before.before.before.before.before.put-zeros.auto)) c.before.before.before.before.slot-word.ensures at.invariant.2 c.before.before.add-hash.ensures,
     )
 
@@ -88,7 +88,7 @@ returns-2 : tie.Need-returns-2 invariant-loop decreases-loop
 returns-2 c =
     let args = c.before.before.before.before.before.before.before.before.before.args in
     let all : c.before.loop.k ≡ args.count = omega (arith, c.before.loop.invariant.0, c.loop-test.false) in
-    filter-end args.numbered.now args.filter args.first args.image.now args.at args.count all c.before.before.before.before.put-zeros.ensures c.before.loop.invariant.2
+    filter_end args.numbered.now args.filter args.first args.image.now args.at args.count all c.before.before.before.before.put-zeros.ensures c.before.loop.invariant.2
 
 pub lay-filter-spec : {M : Type 1} → statement M
 lay-filter-spec =

@@ -1,7 +1,7 @@
 -- `write_parts::put::lay_front` meets its contract.
 use native.Mathlib.Omega.{arith}
 use borrow.Author.Rules.{rules}
-use Rattle.write_parts.proofs.PutLaws.{bucket-is, front-laid}
+use Rattle.write_parts.proofs.PutLaws.{bucket_is, front_laid}
 use Rattle.write_parts.proofs.put.lay_front.Statement.{statement}
 use Rattle.write_parts.proofs.put.lay_front.Tie as tie
 
@@ -37,7 +37,7 @@ add-lay-words-2 c = search rules
 lay-words-requires : tie.Need-lay-words-requires
 lay-words-requires c κs =
     let s = c.before.before.before.before.before.before.before.before.before.before.before in (
-      λ b less. (omega (arith, s.requires.0), omega (arith, bucket-is s.args.numbered.now s.args.first b, (s.requires.1.0 b less).1)),
+      λ b less. (omega (arith, s.requires.0), omega (arith, bucket_is s.args.numbered.now s.args.first b, (s.requires.1.0 b less).1)),
       omega (arith, s.requires.1.1, c.before.before.before.before.before.before.before.lay-head.auto, c.before.before.before.lay-filter.auto),
     )
 
@@ -45,7 +45,7 @@ same_length : tie.Need-same-length
 same_length c = search rules
 
 returns : tie.Need-returns
-returns c = front-laid _ _ _ _ _ _ c.before.before.before.before.before.before.before.before.before.before.lay-head.ensures c.before.before.before.before.before.before.lay-filter.ensures c.before.before.lay-words.ensures
+returns c = front_laid _ _ _ _ _ _ c.before.before.before.before.before.before.before.before.before.before.lay-head.ensures c.before.before.before.before.before.before.lay-filter.ensures c.before.before.lay-words.ensures
 
 pub lay-front-spec : {M : Type 1} → statement M
 lay-front-spec =

@@ -1,6 +1,6 @@
 -- `write_parts::put::lay_head` meets its contract.
 use borrow.Author.Rules.{rules}
-use Rattle.write_parts.proofs.PutLaws.{put-head}
+use Rattle.write_parts.proofs.PutLaws.{put_head}
 use Rattle.write_parts.proofs.put.lay_head.Statement.{statement}
 use Rattle.write_parts.proofs.put.lay_head.Tie as tie
 
@@ -28,7 +28,7 @@ same_length c = search rules
 returns : tie.Need-returns
 returns c =
     let args = c.before.before.before.before.before.before.before.before.before.args in
-    put-head args.image.now args.at args.filter args.count c.before.before.before.before.before.before.put_word.ensures c.before.before.put-word2.ensures
+    put_head args.image.now args.at args.filter args.count c.before.before.before.before.before.before.put_word.ensures c.before.before.put-word2.ensures
 
 pub lay-head-spec : {M : Type 1} → statement M
 lay-head-spec =

@@ -3,8 +3,8 @@ use mathlib.Core.Path.{◌≡◌}
 use Prim.Native.Nat.{◌+◌}
 use native.Mathlib.Omega.{arith}
 use borrow.Author.Rules.{rules}
-use Rattle.write_parts.specs.Numbered.{slotFragmentSize}
-use Rattle.write_parts.proofs.PutLaws.{part_end, put-key}
+use Rattle.write_parts.specs.Numbered.{slot_fragment_size}
+use Rattle.write_parts.proofs.PutLaws.{part_end, put_key_lem}
 use Rattle.write_parts.proofs.put.lay_key.Statement.{statement}
 use Rattle.write_parts.proofs.put.lay_key.Tie as tie
 
@@ -18,7 +18,7 @@ lay-part-requires : tie.Need-lay-part-requires
 lay-part-requires c κs = search rules
 
 -- where the fragment ends
-ends : (c : tie.After-lay-part) → c.lay-part.result ≡ c.before.before.before.before.before.before.before.args.at + slotFragmentSize c.before.before.before.before.before.before.before.args.numbered.now c.before.before.before.before.before.before.before.args.slot
+ends : (c : tie.After-lay-part) → c.lay-part.result ≡ c.before.before.before.before.before.before.before.args.at + slot_fragment_size c.before.before.before.before.before.before.before.args.numbered.now c.before.before.before.before.before.before.before.args.slot
 ends c =
     let s = c.before.before.before.before.before.before.before in
     let args = s.args in
@@ -41,7 +41,7 @@ returns : tie.Need-returns
 returns c =
     let s = c.before.before.before.before.before.before.before.before.before.before.before.before.before in
     let args = s.args in
-    put-key args.numbered.now args.arena.now args.image.now args.slot args.at args.start c.before.before.before.before.before.before.before.before.before.slot-word.ensures c.before.before.before.before.before.before.before.before.slot-word2.ensures s.requires.1.0
+    put_key_lem args.numbered.now args.arena.now args.image.now args.slot args.at args.start c.before.before.before.before.before.before.before.before.before.slot-word.ensures c.before.before.before.before.before.before.before.before.slot-word2.ensures s.requires.1.0
     c.before.before.before.before.before.before.lay-part.ensures c.before.before.put-zeros.ensures
 
 pub lay-key-spec : {M : Type 1} → statement M

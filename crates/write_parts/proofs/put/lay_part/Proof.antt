@@ -4,7 +4,7 @@ use Prim.Native.Nat.{ℕ, ◌+◌, ◌-◌}
 use native.Mathlib.Omega.{arith}
 use borrow.Author.Rules.{rules}
 use Rattle.words.specs.Store.{part, put_at}
-use Rattle.write_parts.proofs.PutLaws.{part-laid}
+use Rattle.write_parts.proofs.PutLaws.{part_laid}
 use Rattle.write_parts.proofs.put.lay_part.Statement.{statement}
 use Rattle.write_parts.proofs.put.lay_part.Tie as tie
 
@@ -34,7 +34,7 @@ returns c =
     let s = c.before.before.before.before.before.before.before in
     let args = s.args in
     let size : args.start + args.size - args.start ≡ args.size = omega arith in
-    part-laid args.image.now args.arena.now args.start args.size args.at s.requires.0
+    part_laid args.image.now args.arena.now args.start args.size args.at s.requires.0
     (c.before.before.put-bytes.ensures ∙ ap (λ (n : ℕ). put_at args.image.now args.at (part args.arena.now args.start n)) size)
 
 pub lay-part-spec : {M : Type 1} → statement M

@@ -7,7 +7,7 @@ use lib.ListN.{length, get_or}
 use Rattle.words.specs.Store.{put_at}
 use Rattle.words.proofs.StoreLaws.{length-put}
 use Rattle.image.specs.Plan.{words_of}
-use Rattle.write_parts.proofs.PutLaws.{words-start, words-turn, words-laid}
+use Rattle.write_parts.proofs.PutLaws.{words_start, words_turn, words_laid}
 use Rattle.write_parts.proofs.put.lay_words.Statement.{statement}
 use Rattle.write_parts.proofs.put.lay_words.Tie as tie
 
@@ -18,7 +18,7 @@ abbrev decreases-loop : tie.decreases-loop
 decreases-loop numbered image₀ from step count at b₀ image b = count - b
 
 loop-holds : tie.Need-loop-init invariant-loop decreases-loop
-loop-holds c = (omega arith, refl, words-start c.before.before.args.image.now c.before.before.args.at _)
+loop-holds c = (omega arith, refl, words_start c.before.before.args.image.now c.before.before.args.at _)
 
 mul-word : tie.Need-overflow-mul-word invariant-loop decreases-loop
 mul-word c = let s = c.before.before.before.before in omega (arith, (s.requires.0 c.before.loop.b c.loop-test.true).0)
@@ -56,7 +56,7 @@ loop-again c =
     let at = c.before.before.before.before.before.before.loop in (
       omega (arith, c.before.before.before.before.before.loop-test.true),
       ap length c.before.before.put_word.ensures ∙ length-put _ _ _ ∙ at.invariant.1,
-      words-turn args.image.now args.at _ at.b at.invariant.2 refl c.before.before.put_word.ensures,
+      words_turn args.image.now args.at _ at.b at.invariant.2 refl c.before.before.put_word.ensures,
     )
 
 mul-result : tie.Need-overflow-mul-result invariant-loop decreases-loop
@@ -72,7 +72,7 @@ returns : tie.Need-returns invariant-loop decreases-loop
 returns c =
     let s = c.before.before.before.before in
     let all : c.before.loop.b ≡ s.args.count = omega (arith, c.before.loop.invariant.0, c.loop-test.false) in
-    words-laid s.args.image.now s.args.at _ s.args.count _ all c.before.loop.invariant.2
+    words_laid s.args.image.now s.args.at _ s.args.count _ all c.before.loop.invariant.2
 
 pub lay-words-spec : {M : Type 1} → statement M
 lay-words-spec =

@@ -4,19 +4,19 @@ use Prim.Native.Nat.{ℕ, ◌≤◌, ◌<◌, ◌-◌}
 use mathlib.Core.Path.{◌≡◌, refl}
 use native.Mathlib.Omega.{arith}
 use lib.ListN.{length, get_or, length-set}
-use Rattle.build_memory.specs.Memory.{itemTotal, itemParent}
-use Rattle.layout.specs.Limits.{mostItems}
-use Rattle.write_slots.specs.NumberedAs.{fromLast}
+use Rattle.build_memory.specs.Memory.{item_total, item_parent}
+use Rattle.layout.specs.Limits.{most_items}
+use Rattle.write_slots.specs.NumberedAs.{from_last}
 use Rattle.write_slots.proofs.SlotLaws.{set_next}
 use Rattle.write_slots.proofs.children.list_parents.Statement.{statement}
 use Rattle.write_slots.proofs.children.list_parents.Tie as tie
 
 abbrev invariant-loop : tie.invariant-loop
 invariant-loop words hashes₀ n p₀ hashes p =
-    (p ≤ itemTotal words) × (n ≡ itemTotal words) × (length hashes ≡ mostItems) × ((q : ℕ) → q < p → get_or hashes q 0 ≡ itemParent words (fromLast words q))
+    (p ≤ item_total words) × (n ≡ item_total words) × (length hashes ≡ most_items) × ((q : ℕ) → q < p → get_or hashes q 0 ≡ item_parent words (from_last words q))
 
 abbrev decreases-loop : tie.decreases-loop
-decreases-loop words hashes₀ n p₀ hashes p = itemTotal words - p
+decreases-loop words hashes₀ n p₀ hashes p = item_total words - p
 
 shared-slice-read-n : tie.Need-shared-slice-read-n invariant-loop decreases-loop
 shared-slice-read-n c = omega (arith, c.before.before.before.requires.0)
@@ -52,7 +52,7 @@ loop-again c =
       omega arith,
       l.invariant.1,
       simp length-set l.invariant.2,
-      set_next (λ q. itemParent a.words.now (fromLast a.words.now q)) l.hashes l.p _ c.item-word.ensures (omega (arith, c.before.before.before.before.before.before.requires.1)) l.invariant.3,
+      set_next (λ q. item_parent a.words.now (from_last a.words.now q)) l.hashes l.p _ c.item-word.ensures (omega (arith, c.before.before.before.before.before.before.requires.1)) l.invariant.3,
     )
 
 same_length : tie.Need-same-length invariant-loop decreases-loop

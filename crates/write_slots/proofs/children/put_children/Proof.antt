@@ -3,23 +3,23 @@ use Prim.Native.Nat.{ℕ, ◌+◌, ◌≤◌, ◌<◌, ◌-◌}
 use mathlib.Core.Path.{◌≡◌, refl}
 use native.Mathlib.Omega.{arith}
 use lib.ListN.{length, get_or, length-set}
-use Rattle.build_memory.specs.Memory.{itemTotal}
-use Rattle.write_parts.specs.Numbered.{childWord, childrenFrom}
-use Rattle.write_numbers.specs.Roster.{itemIndex}
-use Rattle.write_slots.specs.NumberedAs.{fromLast}
-use Rattle.write_slots.proofs.SlotLaws.{index_read, set-behind, set_apart, set_past}
+use Rattle.build_memory.specs.Memory.{item_total}
+use Rattle.write_parts.specs.Numbered.{child_word, children_from}
+use Rattle.write_numbers.specs.Roster.{item_index}
+use Rattle.write_slots.specs.NumberedAs.{from_last}
+use Rattle.write_slots.proofs.SlotLaws.{index_read, set_behind, set_apart, set_past}
 use Rattle.write_slots.proofs.children.put_children.Statement.{statement}
 use Rattle.write_slots.proofs.children.put_children.Tie as tie
 
 abbrev invariant-loop : tie.invariant-loop
 invariant-loop words roster order numbered₀ n j₀ numbered j =
-    (j ≤ itemTotal words) × (n ≡ itemTotal words) × (length numbered ≡ length numbered₀)
-    × ((q : ℕ) → q < j → get_or numbered (childrenFrom + q) 0 ≡ itemIndex roster (fromLast words (get_or order q 0)))
-    × ((k : ℕ) → k < childrenFrom → get_or numbered k 0 ≡ get_or numbered₀ k 0)
-    × ((k : ℕ) → childrenFrom + j ≤ k → get_or numbered k 0 ≡ get_or numbered₀ k 0)
+    (j ≤ item_total words) × (n ≡ item_total words) × (length numbered ≡ length numbered₀)
+    × ((q : ℕ) → q < j → get_or numbered (children_from + q) 0 ≡ item_index roster (from_last words (get_or order q 0)))
+    × ((k : ℕ) → k < children_from → get_or numbered k 0 ≡ get_or numbered₀ k 0)
+    × ((k : ℕ) → children_from + j ≤ k → get_or numbered k 0 ≡ get_or numbered₀ k 0)
 
 abbrev decreases-loop : tie.decreases-loop
-decreases-loop words roster order numbered₀ n j₀ numbered j = itemTotal words - j
+decreases-loop words roster order numbered₀ n j₀ numbered j = item_total words - j
 
 shared-slice-read-n : tie.Need-shared-slice-read-n invariant-loop decreases-loop
 shared-slice-read-n c = omega (arith, c.before.requires.0)
@@ -71,16 +71,16 @@ loop-again c =
       omega arith,
       l.invariant.1,
       simp length-set l.invariant.2,
-      set-behind (λ q. itemIndex a.roster.now (fromLast a.words.now (get_or a.order.now q 0))) l.numbered l.j _ (index_read a.roster.now _) childrenFrom (omega (arith, p.0, p.1.0, l.invariant.2)) l.invariant.3,
-      set_apart l.numbered a.numbered.now childrenFrom l.j _ l.invariant.4,
-      set_past l.numbered a.numbered.now childrenFrom l.j _ l.invariant.5,
+      set_behind (λ q. item_index a.roster.now (from_last a.words.now (get_or a.order.now q 0))) l.numbered l.j _ (index_read a.roster.now _) children_from (omega (arith, p.0, p.1.0, l.invariant.2)) l.invariant.3,
+      set_apart l.numbered a.numbered.now children_from l.j _ l.invariant.4,
+      set_past l.numbered a.numbered.now children_from l.j _ l.invariant.5,
     )
 
 same_length : tie.Need-same-length invariant-loop decreases-loop
 same_length c = c.before.loop.invariant.2
 
 returns : tie.Need-returns invariant-loop decreases-loop
-unfolding childWord
+unfolding child_word
 returns c =
     let l = c.before.loop in
     record { long = l.invariant.2; is = λ j h. l.invariant.3 j (omega (arith, c.loop-test.false)); kept = l.invariant.4; rest = λ k h. l.invariant.5 k (omega (arith, l.invariant.0)) }

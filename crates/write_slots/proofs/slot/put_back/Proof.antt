@@ -1,6 +1,6 @@
 -- `write_slots::slot::put_back` meets its contract.
 use mathlib.Core.Path.{◌∙◌}
-use Rattle.write_slots.proofs.TurnLaws.{back-made}
+use Rattle.write_slots.proofs.TurnLaws.{back_made}
 use borrow.Author.Rules.{rules}
 use Rattle.write_slots.proofs.slot.put_back.Statement.{statement}
 use Rattle.write_slots.proofs.slot.put_back.Tie as tie
@@ -38,7 +38,7 @@ same_length c = search rules
 returns : tie.Need-returns
 returns c =
     let a = c.before.before.before.before.before.before.before.before.before.before.before.before.before.before.args in
-    c.before.before.put-words.ensures ∙ back-made a.words.now a.roster.now a.numbered.now a.i a.at a.firsts.now _ _ _ _ c.before.before.before.before.before.before.before.before.before.item-word.ensures c.before.before.before.before.before.before.before.before.start_of_lem.ensures c.before.before.before.before.before.before.before.type_size.ensures c.before.before.before.before.before.before.slot-of.ensures.0
+    c.before.before.put-words.ensures ∙ back_made a.words.now a.roster.now a.numbered.now a.i a.at a.firsts.now _ _ _ _ c.before.before.before.before.before.before.before.before.before.item-word.ensures c.before.before.before.before.before.before.before.before.start_of_lem.ensures c.before.before.before.before.before.before.before.type_size.ensures c.before.before.before.before.before.before.slot_of_lem.ensures.0
 
 pub put-back-spec : {M : Type 1} → statement M
 put-back-spec =

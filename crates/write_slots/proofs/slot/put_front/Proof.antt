@@ -1,6 +1,6 @@
 -- `write_slots::slot::put_front` meets its contract.
 use mathlib.Core.Path.{◌∙◌}
-use Rattle.write_slots.proofs.TurnLaws.{front-made}
+use Rattle.write_slots.proofs.TurnLaws.{front_made}
 use borrow.Author.Rules.{rules}
 use Rattle.write_slots.proofs.slot.put_front.Statement.{statement}
 use Rattle.write_slots.proofs.slot.put_front.Tie as tie
@@ -38,7 +38,7 @@ same_length c = search rules
 returns : tie.Need-returns
 returns c =
     let a = c.before.before.before.before.before.before.before.before.before.before.before.before.before.before.args in
-    c.before.before.put-words.ensures ∙ front-made a.words.now a.roster.now a.numbered.now a.i a.at a.form a.arena.now _ _ _ _ _ c.before.before.before.before.before.before.before.before.before.hash-of.ensures c.before.before.before.before.before.before.before.before.parent-word.ensures c.before.before.before.before.before.before.before.skip-of.ensures c.before.before.before.before.before.before.item-word.ensures c.before.before.before.before.before.item-word2.ensures
+    c.before.before.put-words.ensures ∙ front_made a.words.now a.roster.now a.numbered.now a.i a.at a.form a.arena.now _ _ _ _ _ c.before.before.before.before.before.before.before.before.before.hash-of.ensures c.before.before.before.before.before.before.before.before.parent-word.ensures c.before.before.before.before.before.before.before.skip-of.ensures c.before.before.before.before.before.before.item-word.ensures c.before.before.before.before.before.item-word2.ensures
 
 pub put-front-spec : {M : Type 1} → statement M
 put-front-spec =

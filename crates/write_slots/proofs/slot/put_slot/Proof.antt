@@ -1,6 +1,6 @@
 -- `write_slots::slot::put_slot` meets its contract: four words and four more.
 use native.Mathlib.Omega.{arith}
-use Rattle.write_slots.proofs.TurnLaws.{halves-put}
+use Rattle.write_slots.proofs.TurnLaws.{halves_put}
 use borrow.Author.Rules.{rules}
 use Rattle.write_slots.proofs.slot.put_slot.Statement.{statement}
 use Rattle.write_slots.proofs.slot.put_slot.Tie as tie
@@ -21,7 +21,7 @@ add-put-back : tie.Need-overflow-add-put-back
 add-put-back c = search rules
 
 put-back-requires : tie.Need-put-back-requires
-put-back-requires c κs = let p = c.before.before.before.before.before.before.before.before.before.before.before.requires in (p.0, (p.1.0, omega (arith, p.1.1, c.before.before.before.put_front.auto, c.before.before.before.before.before.slot-of.ensures.1)))
+put-back-requires c κs = let p = c.before.before.before.before.before.before.before.before.before.before.before.requires in (p.0, (p.1.0, omega (arith, p.1.1, c.before.before.before.put_front.auto, c.before.before.before.before.before.slot_of_lem.ensures.1)))
 
 same_length : tie.Need-same-length
 same_length c = search rules
@@ -29,7 +29,7 @@ same_length c = search rules
 returns : tie.Need-returns
 returns c =
     let a = c.before.before.before.before.before.before.before.before.before.before.before.before.before.before.args in
-    halves-put a.form a.words.now a.arena.now a.roster.now a.firsts.now a.numbered.now a.i c.before.before.before.before.before.before.before.before.slot-of.ensures.0 c.before.before.before.before.before.before.put_front.ensures c.before.before.put_back.ensures
+    halves_put a.form a.words.now a.arena.now a.roster.now a.firsts.now a.numbered.now a.i c.before.before.before.before.before.before.before.before.slot_of_lem.ensures.0 c.before.before.before.before.before.before.put_front.ensures c.before.before.put_back.ensures
 
 pub put-slot-spec : {M : Type 1} → statement M
 put-slot-spec =

@@ -4,7 +4,7 @@ use Prim.Native.Nat.{◌+◌, ◌*◌}
 use native.Mathlib.Omega.{arith}
 use lib.ListN.{get_or}
 use Rattle.write_slots.specs.NumberedAs.{slot_of}
-use Rattle.write_slots.proofs.SlotLaws.{slot-own}
+use Rattle.write_slots.proofs.SlotLaws.{slot_own}
 use borrow.Author.Rules.{rules}
 use Rattle.write_slots.proofs.slot.slot_of.Statement.{statement}
 use Rattle.write_slots.proofs.slot.slot_of.Tie as tie
@@ -35,7 +35,7 @@ add-result-2 c =
     let a = c.before.before.before.before.before.args in
     let p = c.before.before.before.before.before.requires in
     let e : get_or a.roster.now (2 * c.before.before.item-word.result) 0 + get_or a.roster.now (1152 + a.i) 0 ≡ slot_of a.words.now a.roster.now a.i =
-    slot-own a.words.now a.roster.now a.i _ c.before.before.item-word.ensures in
+    slot_own a.words.now a.roster.now a.i _ c.before.before.item-word.ensures in
     omega (arith, p.within)
 
 returns : tie.Need-returns
@@ -43,7 +43,7 @@ returns c =
     let a = c.before.before.before.before.before.args in
     let p = c.before.before.before.before.before.requires in
     let e : get_or a.roster.now (2 * c.before.before.item-word.result) 0 + get_or a.roster.now (1152 + a.i) 0 ≡ slot_of a.words.now a.roster.now a.i =
-    slot-own a.words.now a.roster.now a.i _ c.before.before.item-word.ensures in
+    slot_own a.words.now a.roster.now a.i _ c.before.before.item-word.ensures in
     (e, omega (arith, p.within))
 
 pub slot-of-spec : {M : Type 1} → statement M

@@ -1,5 +1,5 @@
 -- `write_slots::slot::start_of` meets its contract, kind by kind.
-use Rattle.write_slots.proofs.SlotLaws.{start-value, start-guest, start-child}
+use Rattle.write_slots.proofs.SlotLaws.{start-value, start_guest, start_child}
 use borrow.Author.Rules.{rules}
 use Rattle.write_slots.proofs.slot.start_of.Statement.{statement}
 use Rattle.write_slots.proofs.slot.start_of.Tie as tie
@@ -17,7 +17,7 @@ item-word-requires-3 : tie.Need-item-word-requires-3
 item-word-requires-3 c κs = search rules
 
 returns-2 : tie.Need-returns-2
-returns-2 c = let a = c.before.before.before.before.before.before.args in start-guest a.words.now a.firsts.now a.i _ c.before.before.before.item-word.ensures c.before.if2.true _ c.item-word3.ensures
+returns-2 c = let a = c.before.before.before.before.before.before.args in start_guest a.words.now a.firsts.now a.i _ c.before.before.before.item-word.ensures c.before.if2.true _ c.item-word3.ensures
 
 add-result : tie.Need-overflow-add-result
 add-result c = search rules
@@ -29,7 +29,7 @@ shared-slice-read-result : tie.Need-shared-slice-read-result
 shared-slice-read-result c = search rules
 
 returns-3 : tie.Need-returns-3
-returns-3 c = let a = c.before.before.before.before.before.before.args in start-child a.words.now a.firsts.now a.i _ c.before.before.before.item-word.ensures c.before.before.if1.false c.before.if2.false
+returns-3 c = let a = c.before.before.before.before.before.before.args in start_child a.words.now a.firsts.now a.i _ c.before.before.before.item-word.ensures c.before.before.if1.false c.before.if2.false
 
 pub start-of-spec : {M : Type 1} → statement M
 start-of-spec =

@@ -38,8 +38,8 @@ use denote.Triple.Table.{entered, cited}
 use denote.Triple.Walked.{says, Stays, stay_none, walk_of, Goes-none, Walks, ends_at, walked, walk_Meets}
 use denote.Exit.{yes}
 use denote.Triple.Clauses.{ensured, lasts}
-use Rattle.read_find.specs.Find.{mannerOf}
-use Rattle.check_rules.specs.Rules.{checkTable}
+use Rattle.read_find.specs.Find.{manner_of}
+use Rattle.check_rules.specs.Rules.{check_table}
 use Rattle.view.proofs.HoldsLaws.{and_left}
 use Rattle.check_rules.specs.declared.checked.Checked.{Checked}
 use Rattle.check_rules.specs.contracts.checked.Checked as DChecked
@@ -82,8 +82,8 @@ module _ {M : Type 1} {𝓤 : Ura M} (𝓛 : Logic 𝓤) (mem : Memory → SProp
   asked-1 : ent 𝓤 (on_entry 𝓛 of-check-table.signature (κ₀, tt) (q₀, tt) (self.file, (self.start, (self.end, (self.manner, tt)))) ((slice_val self.file.ptr (length self.file.now)) ∷ [], ((vint w32 self.start) ∷ [], ((vint w32 self.end) ∷ [], ((LL.val DManner.the_type DManner'.the_laws self.manner) ∷ [], tt))))) ((Contract-check-table 𝓛 mem run).pre (to-1))
   asked-1 = qed 𝓛 ((‵ (flft κ₀ q₀) ⊛ ‵ ftrue) ∷ ‵ (owns ((ShrSlice (named 0) κ₀ u8) ∷ u32 ∷ u32 ∷ DManner.the_row ∷ []) (self.file, (self.start, (self.end, (self.manner, tt)))) ((slice_val self.file.ptr (length self.file.now)) ∷ [], ((vint w32 self.start) ∷ [], ((vint w32 self.end) ∷ [], ((LL.val DManner.the_type DManner'.the_laws self.manner) ∷ [], tt))))) ∷ []) ∵ join ! $ frame ! $ done !
 
-  said-1 : (r1 : Checked) → ent 𝓤 (ensured 𝓛 of-check-table.ended (of-check-table.clauses 𝓛 mem run) (κ₀, tt) (self.file, (self.start, (self.end, (self.manner, tt)))) tt r1) (fact 𝓤 (r1 ≡ checkTable (mannerOf self.manner) self.file.now self.start self.end))
-  said-1 r1 = ex_e 𝓤 _ (λ ws. snd∗ 𝓤 (sem 𝓛 (lasts of-check-table.ended (κ₀, tt) (self.file, (self.start, (self.end, (self.manner, tt)))) ws)) (fact 𝓤 (r1 ≡ checkTable (mannerOf self.manner) self.file.now self.start self.end)))
+  said-1 : (r1 : Checked) → ent 𝓤 (ensured 𝓛 of-check-table.ended (of-check-table.clauses 𝓛 mem run) (κ₀, tt) (self.file, (self.start, (self.end, (self.manner, tt)))) tt r1) (fact 𝓤 (r1 ≡ check_table (manner_of self.manner) self.file.now self.start self.end))
+  said-1 r1 = ex_e 𝓤 _ (λ ws. snd∗ 𝓤 (sem 𝓛 (lasts of-check-table.ended (κ₀, tt) (self.file, (self.start, (self.end, (self.manner, tt)))) ws)) (fact 𝓤 (r1 ≡ check_table (manner_of self.manner) self.file.now self.start self.end)))
 
   -- a field of a view, from one copy of what the view owns; the other stays
   out-self-3 : ent 𝓤 (sem 𝓛 ((DTableView.the_row (named_lft 1 0 tt (κ₀, tt))).own_val self ((LL.val (DTableView.the_type (named_lft 1 0 tt (κ₀, tt))) (DTableView'.the_laws (named_lft 1 0 tt (κ₀, tt))) self) ∷ []))) (sep 𝓤 (sem 𝓛 ((DManner.the_row).own_val self.manner ((LL.val DManner.the_type DManner'.the_laws self.manner) ∷ []))) (sem 𝓛 ((DTableView.the_row (named_lft 1 0 tt (κ₀, tt))).own_val self ((LL.val (DTableView.the_type (named_lft 1 0 tt (κ₀, tt))) (DTableView'.the_laws (named_lft 1 0 tt (κ₀, tt))) self) ∷ []))))
@@ -102,7 +102,7 @@ module _ {M : Type 1} {𝓤 : Ura M} (𝓛 : Logic 𝓤) (mem : Memory → SProp
       use1 𝓛 (‵ (field_own (DTableView.the_type (named_lft 1 0 tt (κ₀, tt))).parts (DTableView'.the_laws (named_lft 1 0 tt (κ₀, tt))) 0 (self.file)) ⊛ ‵ (rest (DTableView.the_type (named_lft 1 0 tt (κ₀, tt))).parts (DTableView'.the_laws (named_lft 1 0 tt (κ₀, tt))) 0 (self.file, (self.start, (self.end, (self.manner, tt)))))) (own_out 𝓛 (DTableView.the_type (named_lft 1 0 tt (κ₀, tt))).parts (DTableView'.the_laws (named_lft 1 0 tt (κ₀, tt))) 0 (self.file, (self.start, (self.end, (self.manner, tt))))) $ split ! $ move ! (1 ∷ []) $ drop ! $ done !)
 
   module _ (wt0 : Holds (has_ty (DTableView'.mir (named 0)) (LL.val (DTableView.the_type (named_lft 1 0 tt (κ₀, tt))) (DTableView'.the_laws (named_lft 1 0 tt (κ₀, tt))) self)) × WT (LL.val (DTableView.the_type (named_lft 1 0 tt (κ₀, tt))) (DTableView'.the_laws (named_lft 1 0 tt (κ₀, tt))) self)) where
-    exits : (x : Checked) (w : Val) → x ≡ checkTable (mannerOf self.manner) self.file.now self.start self.end → ent 𝓤 (⋆ 𝓛 (‵ ((DChecked.the_row).own_val x (w ∷ [])) ∷ ‵ (flft κ₀ q₀) ∷ ‵ ((DTableView.the_row (named_lft 1 0 tt (κ₀, tt))).own_val self ((LL.val (DTableView.the_type (named_lft 1 0 tt (κ₀, tt))) (DTableView'.the_laws (named_lft 1 0 tt (κ₀, tt))) self) ∷ [])) ∷ [])) (Post w)
+    exits : (x : Checked) (w : Val) → x ≡ check_table (manner_of self.manner) self.file.now self.start self.end → ent 𝓤 (⋆ 𝓛 (‵ ((DChecked.the_row).own_val x (w ∷ [])) ∷ ‵ (flft κ₀ q₀) ∷ ‵ ((DTableView.the_row (named_lft 1 0 tt (κ₀, tt))).own_val self ((LL.val (DTableView.the_type (named_lft 1 0 tt (κ₀, tt))) (DTableView'.the_laws (named_lft 1 0 tt (κ₀, tt))) self) ∷ [])) ∷ [])) (Post w)
     exits x w e =
         qed 𝓛 (‵ ((DChecked.the_row).own_val x (w ∷ [])) ∷ ‵ (flft κ₀ q₀) ∷ ‵ ((DTableView.the_row (named_lft 1 0 tt (κ₀, tt))).own_val self ((LL.val (DTableView.the_type (named_lft 1 0 tt (κ₀, tt))) (DTableView'.the_laws (named_lft 1 0 tt (κ₀, tt))) self) ∷ [])) ∷ []) ∵
         suffices ! _ (ends_at 𝓛 it.ended stayed (it.clauses 𝓛 mem run) (((κ₀, tt), (q₀, tt), tt, (self, tt), at), tt) w x (tt, tt) (tt, tt)) $ says ! e $
@@ -123,7 +123,7 @@ module _ {M : Type 1} {𝓤 : Ura M} (𝓛 : Logic 𝓤) (mem : Memory → SProp
           nothing ! $ move ! (1 ∷ []) $ use1 𝓛 (‵ ((DManner.the_row).own_val self.manner ((LL.val DManner.the_type DManner'.the_laws self.manner) ∷ [])) ⊛ ‵ ((DTableView.the_row (named_lft 1 0 tt (κ₀, tt))).own_val self ((LL.val (DTableView.the_type (named_lft 1 0 tt (κ₀, tt))) (DTableView'.the_laws (named_lft 1 0 tt (κ₀, tt))) self) ∷ []))) out-self-3 $ split ! $ move ! (0 ∷ 2 ∷ []) $ fjoin ! $ owned ! u32 (Is u32) (uint_Makes 𝓛 w32) self.end ((vint w32 self.end) ∷ []) (refl, wt0.1.1.1.0.fits) $ fjoin ! $ owned ! u32 (Is u32) (uint_Makes 𝓛 w32) self.start ((vint w32 self.start) ∷ []) (refl, wt0.1.1.0.fits) $ fjoin ! $ move ! (1 ∷ []) $ use1 𝓛 (‵ ((ShrSlice (named 0) κ₀ u8).own_val self.file ((slice_val self.file.ptr (length self.file.now)) ∷ [])) ⊛ ‵ ((DTableView.the_row (named_lft 1 0 tt (κ₀, tt))).own_val self ((LL.val (DTableView.the_type (named_lft 1 0 tt (κ₀, tt))) (DTableView'.the_laws (named_lft 1 0 tt (κ₀, tt))) self) ∷ []))) out-self-0 $ split ! $ move ! (0 ∷ 2 ∷ []) $ fjoin ! $ nothing ! $ move ! (3 ∷ 0 ∷ []) $ join ! $ use2 𝓛 (raw ((Contract-check-table 𝓛 mem run).pre (to-1))) (asked-1) $
           calls_at ! fm (Contract-check-table 𝓛 mem run) known-check-table (to-1) (and_then ! (load ! (from ! (stop !)) (look ! 8 refl)) (and_then ! (load ! (from ! (stop !)) (look ! 6 refl)) (and_then ! (load ! (from ! (stop !)) (look ! 4 refl)) (and_then ! (load ! (from ! (stop !)) (look ! 2 refl)) (no_more !))))) (λ u1.
           use1 𝓛 (later (some (λ (r1 : Checked). ((‵ (flft κ₀ q₀) ⊛ ‵ ftrue) ⊛ ‵ ((DChecked.the_row).own_val r1 (u1 ∷ []))) ⊛ raw (ensured 𝓛 of-check-table.ended (of-check-table.clauses 𝓛 mem run) (κ₀, tt) (self.file, (self.start, (self.end, (self.manner, tt)))) tt r1)))) (id⊢ 𝓤 _) $ await ! tt $ pick ! (λ r1.
-          split ! $ move ! (1 ∷ []) $ use1 𝓛 (raw (fact 𝓤 (r1 ≡ checkTable (mannerOf self.manner) self.file.now self.start self.end))) (said-1 r1) $ heard ! (r1 ≡ checkTable (mannerOf self.manner) self.file.now self.start self.end) (λ e1. split ! $ split ! $ move ! (1 ∷ []) $ drop ! $ move ! (1 ∷ []) $ facts ! DChecked.the_row (Is DChecked.the_row) (shows 𝓛 DChecked.the_row) r1 (u1 ∷ []) (λ i1.
+          split ! $ move ! (1 ∷ []) $ use1 𝓛 (raw (fact 𝓤 (r1 ≡ check_table (manner_of self.manner) self.file.now self.start self.end))) (said-1 r1) $ heard ! (r1 ≡ check_table (manner_of self.manner) self.file.now self.start self.end) (λ e1. split ! $ split ! $ move ! (1 ∷ []) $ drop ! $ move ! (1 ∷ []) $ facts ! DChecked.the_row (Is DChecked.the_row) (shows 𝓛 DChecked.the_row) r1 (u1 ∷ []) (λ i1.
           land ! (from ! (stop !)) (init ! 12 refl ((EL.lawful DChecked.the_type DChecked'.the_laws 𝓛 tt).typed r1 _ i1).0) $
           owned ! DChecked.the_row (Is DChecked.the_row) (EL.makes DChecked.the_type DChecked'.the_plain 𝓛) r1 (u1 ∷ []) i1 $
           returns ! (look ! 13 refl) $ forget ! 3 refl $ forget ! 5 refl $ forget ! 7 refl $ forget ! 9 refl $ forget ! 11 refl $ forget ! 13 refl $

@@ -41,11 +41,11 @@ use denote.Triple.Table.{entered, cited}
 use denote.Triple.Walked.{says, Stays, stay_none, stay_none_slice, walk_of, Goes-none, Goes-none_slice, Walks, ends_at, walked, walk_Meets}
 use denote.Exit.{yes}
 use denote.Triple.Clauses.{ensured, lasts}
-use Rattle.read_find.specs.Find.{mannerOf}
-use Rattle.read.specs.Layered.{layeredValue}
+use Rattle.read_find.specs.Find.{manner_of}
+use Rattle.read.specs.Layered.{layered_value}
 use Rattle.view_part.specs.Part.{LayeredIn}
 use Rattle.view.specs.Views.{LayeredOf}
-use Rattle.view.proofs.LayeredLaws.{layered-of}
+use Rattle.view.proofs.LayeredLaws.{layered_of_lem}
 use Rattle.view.proofs.HoldsLaws.{and_left}
 use Rattle.read.specs.declared.layered.Layered.{Layered}
 use Rattle.read.specs.contracts.layered.Layered as DLayered
@@ -121,8 +121,8 @@ module _ {M : Type 1} {𝓤 : Ura M} (𝓛 : Logic 𝓤) (mem : Memory → SProp
   asked-1 : ent 𝓤 (on_entry 𝓛 of-lookup-layered.signature (κ₀, (κ₁, tt)) (q₀, (q₁, tt)) (self.file, (self.start, (self.end, (district.file, (district.start, (district.end, (key, (self.manner, (district.manner, tt))))))))) ((slice_val self.file.ptr (length self.file.now)) ∷ [], ((vint w32 self.start) ∷ [], ((vint w32 self.end) ∷ [], ((slice_val district.file.ptr (length district.file.now)) ∷ [], ((vint w32 district.start) ∷ [], ((vint w32 district.end) ∷ [], ((slice_val key.ref_ptr (length key.now)) ∷ [], ((LL.val DManner.the_type DManner'.the_laws self.manner) ∷ [], ((LL.val DManner.the_type DManner'.the_laws district.manner) ∷ [], tt)))))))))) ((Contract-lookup-layered 𝓛 mem run).pre (to-1))
   asked-1 = qed 𝓛 ((‵ (flft κ₀ q₀) ⊛ ‵ (flft κ₁ q₁) ⊛ ‵ ftrue) ∷ ‵ (owns ((ShrSlice (named 0) κ₀ u8) ∷ u32 ∷ u32 ∷ (ShrSlice (named 0) κ₀ u8) ∷ u32 ∷ u32 ∷ (ShrSlice (named 1) κ₁ u8) ∷ DManner.the_row ∷ DManner.the_row ∷ []) (self.file, (self.start, (self.end, (district.file, (district.start, (district.end, (key, (self.manner, (district.manner, tt))))))))) ((slice_val self.file.ptr (length self.file.now)) ∷ [], ((vint w32 self.start) ∷ [], ((vint w32 self.end) ∷ [], ((slice_val district.file.ptr (length district.file.now)) ∷ [], ((vint w32 district.start) ∷ [], ((vint w32 district.end) ∷ [], ((slice_val key.ref_ptr (length key.now)) ∷ [], ((LL.val DManner.the_type DManner'.the_laws self.manner) ∷ [], ((LL.val DManner.the_type DManner'.the_laws district.manner) ∷ [], tt)))))))))) ∷ []) ∵ join ! $ frame ! $ done !
 
-  said-1 : (r1 : Layered) → ent 𝓤 (ensured 𝓛 of-lookup-layered.ended (of-lookup-layered.clauses 𝓛 mem run) (κ₀, (κ₁, tt)) (self.file, (self.start, (self.end, (district.file, (district.start, (district.end, (key, (self.manner, (district.manner, tt))))))))) tt r1) (fact 𝓤 (r1 ≡ layeredValue (mannerOf self.manner) (mannerOf district.manner) self.file.now self.start self.end district.file.now district.start district.end key.now))
-  said-1 r1 = ex_e 𝓤 _ (λ ws. snd∗ 𝓤 (sem 𝓛 (lasts of-lookup-layered.ended (κ₀, (κ₁, tt)) (self.file, (self.start, (self.end, (district.file, (district.start, (district.end, (key, (self.manner, (district.manner, tt))))))))) ws)) (fact 𝓤 (r1 ≡ layeredValue (mannerOf self.manner) (mannerOf district.manner) self.file.now self.start self.end district.file.now district.start district.end key.now)))
+  said-1 : (r1 : Layered) → ent 𝓤 (ensured 𝓛 of-lookup-layered.ended (of-lookup-layered.clauses 𝓛 mem run) (κ₀, (κ₁, tt)) (self.file, (self.start, (self.end, (district.file, (district.start, (district.end, (key, (self.manner, (district.manner, tt))))))))) tt r1) (fact 𝓤 (r1 ≡ layered_value (manner_of self.manner) (manner_of district.manner) self.file.now self.start self.end district.file.now district.start district.end key.now))
+  said-1 r1 = ex_e 𝓤 _ (λ ws. snd∗ 𝓤 (sem 𝓛 (lasts of-lookup-layered.ended (κ₀, (κ₁, tt)) (self.file, (self.start, (self.end, (district.file, (district.start, (district.end, (key, (self.manner, (district.manner, tt))))))))) ws)) (fact 𝓤 (r1 ≡ layered_value (manner_of self.manner) (manner_of district.manner) self.file.now self.start self.end district.file.now district.start district.end key.now)))
 
   -- a field of a view, from one copy of what the view owns; the other stays
   out-district-3 : ent 𝓤 (sem 𝓛 ((DTableView.the_row (named_lft 2 0 tt (κ₀, (κ₁, tt)))).own_val district ((LL.val (DTableView.the_type (named_lft 2 0 tt (κ₀, (κ₁, tt)))) (DTableView'.the_laws (named_lft 2 0 tt (κ₀, (κ₁, tt)))) district) ∷ []))) (sep 𝓤 (sem 𝓛 ((DManner.the_row).own_val district.manner ((LL.val DManner.the_type DManner'.the_laws district.manner) ∷ []))) (sem 𝓛 ((DTableView.the_row (named_lft 2 0 tt (κ₀, (κ₁, tt)))).own_val district ((LL.val (DTableView.the_type (named_lft 2 0 tt (κ₀, (κ₁, tt)))) (DTableView'.the_laws (named_lft 2 0 tt (κ₀, (κ₁, tt)))) district) ∷ []))))
@@ -212,7 +212,7 @@ module _ {M : Type 1} {𝓤 : Ura M} (𝓛 : Logic 𝓤) (mem : Memory → SProp
           nothing ! $ move ! (2 ∷ []) $ use1 𝓛 (‵ ((DManner.the_row).own_val district.manner ((LL.val DManner.the_type DManner'.the_laws district.manner) ∷ [])) ⊛ ‵ ((DTableView.the_row (named_lft 2 0 tt (κ₀, (κ₁, tt)))).own_val district ((LL.val (DTableView.the_type (named_lft 2 0 tt (κ₀, (κ₁, tt)))) (DTableView'.the_laws (named_lft 2 0 tt (κ₀, (κ₁, tt)))) district) ∷ []))) out-district-3 $ split ! $ move ! (0 ∷ 2 ∷ []) $ fjoin ! $ move ! (3 ∷ []) $ use1 𝓛 (‵ ((DManner.the_row).own_val self.manner ((LL.val DManner.the_type DManner'.the_laws self.manner) ∷ [])) ⊛ ‵ ((DTableView.the_row (named_lft 2 0 tt (κ₀, (κ₁, tt)))).own_val self ((LL.val (DTableView.the_type (named_lft 2 0 tt (κ₀, (κ₁, tt)))) (DTableView'.the_laws (named_lft 2 0 tt (κ₀, (κ₁, tt)))) self) ∷ []))) out-self-3 $ split ! $ move ! (0 ∷ 2 ∷ []) $ fjoin ! $ move ! (3 ∷ []) $ use1 𝓛 (‵ ((ShrSlice (named 1) κ₁ u8).own_val key ((slice_val key.ref_ptr (length key.now)) ∷ [])) ⊛ ‵ ((ShrSlice (named 1) κ₁ u8).own_val key ((slice_val key.ref_ptr (length key.now)) ∷ []))) ((shr_slice_copy 𝓛 (named 1) κ₁ u8).twice key ((slice_val key.ref_ptr (length key.now)) ∷ [])) $ split ! $ move ! (0 ∷ 2 ∷ []) $ fjoin ! $ owned ! u32 (Is u32) (uint_Makes 𝓛 w32) district.end ((vint w32 district.end) ∷ []) (refl, wt1.1.1.1.0.fits) $ fjoin ! $ owned ! u32 (Is u32) (uint_Makes 𝓛 w32) district.start ((vint w32 district.start) ∷ []) (refl, wt1.1.1.0.fits) $ fjoin ! $ move ! (3 ∷ []) $ use1 𝓛 (‵ ((ShrSlice (named 0) κ₀ u8).own_val district.file ((slice_val district.file.ptr (length district.file.now)) ∷ [])) ⊛ ‵ ((DTableView.the_row (named_lft 2 0 tt (κ₀, (κ₁, tt)))).own_val district ((LL.val (DTableView.the_type (named_lft 2 0 tt (κ₀, (κ₁, tt)))) (DTableView'.the_laws (named_lft 2 0 tt (κ₀, (κ₁, tt)))) district) ∷ []))) out-district-0 $ split ! $ move ! (0 ∷ 2 ∷ []) $ fjoin ! $ owned ! u32 (Is u32) (uint_Makes 𝓛 w32) self.end ((vint w32 self.end) ∷ []) (refl, wt0.1.1.1.0.fits) $ fjoin ! $ owned ! u32 (Is u32) (uint_Makes 𝓛 w32) self.start ((vint w32 self.start) ∷ []) (refl, wt0.1.1.0.fits) $ fjoin ! $ move ! (3 ∷ []) $ use1 𝓛 (‵ ((ShrSlice (named 0) κ₀ u8).own_val self.file ((slice_val self.file.ptr (length self.file.now)) ∷ [])) ⊛ ‵ ((DTableView.the_row (named_lft 2 0 tt (κ₀, (κ₁, tt)))).own_val self ((LL.val (DTableView.the_type (named_lft 2 0 tt (κ₀, (κ₁, tt)))) (DTableView'.the_laws (named_lft 2 0 tt (κ₀, (κ₁, tt)))) self) ∷ []))) out-self-0 $ split ! $ move ! (0 ∷ 2 ∷ []) $ fjoin ! $ nothing ! $ move ! (5 ∷ 0 ∷ []) $ join ! $ move ! (5 ∷ 0 ∷ []) $ join ! $ use2 𝓛 (raw ((Contract-lookup-layered 𝓛 mem run).pre (to-1))) (asked-1) $
           calls_at ! fm (Contract-lookup-layered 𝓛 mem run) known-lookup-layered (to-1) (and_then ! (load ! (from ! (stop !)) (look ! 22 refl)) (and_then ! (load ! (from ! (stop !)) (look ! 20 refl)) (and_then ! (load ! (from ! (stop !)) (look ! 18 refl)) (and_then ! (load ! (from ! (stop !)) (look ! 16 refl)) (and_then ! (load ! (from ! (stop !)) (look ! 14 refl)) (and_then ! (load ! (from ! (stop !)) (look ! 12 refl)) (and_then ! (load ! (from ! (stop !)) (look ! 32 refl)) (and_then ! (load ! (from ! (stop !)) (look ! 10 refl)) (and_then ! (load ! (from ! (stop !)) (look ! 8 refl)) (no_more !)))))))))) (λ u1.
           use1 𝓛 (later (some (λ (r1 : Layered). ((‵ (flft κ₀ q₀) ⊛ ‵ (flft κ₁ q₁) ⊛ ‵ ftrue) ⊛ ‵ ((DLayered.the_row).own_val r1 (u1 ∷ []))) ⊛ raw (ensured 𝓛 of-lookup-layered.ended (of-lookup-layered.clauses 𝓛 mem run) (κ₀, (κ₁, tt)) (self.file, (self.start, (self.end, (district.file, (district.start, (district.end, (key, (self.manner, (district.manner, tt))))))))) tt r1)))) (id⊢ 𝓤 _) $ await ! tt $ pick ! (λ r1.
-          split ! $ move ! (1 ∷ []) $ use1 𝓛 (raw (fact 𝓤 (r1 ≡ layeredValue (mannerOf self.manner) (mannerOf district.manner) self.file.now self.start self.end district.file.now district.start district.end key.now))) (said-1 r1) $ heard ! (r1 ≡ layeredValue (mannerOf self.manner) (mannerOf district.manner) self.file.now self.start self.end district.file.now district.start district.end key.now) (λ e1. split ! $ split ! $ move ! (1 ∷ []) $ split ! $ move ! (1 ∷ []) $ drop ! $ move ! (2 ∷ []) $ facts ! DLayered.the_row (Is DLayered.the_row) (shows 𝓛 DLayered.the_row) r1 (u1 ∷ []) (λ i1.
+          split ! $ move ! (1 ∷ []) $ use1 𝓛 (raw (fact 𝓤 (r1 ≡ layered_value (manner_of self.manner) (manner_of district.manner) self.file.now self.start self.end district.file.now district.start district.end key.now))) (said-1 r1) $ heard ! (r1 ≡ layered_value (manner_of self.manner) (manner_of district.manner) self.file.now self.start self.end district.file.now district.start district.end key.now) (λ e1. split ! $ split ! $ move ! (1 ∷ []) $ split ! $ move ! (1 ∷ []) $ drop ! $ move ! (2 ∷ []) $ facts ! DLayered.the_row (Is DLayered.the_row) (shows 𝓛 DLayered.the_row) r1 (u1 ∷ []) (λ i1.
           land ! (from ! (stop !)) (init ! 31 refl ((LL.lawful DLayered.the_type DLayered'.the_laws 𝓛).typed r1 _ i1).0) $
           -- call 2, of `view_part::part::layered_looked`
           nothing ! $ owned ! DLayered.the_row (Is DLayered.the_row) (LL.makes DLayered.the_type DLayered'.the_plain 𝓛) r1 (u1 ∷ []) i1 $ fjoin ! $ nothing ! $ use2 𝓛 (raw ((Contract-layered-looked 𝓛 mem run).pre (to-2 r1 u1))) (asked-2 r1 u1) $
@@ -239,7 +239,7 @@ module _ {M : Type 1} {𝓤 : Ura M} (𝓛 : Logic 𝓤) (mem : Memory → SProp
           assigns ! (agg ! (and_then ! (load ! (from ! (stop !)) (look ! 31 refl)) (and_then ! (load ! (from ! (stop !)) (look ! 29 refl)) (and_then ! (load ! (from ! (stop !)) (look ! 27 refl)) (no_more !))))) (from ! (stop !)) (init ! 41 refl ((LL.lawful (DLayeredView.the_type (named_lft 2 0 tt (κ₀, (κ₁, tt)))) (DLayeredView'.the_laws (named_lft 2 0 tt (κ₀, (κ₁, tt)))) 𝓛).typed (record { answer = r2; from = r3; bytes = r4 }) _ j1).0) $
           returns ! (look ! 41 refl) $ forget ! 7 refl $ forget ! 9 refl $ forget ! 11 refl $ forget ! 13 refl $ forget ! 15 refl $ forget ! 17 refl $ forget ! 19 refl $ forget ! 21 refl $ forget ! 23 refl $ forget ! 25 refl $ forget ! 27 refl $ forget ! 29 refl $ forget ! 31 refl $ forget ! 33 refl $ forget ! 35 refl $ forget ! 37 refl $ forget ! 39 refl $ forget ! 41 refl $
           move ! (41 ∷ 42 ∷ []) $ free1 ! $ move ! (39 ∷ 40 ∷ []) $ free1 ! $ move ! (37 ∷ 38 ∷ []) $ free1 ! $ move ! (35 ∷ 36 ∷ []) $ free1 ! $ move ! (33 ∷ 34 ∷ []) $ free1 ! $ move ! (31 ∷ 32 ∷ []) $ free1 ! $ move ! (29 ∷ 30 ∷ []) $ free1 ! $ move ! (27 ∷ 28 ∷ []) $ free1 ! $ move ! (25 ∷ 26 ∷ []) $ free1 ! $ move ! (23 ∷ 24 ∷ []) $ free1 ! $ move ! (21 ∷ 22 ∷ []) $ free1 ! $ move ! (19 ∷ 20 ∷ []) $ free1 ! $ move ! (17 ∷ 18 ∷ []) $ free1 ! $ move ! (15 ∷ 16 ∷ []) $ free1 ! $ move ! (13 ∷ 14 ∷ []) $ free1 ! $ move ! (11 ∷ 12 ∷ []) $ free1 ! $ move ! (9 ∷ 10 ∷ []) $ free1 ! $ move ! (7 ∷ 8 ∷ []) $ free1 ! $ free0 ! $
-          keep ! (0 ∷ 2 ∷ 5 ∷ 3 ∷ 4 ∷ 6 ∷ []) $ by ! (exits (record { answer = r2; from = r3; bytes = r4 }) (vstruct (vcons u2 (vcons u3 (vcons u4 vnil)))) (layered-of self district key.now r1 r2 r3 r4 e1 e2 e3 e4)))))))))))))))))))))))))))))))))))))
+          keep ! (0 ∷ 2 ∷ 5 ∷ 3 ∷ 4 ∷ 6 ∷ []) $ by ! (exits (record { answer = r2; from = r3; bytes = r4 }) (vstruct (vcons u2 (vcons u3 (vcons u4 vnil)))) (layered_of_lem self district key.now r1 r2 r3 r4 e1 e2 e3 e4)))))))))))))))))))))))))))))))))))))
 
 module _ {M : Type 1} {𝓤 : Ura M} (𝓛 : Logic 𝓤) (mem : Memory → SProp 𝓤) (run : Routine → Fun 𝓤) where
   open 𝓛 use {H}

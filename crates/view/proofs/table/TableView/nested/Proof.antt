@@ -41,9 +41,9 @@ use denote.Triple.Table.{entered, cited}
 use denote.Triple.Walked.{says, Stays, stay_none, stay_none_slice, walk_of, Goes-none, Goes-none_slice, Walks, ends_at, walked, walk_Meets}
 use denote.Exit.{yes}
 use denote.Triple.Clauses.{ensured, lasts}
-use Rattle.read_find.specs.Find.{mannerOf}
-use Rattle.read.specs.Lookup.{lookupTable}
-use Rattle.view_part.specs.Part.{NestedIn, pointerStart, pointerEnd}
+use Rattle.read_find.specs.Find.{manner_of}
+use Rattle.read.specs.Lookup.{lookup_table}
+use Rattle.view_part.specs.Part.{NestedIn, pointer_start, pointer_end}
 use Rattle.view.specs.Views.{NestedOf}
 use Rattle.view.proofs.HoldsLaws.{and_left}
 use Rattle.read.specs.declared.lookup.Looked.{Looked}
@@ -114,8 +114,8 @@ module _ {M : Type 1} {𝓤 : Ura M} (𝓛 : Logic 𝓤) (mem : Memory → SProp
   asked-1 : ent 𝓤 (on_entry 𝓛 of-lookup-table.signature (κ₀, (κ₁, tt)) (q₀, (q₁, tt)) (self.file, (self.start, (self.end, (key, (self.manner, tt))))) ((slice_val self.file.ptr (length self.file.now)) ∷ [], ((vint w32 self.start) ∷ [], ((vint w32 self.end) ∷ [], ((slice_val key.ref_ptr (length key.now)) ∷ [], ((LL.val DManner.the_type DManner'.the_laws self.manner) ∷ [], tt)))))) ((Contract-lookup-table 𝓛 mem run).pre (to-1))
   asked-1 = qed 𝓛 ((‵ (flft κ₀ q₀) ⊛ ‵ (flft κ₁ q₁) ⊛ ‵ ftrue) ∷ ‵ (owns ((ShrSlice (named 0) κ₀ u8) ∷ u32 ∷ u32 ∷ (ShrSlice (named 1) κ₁ u8) ∷ DManner.the_row ∷ []) (self.file, (self.start, (self.end, (key, (self.manner, tt))))) ((slice_val self.file.ptr (length self.file.now)) ∷ [], ((vint w32 self.start) ∷ [], ((vint w32 self.end) ∷ [], ((slice_val key.ref_ptr (length key.now)) ∷ [], ((LL.val DManner.the_type DManner'.the_laws self.manner) ∷ [], tt)))))) ∷ []) ∵ join ! $ frame ! $ done !
 
-  said-1 : (r1 : Looked) → ent 𝓤 (ensured 𝓛 of-lookup-table.ended (of-lookup-table.clauses 𝓛 mem run) (κ₀, (κ₁, tt)) (self.file, (self.start, (self.end, (key, (self.manner, tt))))) tt r1) (fact 𝓤 (r1 ≡ lookupTable (mannerOf self.manner) self.file.now self.start self.end key.now))
-  said-1 r1 = ex_e 𝓤 _ (λ ws. snd∗ 𝓤 (sem 𝓛 (lasts of-lookup-table.ended (κ₀, (κ₁, tt)) (self.file, (self.start, (self.end, (key, (self.manner, tt))))) ws)) (fact 𝓤 (r1 ≡ lookupTable (mannerOf self.manner) self.file.now self.start self.end key.now)))
+  said-1 : (r1 : Looked) → ent 𝓤 (ensured 𝓛 of-lookup-table.ended (of-lookup-table.clauses 𝓛 mem run) (κ₀, (κ₁, tt)) (self.file, (self.start, (self.end, (key, (self.manner, tt))))) tt r1) (fact 𝓤 (r1 ≡ lookup_table (manner_of self.manner) self.file.now self.start self.end key.now))
+  said-1 r1 = ex_e 𝓤 _ (λ ws. snd∗ 𝓤 (sem 𝓛 (lasts of-lookup-table.ended (κ₀, (κ₁, tt)) (self.file, (self.start, (self.end, (key, (self.manner, tt))))) ws)) (fact 𝓤 (r1 ≡ lookup_table (manner_of self.manner) self.file.now self.start self.end key.now)))
 
   -- a field of a view, from one copy of what the view owns; the other stays
   out-self-3 : ent 𝓤 (sem 𝓛 ((DTableView.the_row (named_lft 2 0 tt (κ₀, (κ₁, tt)))).own_val self ((LL.val (DTableView.the_type (named_lft 2 0 tt (κ₀, (κ₁, tt)))) (DTableView'.the_laws (named_lft 2 0 tt (κ₀, (κ₁, tt)))) self) ∷ []))) (sep 𝓤 (sem 𝓛 ((DManner.the_row).own_val self.manner ((LL.val DManner.the_type DManner'.the_laws self.manner) ∷ []))) (sem 𝓛 ((DTableView.the_row (named_lft 2 0 tt (κ₀, (κ₁, tt)))).own_val self ((LL.val (DTableView.the_type (named_lft 2 0 tt (κ₀, (κ₁, tt)))) (DTableView'.the_laws (named_lft 2 0 tt (κ₀, (κ₁, tt)))) self) ∷ []))))
@@ -150,8 +150,8 @@ module _ {M : Type 1} {𝓤 : Ura M} (𝓛 : Logic 𝓤) (mem : Memory → SProp
   asked-3 : (r1 : Looked) (r2 : Bor (List ℕ)) (u1 : Val) (u2 : Val) → ent 𝓤 (on_entry 𝓛 of-pointer-start.signature tt tt (r1, tt) (u1 ∷ [], tt)) ((Contract-pointer-start 𝓛 mem run).pre (to-3 r1 r2 u1 u2))
   asked-3 r1 r2 u1 u2 = qed 𝓛 ((‵ ftrue) ∷ ‵ (owns (DLooked.the_row ∷ []) (r1, tt) (u1 ∷ [], tt)) ∷ []) ∵ join ! $ frame ! $ done !
 
-  said-3 : (r1 : Looked) (r2 : Bor (List ℕ)) (u1 : Val) (u2 : Val) (r3 : ℕ) → ent 𝓤 (ensured 𝓛 of-pointer-start.ended (of-pointer-start.clauses 𝓛 mem run) tt (r1, tt) tt r3) (fact 𝓤 (r3 ≡ pointerStart r1))
-  said-3 r1 r2 u1 u2 r3 = ex_e 𝓤 _ (λ ws. snd∗ 𝓤 (sem 𝓛 (lasts of-pointer-start.ended tt (r1, tt) ws)) (fact 𝓤 (r3 ≡ pointerStart r1)))
+  said-3 : (r1 : Looked) (r2 : Bor (List ℕ)) (u1 : Val) (u2 : Val) (r3 : ℕ) → ent 𝓤 (ensured 𝓛 of-pointer-start.ended (of-pointer-start.clauses 𝓛 mem run) tt (r1, tt) tt r3) (fact 𝓤 (r3 ≡ pointer_start r1))
+  said-3 r1 r2 u1 u2 r3 = ex_e 𝓤 _ (λ ws. snd∗ 𝓤 (sem 𝓛 (lasts of-pointer-start.ended tt (r1, tt) ws)) (fact 𝓤 (r3 ≡ pointer_start r1)))
 
   -- call 4, of `view_part::part::pointer_end`: what it is passed, what it asks, and what it says of its result
   abbrev to-4 : (r1 : Looked) (r2 : Bor (List ℕ)) (r3 : ℕ) (u1 : Val) (u2 : Val) (u3 : Val) → (Contract-pointer-end 𝓛 mem run).Ghost
@@ -160,8 +160,8 @@ module _ {M : Type 1} {𝓤 : Ura M} (𝓛 : Logic 𝓤) (mem : Memory → SProp
   asked-4 : (r1 : Looked) (r2 : Bor (List ℕ)) (r3 : ℕ) (u1 : Val) (u2 : Val) (u3 : Val) → ent 𝓤 (on_entry 𝓛 of-pointer-end.signature tt tt (r1, tt) (u1 ∷ [], tt)) ((Contract-pointer-end 𝓛 mem run).pre (to-4 r1 r2 r3 u1 u2 u3))
   asked-4 r1 r2 r3 u1 u2 u3 = qed 𝓛 ((‵ ftrue) ∷ ‵ (owns (DLooked.the_row ∷ []) (r1, tt) (u1 ∷ [], tt)) ∷ []) ∵ join ! $ frame ! $ done !
 
-  said-4 : (r1 : Looked) (r2 : Bor (List ℕ)) (r3 : ℕ) (u1 : Val) (u2 : Val) (u3 : Val) (r4 : ℕ) → ent 𝓤 (ensured 𝓛 of-pointer-end.ended (of-pointer-end.clauses 𝓛 mem run) tt (r1, tt) tt r4) (fact 𝓤 (r4 ≡ pointerEnd r1))
-  said-4 r1 r2 r3 u1 u2 u3 r4 = ex_e 𝓤 _ (λ ws. snd∗ 𝓤 (sem 𝓛 (lasts of-pointer-end.ended tt (r1, tt) ws)) (fact 𝓤 (r4 ≡ pointerEnd r1)))
+  said-4 : (r1 : Looked) (r2 : Bor (List ℕ)) (r3 : ℕ) (u1 : Val) (u2 : Val) (u3 : Val) (r4 : ℕ) → ent 𝓤 (ensured 𝓛 of-pointer-end.ended (of-pointer-end.clauses 𝓛 mem run) tt (r1, tt) tt r4) (fact 𝓤 (r4 ≡ pointer_end r1))
+  said-4 r1 r2 r3 u1 u2 u3 r4 = ex_e 𝓤 _ (λ ws. snd∗ 𝓤 (sem 𝓛 (lasts of-pointer-end.ended tt (r1, tt) ws)) (fact 𝓤 (r4 ≡ pointer_end r1)))
 
   module _ (wt0 : Holds (has_ty (DTableView'.mir (named 0)) (LL.val (DTableView.the_type (named_lft 2 0 tt (κ₀, (κ₁, tt)))) (DTableView'.the_laws (named_lft 2 0 tt (κ₀, (κ₁, tt)))) self)) × WT (LL.val (DTableView.the_type (named_lft 2 0 tt (κ₀, (κ₁, tt)))) (DTableView'.the_laws (named_lft 2 0 tt (κ₀, (κ₁, tt)))) self)) (is1 : Is (ShrSlice (named 1) κ₁ u8) key ((slice_val key.ref_ptr (length key.now)) ∷ [])) where
     exits : (x : NestedView) (w : Val) → NestedOf self key.now x → ent 𝓤 (⋆ 𝓛 (‵ ((DNestedView.the_row (named_lft 2 0 tt (κ₀, (κ₁, tt)))).own_val x (w ∷ [])) ∷ ‵ (flft κ₀ q₀) ∷ ‵ (flft κ₁ q₁) ∷ ‵ ((DTableView.the_row (named_lft 2 0 tt (κ₀, (κ₁, tt)))).own_val self ((LL.val (DTableView.the_type (named_lft 2 0 tt (κ₀, (κ₁, tt)))) (DTableView'.the_laws (named_lft 2 0 tt (κ₀, (κ₁, tt)))) self) ∷ [])) ∷ ‵ ((ShrSlice (named 1) κ₁ u8).own_val key ((slice_val key.ref_ptr (length key.now)) ∷ [])) ∷ [])) (Post w)
@@ -185,7 +185,7 @@ module _ {M : Type 1} {𝓤 : Ura M} (𝓛 : Logic 𝓤) (mem : Memory → SProp
           nothing ! $ move ! (2 ∷ []) $ use1 𝓛 (‵ ((DManner.the_row).own_val self.manner ((LL.val DManner.the_type DManner'.the_laws self.manner) ∷ [])) ⊛ ‵ ((DTableView.the_row (named_lft 2 0 tt (κ₀, (κ₁, tt)))).own_val self ((LL.val (DTableView.the_type (named_lft 2 0 tt (κ₀, (κ₁, tt)))) (DTableView'.the_laws (named_lft 2 0 tt (κ₀, (κ₁, tt)))) self) ∷ []))) out-self-3 $ split ! $ move ! (0 ∷ 2 ∷ []) $ fjoin ! $ move ! (2 ∷ []) $ use1 𝓛 (‵ ((ShrSlice (named 1) κ₁ u8).own_val key ((slice_val key.ref_ptr (length key.now)) ∷ [])) ⊛ ‵ ((ShrSlice (named 1) κ₁ u8).own_val key ((slice_val key.ref_ptr (length key.now)) ∷ []))) ((shr_slice_copy 𝓛 (named 1) κ₁ u8).twice key ((slice_val key.ref_ptr (length key.now)) ∷ [])) $ split ! $ move ! (0 ∷ 2 ∷ []) $ fjoin ! $ owned ! u32 (Is u32) (uint_Makes 𝓛 w32) self.end ((vint w32 self.end) ∷ []) (refl, wt0.1.1.1.0.fits) $ fjoin ! $ owned ! u32 (Is u32) (uint_Makes 𝓛 w32) self.start ((vint w32 self.start) ∷ []) (refl, wt0.1.1.0.fits) $ fjoin ! $ move ! (2 ∷ []) $ use1 𝓛 (‵ ((ShrSlice (named 0) κ₀ u8).own_val self.file ((slice_val self.file.ptr (length self.file.now)) ∷ [])) ⊛ ‵ ((DTableView.the_row (named_lft 2 0 tt (κ₀, (κ₁, tt)))).own_val self ((LL.val (DTableView.the_type (named_lft 2 0 tt (κ₀, (κ₁, tt)))) (DTableView'.the_laws (named_lft 2 0 tt (κ₀, (κ₁, tt)))) self) ∷ []))) out-self-0 $ split ! $ move ! (0 ∷ 2 ∷ []) $ fjoin ! $ nothing ! $ move ! (4 ∷ 0 ∷ []) $ join ! $ move ! (4 ∷ 0 ∷ []) $ join ! $ use2 𝓛 (raw ((Contract-lookup-table 𝓛 mem run).pre (to-1))) (asked-1) $
           calls_at ! fm (Contract-lookup-table 𝓛 mem run) known-lookup-table (to-1) (and_then ! (load ! (from ! (stop !)) (look ! 13 refl)) (and_then ! (load ! (from ! (stop !)) (look ! 11 refl)) (and_then ! (load ! (from ! (stop !)) (look ! 9 refl)) (and_then ! (load ! (from ! (stop !)) (look ! 25 refl)) (and_then ! (load ! (from ! (stop !)) (look ! 7 refl)) (no_more !)))))) (λ u1.
           use1 𝓛 (later (some (λ (r1 : Looked). ((‵ (flft κ₀ q₀) ⊛ ‵ (flft κ₁ q₁) ⊛ ‵ ftrue) ⊛ ‵ ((DLooked.the_row).own_val r1 (u1 ∷ []))) ⊛ raw (ensured 𝓛 of-lookup-table.ended (of-lookup-table.clauses 𝓛 mem run) (κ₀, (κ₁, tt)) (self.file, (self.start, (self.end, (key, (self.manner, tt))))) tt r1)))) (id⊢ 𝓤 _) $ await ! tt $ pick ! (λ r1.
-          split ! $ move ! (1 ∷ []) $ use1 𝓛 (raw (fact 𝓤 (r1 ≡ lookupTable (mannerOf self.manner) self.file.now self.start self.end key.now))) (said-1 r1) $ heard ! (r1 ≡ lookupTable (mannerOf self.manner) self.file.now self.start self.end key.now) (λ e1. split ! $ split ! $ move ! (1 ∷ []) $ split ! $ move ! (1 ∷ []) $ drop ! $ move ! (2 ∷ []) $ facts ! DLooked.the_row (Is DLooked.the_row) (shows 𝓛 DLooked.the_row) r1 (u1 ∷ []) (λ i1.
+          split ! $ move ! (1 ∷ []) $ use1 𝓛 (raw (fact 𝓤 (r1 ≡ lookup_table (manner_of self.manner) self.file.now self.start self.end key.now))) (said-1 r1) $ heard ! (r1 ≡ lookup_table (manner_of self.manner) self.file.now self.start self.end key.now) (λ e1. split ! $ split ! $ move ! (1 ∷ []) $ split ! $ move ! (1 ∷ []) $ drop ! $ move ! (2 ∷ []) $ facts ! DLooked.the_row (Is DLooked.the_row) (shows 𝓛 DLooked.the_row) r1 (u1 ∷ []) (λ i1.
           land ! (from ! (stop !)) (init ! 24 refl ((EL.lawful DLooked.the_type DLooked'.the_laws 𝓛 tt).typed r1 _ i1).0) $
           assigns ! (of_opd ! (load ! (from ! (fld ! refl (stop !))) (look_in ! 28 (sub ! 0 refl (whole !))))) (from ! (stop !)) (init ! 6 refl (tt, wt0.1.0)) $
           -- call 2, of `view_part::part::nested_part`
@@ -198,13 +198,13 @@ module _ {M : Type 1} {𝓤 : Ura M} (𝓛 : Logic 𝓤) (mem : Memory → SProp
           nothing ! $ owned ! DLooked.the_row (Is DLooked.the_row) (EL.makes DLooked.the_type DLooked'.the_plain 𝓛) r1 (u1 ∷ []) i1 $ fjoin ! $ nothing ! $ use2 𝓛 (raw ((Contract-pointer-start 𝓛 mem run).pre (to-3 r1 r2 u1 u2))) (asked-3 r1 r2 u1 u2) $
           calls_at ! fm (Contract-pointer-start 𝓛 mem run) known-pointer-start (to-3 r1 r2 u1 u2) (and_then ! (load ! (from ! (stop !)) (look ! 26 refl)) (no_more !)) (λ u3.
           use1 𝓛 (later (some (λ (r3 : ℕ). ((‵ ftrue) ⊛ ‵ (u32.own_val r3 (u3 ∷ []))) ⊛ raw (ensured 𝓛 of-pointer-start.ended (of-pointer-start.clauses 𝓛 mem run) tt (r1, tt) tt r3)))) (id⊢ 𝓤 _) $ await ! tt $ pick ! (λ r3.
-          split ! $ move ! (1 ∷ []) $ use1 𝓛 (raw (fact 𝓤 (r3 ≡ pointerStart r1))) (said-3 r1 r2 u1 u2 r3) $ heard ! (r3 ≡ pointerStart r1) (λ e3. split ! $ drop ! $ facts ! u32 (Is u32) (shows 𝓛 u32) r3 (u3 ∷ []) (λ i3.
+          split ! $ move ! (1 ∷ []) $ use1 𝓛 (raw (fact 𝓤 (r3 ≡ pointer_start r1))) (said-3 r1 r2 u1 u2 r3) $ heard ! (r3 ≡ pointer_start r1) (λ e3. split ! $ drop ! $ facts ! u32 (Is u32) (shows 𝓛 u32) r3 (u3 ∷ []) (λ i3.
           land ! (from ! (stop !)) (init ! 21 refl ((uint_Lawful 𝓛 w32).typed r3 _ i3).0) $
           -- call 4, of `view_part::part::pointer_end`
           nothing ! $ owned ! DLooked.the_row (Is DLooked.the_row) (EL.makes DLooked.the_type DLooked'.the_plain 𝓛) r1 (u1 ∷ []) i1 $ fjoin ! $ nothing ! $ use2 𝓛 (raw ((Contract-pointer-end 𝓛 mem run).pre (to-4 r1 r2 r3 u1 u2 u3))) (asked-4 r1 r2 r3 u1 u2 u3) $
           calls_at ! fm (Contract-pointer-end 𝓛 mem run) known-pointer-end (to-4 r1 r2 r3 u1 u2 u3) (and_then ! (load ! (from ! (stop !)) (look ! 26 refl)) (no_more !)) (λ u4.
           use1 𝓛 (later (some (λ (r4 : ℕ). ((‵ ftrue) ⊛ ‵ (u32.own_val r4 (u4 ∷ []))) ⊛ raw (ensured 𝓛 of-pointer-end.ended (of-pointer-end.clauses 𝓛 mem run) tt (r1, tt) tt r4)))) (id⊢ 𝓤 _) $ await ! tt $ pick ! (λ r4.
-          split ! $ move ! (1 ∷ []) $ use1 𝓛 (raw (fact 𝓤 (r4 ≡ pointerEnd r1))) (said-4 r1 r2 r3 u1 u2 u3 r4) $ heard ! (r4 ≡ pointerEnd r1) (λ e4. split ! $ drop ! $ facts ! u32 (Is u32) (shows 𝓛 u32) r4 (u4 ∷ []) (λ i4.
+          split ! $ move ! (1 ∷ []) $ use1 𝓛 (raw (fact 𝓤 (r4 ≡ pointer_end r1))) (said-4 r1 r2 r3 u1 u2 u3 r4) $ heard ! (r4 ≡ pointer_end r1) (λ e4. split ! $ drop ! $ facts ! u32 (Is u32) (shows 𝓛 u32) r4 (u4 ∷ []) (λ i4.
           land ! (from ! (stop !)) (init ! 19 refl ((uint_Lawful 𝓛 w32).typed r4 _ i4).0) $
           assigns ! (of_opd ! (load ! (from ! (fld ! refl (stop !))) (look_in ! 29 (sub ! 3 refl (whole !))))) (from ! (stop !)) (init ! 17 refl (and_left (has_ty DManner'.mir (LL.val DManner.the_type DManner'.the_laws self.manner)) true wt0.0, wt0.1.1.1.1.0)) $
           -- `view::table::TableView` is made

@@ -41,8 +41,8 @@ use denote.Triple.Table.{entered, cited}
 use denote.Triple.Walked.{says, Stays, stay_none, stay_none_slice, walk_of, Goes-none, Goes-none_slice, Walks, ends_at, walked, walk_Meets}
 use denote.Exit.{yes}
 use denote.Triple.Clauses.{ensured, lasts}
-use Rattle.read_find.specs.Find.{mannerOf}
-use Rattle.read.specs.Lookup.{lookupValue}
+use Rattle.read_find.specs.Find.{manner_of}
+use Rattle.read.specs.Lookup.{lookup_value}
 use Rattle.view_part.specs.Part.{ValueIn}
 use Rattle.view.specs.Views.{ValueOf}
 use Rattle.view.proofs.HoldsLaws.{and_left}
@@ -98,8 +98,8 @@ module _ {M : Type 1} {𝓤 : Ura M} (𝓛 : Logic 𝓤) (mem : Memory → SProp
   asked-1 : ent 𝓤 (on_entry 𝓛 of-lookup-value.signature (κ₀, (κ₁, tt)) (q₀, (q₁, tt)) (self.file, (self.start, (self.end, (key, (self.manner, tt))))) ((slice_val self.file.ptr (length self.file.now)) ∷ [], ((vint w32 self.start) ∷ [], ((vint w32 self.end) ∷ [], ((slice_val key.ref_ptr (length key.now)) ∷ [], ((LL.val DManner.the_type DManner'.the_laws self.manner) ∷ [], tt)))))) ((Contract-lookup-value 𝓛 mem run).pre (to-1))
   asked-1 = qed 𝓛 ((‵ (flft κ₀ q₀) ⊛ ‵ (flft κ₁ q₁) ⊛ ‵ ftrue) ∷ ‵ (owns ((ShrSlice (named 0) κ₀ u8) ∷ u32 ∷ u32 ∷ (ShrSlice (named 1) κ₁ u8) ∷ DManner.the_row ∷ []) (self.file, (self.start, (self.end, (key, (self.manner, tt))))) ((slice_val self.file.ptr (length self.file.now)) ∷ [], ((vint w32 self.start) ∷ [], ((vint w32 self.end) ∷ [], ((slice_val key.ref_ptr (length key.now)) ∷ [], ((LL.val DManner.the_type DManner'.the_laws self.manner) ∷ [], tt)))))) ∷ []) ∵ join ! $ frame ! $ done !
 
-  said-1 : (r1 : Looked) → ent 𝓤 (ensured 𝓛 of-lookup-value.ended (of-lookup-value.clauses 𝓛 mem run) (κ₀, (κ₁, tt)) (self.file, (self.start, (self.end, (key, (self.manner, tt))))) tt r1) (fact 𝓤 (r1 ≡ lookupValue (mannerOf self.manner) self.file.now self.start self.end key.now))
-  said-1 r1 = ex_e 𝓤 _ (λ ws. snd∗ 𝓤 (sem 𝓛 (lasts of-lookup-value.ended (κ₀, (κ₁, tt)) (self.file, (self.start, (self.end, (key, (self.manner, tt))))) ws)) (fact 𝓤 (r1 ≡ lookupValue (mannerOf self.manner) self.file.now self.start self.end key.now)))
+  said-1 : (r1 : Looked) → ent 𝓤 (ensured 𝓛 of-lookup-value.ended (of-lookup-value.clauses 𝓛 mem run) (κ₀, (κ₁, tt)) (self.file, (self.start, (self.end, (key, (self.manner, tt))))) tt r1) (fact 𝓤 (r1 ≡ lookup_value (manner_of self.manner) self.file.now self.start self.end key.now))
+  said-1 r1 = ex_e 𝓤 _ (λ ws. snd∗ 𝓤 (sem 𝓛 (lasts of-lookup-value.ended (κ₀, (κ₁, tt)) (self.file, (self.start, (self.end, (key, (self.manner, tt))))) ws)) (fact 𝓤 (r1 ≡ lookup_value (manner_of self.manner) self.file.now self.start self.end key.now)))
 
   -- a field of a view, from one copy of what the view owns; the other stays
   out-self-3 : ent 𝓤 (sem 𝓛 ((DTableView.the_row (named_lft 2 0 tt (κ₀, (κ₁, tt)))).own_val self ((LL.val (DTableView.the_type (named_lft 2 0 tt (κ₀, (κ₁, tt)))) (DTableView'.the_laws (named_lft 2 0 tt (κ₀, (κ₁, tt)))) self) ∷ []))) (sep 𝓤 (sem 𝓛 ((DManner.the_row).own_val self.manner ((LL.val DManner.the_type DManner'.the_laws self.manner) ∷ []))) (sem 𝓛 ((DTableView.the_row (named_lft 2 0 tt (κ₀, (κ₁, tt)))).own_val self ((LL.val (DTableView.the_type (named_lft 2 0 tt (κ₀, (κ₁, tt)))) (DTableView'.the_laws (named_lft 2 0 tt (κ₀, (κ₁, tt)))) self) ∷ []))))
@@ -149,7 +149,7 @@ module _ {M : Type 1} {𝓤 : Ura M} (𝓛 : Logic 𝓤) (mem : Memory → SProp
           nothing ! $ move ! (2 ∷ []) $ use1 𝓛 (‵ ((DManner.the_row).own_val self.manner ((LL.val DManner.the_type DManner'.the_laws self.manner) ∷ [])) ⊛ ‵ ((DTableView.the_row (named_lft 2 0 tt (κ₀, (κ₁, tt)))).own_val self ((LL.val (DTableView.the_type (named_lft 2 0 tt (κ₀, (κ₁, tt)))) (DTableView'.the_laws (named_lft 2 0 tt (κ₀, (κ₁, tt)))) self) ∷ []))) out-self-3 $ split ! $ move ! (0 ∷ 2 ∷ []) $ fjoin ! $ move ! (2 ∷ []) $ use1 𝓛 (‵ ((ShrSlice (named 1) κ₁ u8).own_val key ((slice_val key.ref_ptr (length key.now)) ∷ [])) ⊛ ‵ ((ShrSlice (named 1) κ₁ u8).own_val key ((slice_val key.ref_ptr (length key.now)) ∷ []))) ((shr_slice_copy 𝓛 (named 1) κ₁ u8).twice key ((slice_val key.ref_ptr (length key.now)) ∷ [])) $ split ! $ move ! (0 ∷ 2 ∷ []) $ fjoin ! $ owned ! u32 (Is u32) (uint_Makes 𝓛 w32) self.end ((vint w32 self.end) ∷ []) (refl, wt0.1.1.1.0.fits) $ fjoin ! $ owned ! u32 (Is u32) (uint_Makes 𝓛 w32) self.start ((vint w32 self.start) ∷ []) (refl, wt0.1.1.0.fits) $ fjoin ! $ move ! (2 ∷ []) $ use1 𝓛 (‵ ((ShrSlice (named 0) κ₀ u8).own_val self.file ((slice_val self.file.ptr (length self.file.now)) ∷ [])) ⊛ ‵ ((DTableView.the_row (named_lft 2 0 tt (κ₀, (κ₁, tt)))).own_val self ((LL.val (DTableView.the_type (named_lft 2 0 tt (κ₀, (κ₁, tt)))) (DTableView'.the_laws (named_lft 2 0 tt (κ₀, (κ₁, tt)))) self) ∷ []))) out-self-0 $ split ! $ move ! (0 ∷ 2 ∷ []) $ fjoin ! $ nothing ! $ move ! (4 ∷ 0 ∷ []) $ join ! $ move ! (4 ∷ 0 ∷ []) $ join ! $ use2 𝓛 (raw ((Contract-lookup-value 𝓛 mem run).pre (to-1))) (asked-1) $
           calls_at ! fm (Contract-lookup-value 𝓛 mem run) known-lookup-value (to-1) (and_then ! (load ! (from ! (stop !)) (look ! 11 refl)) (and_then ! (load ! (from ! (stop !)) (look ! 9 refl)) (and_then ! (load ! (from ! (stop !)) (look ! 7 refl)) (and_then ! (load ! (from ! (stop !)) (look ! 17 refl)) (and_then ! (load ! (from ! (stop !)) (look ! 5 refl)) (no_more !)))))) (λ u1.
           use1 𝓛 (later (some (λ (r1 : Looked). ((‵ (flft κ₀ q₀) ⊛ ‵ (flft κ₁ q₁) ⊛ ‵ ftrue) ⊛ ‵ ((DLooked.the_row).own_val r1 (u1 ∷ []))) ⊛ raw (ensured 𝓛 of-lookup-value.ended (of-lookup-value.clauses 𝓛 mem run) (κ₀, (κ₁, tt)) (self.file, (self.start, (self.end, (key, (self.manner, tt))))) tt r1)))) (id⊢ 𝓤 _) $ await ! tt $ pick ! (λ r1.
-          split ! $ move ! (1 ∷ []) $ use1 𝓛 (raw (fact 𝓤 (r1 ≡ lookupValue (mannerOf self.manner) self.file.now self.start self.end key.now))) (said-1 r1) $ heard ! (r1 ≡ lookupValue (mannerOf self.manner) self.file.now self.start self.end key.now) (λ e1. split ! $ split ! $ move ! (1 ∷ []) $ split ! $ move ! (1 ∷ []) $ drop ! $ move ! (2 ∷ []) $ facts ! DLooked.the_row (Is DLooked.the_row) (shows 𝓛 DLooked.the_row) r1 (u1 ∷ []) (λ i1.
+          split ! $ move ! (1 ∷ []) $ use1 𝓛 (raw (fact 𝓤 (r1 ≡ lookup_value (manner_of self.manner) self.file.now self.start self.end key.now))) (said-1 r1) $ heard ! (r1 ≡ lookup_value (manner_of self.manner) self.file.now self.start self.end key.now) (λ e1. split ! $ split ! $ move ! (1 ∷ []) $ split ! $ move ! (1 ∷ []) $ drop ! $ move ! (2 ∷ []) $ facts ! DLooked.the_row (Is DLooked.the_row) (shows 𝓛 DLooked.the_row) r1 (u1 ∷ []) (λ i1.
           land ! (from ! (stop !)) (init ! 16 refl ((EL.lawful DLooked.the_type DLooked'.the_laws 𝓛 tt).typed r1 _ i1).0) $
           assigns ! (of_opd ! (load ! (from ! (fld ! refl (stop !))) (look_in ! 20 (sub ! 0 refl (whole !))))) (from ! (stop !)) (init ! 4 refl (tt, wt0.1.0)) $
           -- call 2, of `view_part::part::value_part`
