@@ -8,7 +8,7 @@ use layout::refusal::{Refusal, bad_at, number_of};
 // 0 for a sound table; with 40 the rule broken, 1 to 6, and the item; with rule 1 the number that listing that item ends with, and with 9 where the
 // stored fragment is bad.
 #[repr(C)]
-#[derive(Drop)]
+#[derive(Clone, Copy)]
 pub struct GvdbCheck {
     pub number: u32,
     pub rule: u32,

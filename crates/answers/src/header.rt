@@ -8,7 +8,7 @@ use layout::refusal::number_of;
 
 // The byte order of the values, 0 little and 1 big, and the root pointer.
 #[repr(C)]
-#[derive(Drop)]
+#[derive(Clone, Copy)]
 pub struct GvdbHeader {
     pub number: u32,
     pub big: u32,

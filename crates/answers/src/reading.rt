@@ -13,7 +13,7 @@ use words::wide::byte_word;
 
 // What a table opens as.
 #[repr(C)]
-#[derive(Drop)]
+#[derive(Clone, Copy)]
 pub struct GvdbOpened {
     pub number: u32,
     pub items: u32,
@@ -23,7 +23,7 @@ pub struct GvdbOpened {
 
 // A pointer into the file: to a value, or to a nested table; with 8 where the given key is bad.
 #[repr(C)]
-#[derive(Drop)]
+#[derive(Clone, Copy)]
 pub struct GvdbPlace {
     pub number: u32,
     pub start: u32,
@@ -34,7 +34,7 @@ pub struct GvdbPlace {
 // A pointer into the file of one of two tables, to a value, and the table that answered: 0 the owner's, 1 the district's, on a refusal too; with 8 where the given
 // key is bad.
 #[repr(C)]
-#[derive(Drop)]
+#[derive(Clone, Copy)]
 pub struct GvdbLayered {
     pub number: u32,
     pub from: u32,
@@ -45,7 +45,7 @@ pub struct GvdbLayered {
 
 // A key that was written: its length, and the next position; with 9 where the stored fragment is bad.
 #[repr(C)]
-#[derive(Drop)]
+#[derive(Clone, Copy)]
 pub struct GvdbKey {
     pub number: u32,
     pub length: usize,
@@ -55,7 +55,7 @@ pub struct GvdbKey {
 
 // A value: its pointer, its item, and the next position; item and position are told with 2 and 3 of its pointer too.
 #[repr(C)]
-#[derive(Drop)]
+#[derive(Clone, Copy)]
 pub struct GvdbValue {
     pub number: u32,
     pub start: u32,
@@ -67,7 +67,7 @@ pub struct GvdbValue {
 // A child of a container: the byte of its kind, the pointer of its fragment, its index, and the next position; with 8 where the given key is bad, with 9 where the
 // fragment is.
 #[repr(C)]
-#[derive(Drop)]
+#[derive(Clone, Copy)]
 pub struct GvdbChild {
     pub number: u32,
     pub kind: u32,

@@ -11,7 +11,7 @@ use words::wide::byte_word;
 
 // A new table's number.
 #[repr(C)]
-#[derive(Drop)]
+#[derive(Clone, Copy)]
 pub struct GvdbTable {
     pub number: u32,
     pub table: u32,
@@ -19,7 +19,7 @@ pub struct GvdbTable {
 
 // What an insert replaced: 0 for a new key, else the byte of the old kind; with 8 where the given key is bad.
 #[repr(C)]
-#[derive(Drop)]
+#[derive(Clone, Copy)]
 pub struct GvdbInserted {
     pub number: u32,
     pub replaced: u32,
@@ -28,7 +28,7 @@ pub struct GvdbInserted {
 
 // How many items a table has, containers included.
 #[repr(C)]
-#[derive(Drop)]
+#[derive(Clone, Copy)]
 pub struct GvdbCount {
     pub number: u32,
     pub count: u32,

@@ -7,7 +7,7 @@ use write::Written;
 
 // The root pointer, and the image's length.
 #[repr(C)]
-#[derive(Drop)]
+#[derive(Clone, Copy)]
 pub struct GvdbImage {
     pub number: u32,
     pub start: u32,

@@ -7,7 +7,7 @@ use crate::fields::{BUCKETS, EMPTY, HEADS_FROM, LEAST_WORDS, LENGTH, LINKS, LINK
 use layout::refusal::Refusal;
 use words::store::{fill_words, put_words};
 
-#[derive(Drop)]
+#[derive(Clone, Copy)]
 pub enum Started {
     Ready,
     Refused(Refusal),

@@ -24,7 +24,7 @@ pub fn kind_of(word: usize) -> Kind
 }
 
 // Where an item stands: its table, its key's hash, start and length, the item before it in its bucket, its parent's index plus 1 (0: none).
-#[derive(Drop)]
+#[derive(Clone, Copy)]
 struct Spot {
     table: usize,
     hash: usize,
@@ -79,7 +79,7 @@ fn put_counts(words: &mut [usize], items: usize, used: usize)
 }
 
 // What is told of a new item besides its key and value: its table, its parent's index plus 1 (0: none), its kind, the table it holds.
-#[derive(Drop)]
+#[derive(Clone, Copy)]
 pub struct NewItem {
     pub table: usize,
     pub parent: usize,

@@ -24,7 +24,7 @@ use text::utf8::{first_bad, is_utf8};
 use words::wide::word_size;
 
 // What an insert is told besides key and value: the table, the kind of the item, the table it will hold.
-#[derive(Drop)]
+#[derive(Clone, Copy)]
 pub struct Job {
     pub table: usize,
     pub kind: usize,

@@ -15,7 +15,7 @@ use words::wide::word_size;
 
 // How far the containers of a key are there. clear: nothing but containers stands on the way; from: the length of the last one's key;
 // parent: its index plus 1, or 0.
-#[derive(Drop)]
+#[derive(Clone, Copy)]
 pub struct Way {
     pub clear: bool,
     pub from: usize,
@@ -23,14 +23,14 @@ pub struct Way {
 }
 
 // A way, and the hash of the key up to where it ends: hashes go on from there.
-#[derive(Drop)]
+#[derive(Clone, Copy)]
 pub struct Walked {
     pub way: Way,
     pub hash: u32,
 }
 
 // What the rest of a key costs: items, and bytes of their keys.
-#[derive(Drop)]
+#[derive(Clone, Copy)]
 pub struct Cost {
     pub items: usize,
     pub room: usize,

@@ -13,14 +13,14 @@ use read_chain::chain::{Step, climb};
 use words::wide::{half_size, word_size};
 
 // What the end of a key does to a hash: of a key whose front has the hash h, the hash is h * weight + sum, modulo 2^32.
-#[derive(Drop)]
+#[derive(Clone, Copy)]
 pub struct Tally {
     pub weight: u32,
     pub sum: u32,
 }
 
 // The hash and the length of a joined key, or that it does not read.
-#[derive(Drop)]
+#[derive(Clone, Copy)]
 pub enum JoinedKey {
     Key { hash: u32, size: usize },
     Broken,

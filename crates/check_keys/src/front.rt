@@ -12,7 +12,7 @@ use read_chain::chain::{Step, parent_of};
 use words::wide::{half_size, word_size};
 
 // A front of `size` bytes: it ends `rest` bytes into the fragment of item `at`, and `left` parent steps are left.
-#[derive(Drop)]
+#[derive(Clone, Copy)]
 pub struct Front {
     pub at: usize,
     pub rest: usize,
@@ -21,7 +21,7 @@ pub struct Front {
 }
 
 // The front that is left once the bytes are passed over, or that it ends in other bytes.
-#[derive(Drop)]
+#[derive(Clone, Copy)]
 pub enum Passed {
     Over(Front),
     Differs,

@@ -16,7 +16,7 @@ use read_find::manner::Manner;
 use words::wide::{half_size, word_size};
 
 // What an item says of a front: yes or no, or that its parent has to name what is left of it.
-#[derive(Drop)]
+#[derive(Clone, Copy)]
 pub enum Compared {
     Ended(bool),
     Rest { parent: usize, front: Front },

@@ -16,14 +16,14 @@ const LITTLE: u64 = 0x746E_6169_7261_5647;
 const BIG: u64 = 0x6961_6E74_4756_6172;
 
 // The byte order of a file's values.
-#[derive(Drop)]
+#[derive(Clone, Copy)]
 pub enum ByteOrder {
     Little,
     Big,
 }
 
 // What a header says: the byte order of the values, and the pointer to the root table, which is not judged here.
-#[derive(Drop)]
+#[derive(Clone, Copy)]
 pub enum Headed {
     Root {
         order: ByteOrder,
@@ -33,7 +33,7 @@ pub enum Headed {
     Refused(Refusal),
 }
 
-#[derive(Drop)]
+#[derive(Clone, Copy)]
 pub enum HeaderLaid {
     Laid,
     Refused(Refusal),

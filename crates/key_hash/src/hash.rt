@@ -5,7 +5,7 @@ ghost use Rattle.key_hash.specs.Hash.{hash_step, hash_from, hash_by, plain, rule
 use words::wide::byte_word;
 
 // What a byte counts in the hash: 0 to 255, as in the Rust, or -128 to 127, as in GLib.
-#[derive(Drop)]
+#[derive(Clone, Copy)]
 pub enum Form {
     Plain,
     Signed,

@@ -33,7 +33,7 @@ pub const NO_ITEM: u32 = 0xFFFF_FFFF;
 //
 // To the right: the names that HashItem has for it. A value is its bytes ('v'), a nested table ('H'), or the indices of a container's children,
 // a word each ('L').
-#[derive(Drop)]
+#[derive(Clone, Copy)]
 pub struct Item {
     pub hash: u32,
     pub parent: u32,

@@ -15,7 +15,7 @@ pub const TABLE_KIND: usize = TABLE_BYTE as usize;
 
 pub const CONTAINER_KIND: usize = CONTAINER_BYTE as usize;
 
-#[derive(Drop)]
+#[derive(Clone, Copy)]
 pub enum Kind {
     Value,
     Table,

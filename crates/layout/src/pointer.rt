@@ -7,7 +7,7 @@ use crate::refusal::Refusal;
 use words::align::{Alignment, bytes_of};
 
 // Whether a pointer opens.
-#[derive(Drop)]
+#[derive(Clone, Copy)]
 pub enum Pointed {
     Inside,
     Refused(Refusal),

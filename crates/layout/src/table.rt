@@ -28,7 +28,7 @@ use words::wide::word_size;
 //              +-------------+----------------------------------------------+
 //
 // To the right: the names that HashHeader has for it.
-#[derive(Drop)]
+#[derive(Clone, Copy)]
 pub struct Table {
     pub start: usize,
     pub blooms: usize,
@@ -37,7 +37,7 @@ pub struct Table {
     pub count: usize,
 }
 
-#[derive(Drop)]
+#[derive(Clone, Copy)]
 pub enum Opened {
     Table(Table),
     Refused(Refusal),

@@ -3,7 +3,7 @@ use layout::kind::Kind;
 use layout::refusal::Refusal;
 
 // What an insert answers: a new key, or the kind that was replaced.
-#[derive(Drop)]
+#[derive(Clone, Copy)]
 pub enum Inserted {
     New,
     Replaced(Kind),
@@ -11,14 +11,14 @@ pub enum Inserted {
 }
 
 // A new table's number.
-#[derive(Drop)]
+#[derive(Clone, Copy)]
 pub enum Added {
     Table(u32),
     Refused(Refusal),
 }
 
 // How many items a table has, containers included.
-#[derive(Drop)]
+#[derive(Clone, Copy)]
 pub enum Counted {
     Items(u32),
     Refused(Refusal),

@@ -15,14 +15,14 @@ use read_find::manner::Manner;
 use text::utf8::{first_bad, is_utf8};
 
 // Which of the two tables answered.
-#[derive(Drop)]
+#[derive(Clone, Copy)]
 pub enum Source {
     Owner,
     District,
 }
 
 // What a lookup over two tables answers; the pointer is one into the file of the table that answered.
-#[derive(Drop)]
+#[derive(Clone, Copy)]
 pub struct Layered {
     pub looked: Looked,
     pub from: Source,

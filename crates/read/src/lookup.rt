@@ -15,14 +15,14 @@ use text::utf8::{first_bad, is_utf8};
 use words::align::Alignment;
 
 // The item that a key names, or why there is none.
-#[derive(Drop)]
+#[derive(Clone, Copy)]
 pub enum Sought {
     Item(Item),
     Refused(Refusal),
 }
 
 // The bytes of the file that a key leads to: a value's, or a nested table's.
-#[derive(Drop)]
+#[derive(Clone, Copy)]
 pub enum Looked {
     Pointer { start: u32, end: u32 },
     Refused(Refusal),

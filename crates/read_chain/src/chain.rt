@@ -14,7 +14,7 @@ use words::align::Alignment;
 use words::wide::{half_size, word_size};
 
 // Where an item's chain goes on: it is a root, it has a parent, or the item is refused.
-#[derive(Drop)]
+#[derive(Clone, Copy)]
 pub enum Step {
     Root,
     Up(usize),
@@ -22,7 +22,7 @@ pub enum Step {
 }
 
 // What an item says of a key: yes or no, or that its parent has to name the front of the key.
-#[derive(Drop)]
+#[derive(Clone, Copy)]
 pub enum Matched {
     Ended(bool),
     Rest { parent: usize, size: usize },

@@ -16,14 +16,14 @@ use words::field::word_at;
 use words::wide::word_size;
 
 // The items of one bucket: the indices from `first` up to `last`.
-#[derive(Drop)]
+#[derive(Clone, Copy)]
 pub struct Run {
     pub first: usize,
     pub last: usize,
 }
 
 // The index of an item, or that there is none.
-#[derive(Drop)]
+#[derive(Clone, Copy)]
 pub enum Found {
     At(usize),
     Nothing,

@@ -2,14 +2,14 @@
 use key_hash::hash::Form;
 
 // The filter's second bit: the first one again, as in the Rust, or the one that the table's own shift names.
-#[derive(Drop)]
+#[derive(Clone, Copy)]
 pub enum Lookup {
     Rust,
     Strict,
 }
 
 // The manner of a reading, by value.
-#[derive(Drop)]
+#[derive(Clone, Copy)]
 pub struct Manner {
     pub form: Form,
     pub lookup: Lookup,

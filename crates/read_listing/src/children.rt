@@ -19,7 +19,7 @@ use words::field::word_at;
 use words::wide::{half_size, word_size};
 
 // A child: its index, the byte of its kind, the pointer of its fragment, and the next position; or why there is none. A refused child can be passed over.
-#[derive(Drop)]
+#[derive(Clone, Copy)]
 pub enum Childed {
     Child {
         index: usize,

@@ -16,27 +16,27 @@ use words::wide::{half_size, word_size};
 
 // gvdb-rs: Keys, Values; keys and values start with a cursor at 0.
 // A position in a table's items.
-#[derive(Drop)]
+#[derive(Clone, Copy)]
 pub struct Cursor {
     pub at: usize,
 }
 
 // A key's length, or why it has none.
-#[derive(Drop)]
+#[derive(Clone, Copy)]
 pub enum Measured {
     Size(usize),
     Refused(Refusal),
 }
 
 // A key that was written: its length and the next position; or why none was.
-#[derive(Drop)]
+#[derive(Clone, Copy)]
 pub enum Listed {
     Key { size: usize, next: Cursor },
     Refused(Refusal),
 }
 
 // A value: its item's index, its pointer, and the next position. Where the pointer is refused, the index and the next position are told all the same.
-#[derive(Drop)]
+#[derive(Clone, Copy)]
 pub enum Valued {
     Value {
         index: usize,

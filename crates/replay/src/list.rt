@@ -40,13 +40,13 @@ pub const ITEM_COUNT: u32 = 12;
 pub const WRITE: u32 = 13;
 
 // A stretch of the list.
-#[derive(Drop)]
+#[derive(Clone, Copy)]
 pub struct Span {
     pub at: usize,
     pub size: usize,
 }
 
-#[derive(Drop)]
+#[derive(Clone, Copy)]
 pub struct Record {
     pub at: usize,
     pub kind: u32,

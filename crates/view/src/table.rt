@@ -15,7 +15,7 @@ use read_listing::listing::{Cursor, Listed, Valued};
 
 // gvdb-rs: HashTable.
 // A table of a lent file: the file, the pointer to the table, and the manner in which it is read.
-#[derive(Drop)]
+#[derive(Clone, Copy)]
 pub struct TableView<'a> {
     pub file: &'a [u8],
     pub start: u32,
@@ -24,21 +24,21 @@ pub struct TableView<'a> {
 }
 
 // What opening answers, and the table.
-#[derive(Drop)]
+#[derive(Clone, Copy)]
 pub struct OpenedView<'a> {
     pub answer: Opened,
     pub table: TableView<'a>,
 }
 
 // What a lookup answers, and the value's bytes.
-#[derive(Drop)]
+#[derive(Clone, Copy)]
 pub struct ValueView<'a> {
     pub answer: Looked,
     pub bytes: &'a [u8],
 }
 
 // What a lookup over two tables answers, which of them did, and the value's bytes, of its file.
-#[derive(Drop)]
+#[derive(Clone, Copy)]
 pub struct LayeredView<'a> {
     pub answer: Looked,
     pub from: Source,
@@ -46,21 +46,21 @@ pub struct LayeredView<'a> {
 }
 
 // What a lookup answers, and the nested table.
-#[derive(Drop)]
+#[derive(Clone, Copy)]
 pub struct NestedView<'a> {
     pub answer: Looked,
     pub table: TableView<'a>,
 }
 
 // What value listing answers (its item, the next position), and the value's bytes.
-#[derive(Drop)]
+#[derive(Clone, Copy)]
 pub struct ListedView<'a> {
     pub answer: Valued,
     pub bytes: &'a [u8],
 }
 
 // What a listing of children answers (the child, the next position), and the child's fragment.
-#[derive(Drop)]
+#[derive(Clone, Copy)]
 pub struct ChildView<'a> {
     pub answer: Childed,
     pub fragment: &'a [u8],

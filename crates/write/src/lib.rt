@@ -5,7 +5,7 @@ pub mod write;
 use layout::refusal::Refusal;
 
 // The root pointer and the image's length, or why nothing was written.
-#[derive(Drop)]
+#[derive(Clone, Copy)]
 pub enum Written {
     Image { start: u32, end: u32, length: u32 },
     Refused(Refusal),

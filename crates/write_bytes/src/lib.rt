@@ -4,7 +4,7 @@ pub mod table;
 pub mod whole;
 
 // Where what is measured would end, if that is within an image's bounds.
-#[derive(Drop)]
+#[derive(Clone, Copy)]
 pub enum Measured {
     End(usize),
     TooLong,

@@ -44,7 +44,7 @@ put-tail l vs first fits e =
     let none : post_of first (length l - first) l ≡ [] = Post-is first (length l) l (omega arith) ∙ drop-length l in
     let behind : drop (0 + length vs) (drop first l) ≡ drop (first + length vs) l = drop-drop (0 + length vs) first l ∙ ap (λ (n : ℕ). drop n l) (plus_zero (length vs)) in
     let whole : part l first (length l - first) ≡ drop first l = take_all (length l - first) (drop first l) (omega (arith, length-drop first l)) in
-    rw (none, append-nil, e, whole, put_parts (drop first l) 0 vs (omega (arith, length-drop first l)), behind, put_parts l first vs fits, append_assoc)
+    rw (none, append-nil, e, whole, put_parts (drop first l) 0 vs (omega (arith, length-drop first l)), behind, put_parts l first vs fits) (simp append_assoc)
   where
     plus_zero : (n : ℕ) → first + (0 + n) ≡ first + n
     plus_zero n = omega arith

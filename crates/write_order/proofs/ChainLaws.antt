@@ -1,5 +1,5 @@
 -- Laws of chains: ranks put at the front, chains taken apart, links that hold the empty mark again.
-use mathlib.Core.Path.{◌≡◌, refl, sym, ap, ◌∙◌}
+use mathlib.Core.Path.{◌≡◌, refl, sym, ap, ◌∙◌, subst}
 use mathlib.Core.Logic.{⊎_elim}
 use mathlib.Core.List.{List, [], ◌∷◌, ◌++◌}
 use Prim.Native.Nat.{ℕ, zero, suc, ◌+◌, ◌≤◌, ◌<◌}
@@ -60,13 +60,15 @@ module _ (hashes : List ℕ) where
   chained_front : (k : ℕ) (heads links : List ℕ) → bucket_of hashes k < length heads → k < length links → k < no_item → Chained hashes k heads links
       → (b : ℕ) → b < length hashes → bucket_of hashes k ≡ b → Chain (set links k (get_or heads (bucket_of hashes k) 0)) (get_or (set heads (bucket_of hashes k) k) b 0) (k ∷ run hashes b k)
   unfolding Chained Chain
-  chained_front k heads links inh fits small c b l e = (
-    rw (← e) (get_or-set_same heads (bucket_of hashes k) k 0 inh),
-    rw length-set fits,
-    small,
-    rw (get_or-set_same links k (get_or heads (bucket_of hashes k) 0) 0 fits, e)
-        (chain_set links k (get_or heads b 0) (get_or heads b 0) (run hashes b k) (run_above hashes b k k (omega arith)) (c b l)),
-  )
+  chained_front k heads links inh fits small c b l e =
+      let at = bucket_of hashes k in
+      let inside : bucket_of hashes k < length hashes = omega (arith, e, l) in
+      subst (λ (x : ℕ). Chain (set links k (get_or heads (bucket_of hashes k) 0)) (get_or (set heads (bucket_of hashes k) k) x 0) (k ∷ run hashes x k)) e
+      (get_or-set_same heads at k 0 inh,
+        rw length-set fits,
+        small,
+        rw (get_or-set_same links k (get_or heads at 0) 0 fits)
+            (chain_set links k (get_or heads at 0) (get_or heads at 0) (run hashes at k) (run_above hashes at k k (omega arith)) (c at inside)))
 
   pub chained_more : (k : ℕ) (heads links : List ℕ) {b : ℕ} → b ≡ bucket_of hashes k → b < length heads → k < length links → k < no_item
       → Chained hashes k heads links → Chained hashes (k + 1) (set heads b k) (set links k (get_or heads b 0))

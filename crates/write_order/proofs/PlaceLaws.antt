@@ -1,5 +1,5 @@
 -- Laws of a chain by falling keys: the place of an item, and the chain with the item put there.
-use mathlib.Core.Path.{◌≡◌, refl, sym, ap, ◌∙◌}
+use mathlib.Core.Path.{◌≡◌, refl, sym, ap, ◌∙◌, subst}
 use mathlib.Core.Logic.{⊎_elim}
 use mathlib.Core.Bool.{Bool, true, false}
 use mathlib.Core.List.{List, [], ◌∷◌}
@@ -23,6 +23,10 @@ use Rattle.write_order.proofs.ChainLaws.{chain_set}
 use Rattle.write_order.proofs.LinkLaws.{link_at, link_set}
 
 -- ---- the place of an item
+
+-- a chain of equal links, from an equal head
+chain_is : (links links' : List ℕ) (h h' : ℕ) (l l' : List ℕ) → links ≡ links' → h ≡ h' → l ≡ l' → Chain links h l → Chain links' h' l'
+chain_is links links' h h' l l' p q r c = subst (λ (x : List ℕ). Chain x h' l') p (subst (λ (x : ℕ). Chain links x l') q (subst (λ (x : List ℕ). Chain links h x) r c))
 
 module _ (key : ℕ → List ℕ) (i : ℕ) where
   pub above_stop : (last j : ℕ) (l : List ℕ) → precedes (key i) (key j) ≡ false → last_above key i last (j ∷ l) ≡ last
@@ -154,14 +158,22 @@ module _ (key : ℕ → List ℕ) (links : List ℕ) (i : ℕ) (fits : i < lengt
       by : (t : Bool) → precedes (key i) (key j) ≡ t
           → Chain (linked links (get_or heads b 0) (last_above key i no_item (j ∷ l)) i) (get_or (headed heads b (last_above key i no_item (j ∷ l)) i) b 0) (put_falling key i (j ∷ l))
       by false e =
-          rw (above_stop key i no_item j l e, put_stop key i j l e, linked_front links (get_or heads b 0) no_item i refl, headed_front heads b no_item i refl)
-          (front_chain heads b (j ∷ l) inside new c)
+          let stop = above_stop key i no_item j l e in
+          let links_same : set links i (get_or heads b 0) ≡ linked links (get_or heads b 0) (last_above key i no_item (j ∷ l)) i =
+              sym (ap (λ (x : ℕ). linked links (get_or heads b 0) x i) stop ∙ linked_front links (get_or heads b 0) no_item i refl) in
+          let head_same : get_or (set heads b i) b 0 ≡ get_or (headed heads b (last_above key i no_item (j ∷ l)) i) b 0 =
+              sym (ap (λ (x : ℕ). get_or (headed heads b x i) b 0) stop ∙ ap (λ (x : List ℕ). get_or x b 0) (headed_front heads b no_item i refl)) in
+          chain_is _ _ _ _ _ _ links_same head_same (sym (put_stop key i j l e)) (front_chain heads b (j ∷ l) inside new c)
       by true e =
           let last = last_above key i j l in
           let some : last ≡ no_item → ⊥ = λ f. omega (arith, (chain_inside links (get_or heads b 0) (j ∷ l) last c (above_has key i j l)).1) in
           let deep = chain_behind j l c.1 (λ f. omega (arith, times_here i j l f)) (once_rest j l (once j)) (omega (arith, times_cons i j l)) (λ x. omega (arith, once x, times_cons x j l)) c.3 in
-          rw (above_on key i no_item j l e, put_on key i j l e, linked_behind links (get_or heads b 0) last i some, headed_behind heads b last i some)
-          (c.0, simp length-set c.1, c.2, deep)
+          let on = above_on key i no_item j l e in
+          let links_same : behind last ≡ linked links (get_or heads b 0) (last_above key i no_item (j ∷ l)) i =
+              sym (ap (λ (x : ℕ). linked links (get_or heads b 0) x i) on ∙ linked_behind links (get_or heads b 0) last i some) in
+          let head_same : get_or heads b 0 ≡ get_or (headed heads b (last_above key i no_item (j ∷ l)) i) b 0 =
+              sym (ap (λ (x : ℕ). get_or (headed heads b x i) b 0) on ∙ ap (λ (x : List ℕ). get_or x b 0) (headed_behind heads b last i some)) in
+          chain_is _ _ _ _ _ _ links_same head_same (sym (put_on key i j l e)) (c.0, simp length-set c.1, c.2, deep)
 
   -- a chain of other items stays
   pub linked_other : (heads : List ℕ) (b : ℕ) (l : List ℕ) (h : ℕ) (m : List ℕ) → times i m ≡ 0 → ((x : ℕ) → Has l x → times x m ≡ 0) → Chain links h m

@@ -85,13 +85,11 @@ module _ (ws : List ℕ) (i : ℕ) where
 
 -- ---- a test that was turned round
 
-pub turned_on : (q r : Bool) → q ≡ r → not q ≡ false → r ≡ true
-turned_on true r e f = sym e
-turned_on false r e f = let z : ◌≡◌ {A = ℕ} 0 1 = cc in absurd (omega arith)
+pub turned_on : (q r : Bool) → q ≡ r → q ≡ true → r ≡ true
+turned_on q r e f = sym e ∙ f
 
-pub turned_off : (q r : Bool) → q ≡ r → not q ≡ true → r ≡ false
-turned_off true r e f = let z : ◌≡◌ {A = ℕ} 0 1 = cc in absurd (omega arith)
-turned_off false r e f = sym e
+pub turned_off : (q r : Bool) → q ≡ r → q ≡ false → r ≡ false
+turned_off q r e f = sym e ∙ f
 
 -- ---- the slot of an item, and what depends on its kind
 

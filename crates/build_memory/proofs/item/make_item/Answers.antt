@@ -1,0 +1,10 @@
+-- `build_memory::item::make_item` meets its contract.
+use Rattle.build_memory.proofs.ItemLaws.{item_made}
+use mathlib.Core.Path.{refl}
+use borrow.Author.Rules.{rules}
+use Rattle.build_memory.proofs.item.make_item.Goals as goal
+
+pub returns : goal.returns
+returns c =
+    item_made _ _ _ _ _ _ _ _ _ _ _ _ _ _ _ _ c.requires.hash_value refl c.put_spot.ensures c.put_held.ensures c.put_head.ensures
+    c.put_counts.ensures c.put_bytes.ensures c.put_bytes-2.ensures

@@ -1,0 +1,18 @@
+-- `build_rules::judge::items_valid` meets its contract. The invariant: the items that were passed keep the rules.
+use Rattle.build_rules.specs.Valid.{item_valid}
+use Rattle.build_memory.specs.Memory.{item_total}
+use Rattle.words.proofs.BelowLaws.{all_fails, all_turn}
+use Rattle.words.specs.Below.{all_below}
+use borrow.Author.Tests.{not-true, not-false}
+use native.Mathlib.Omega.{arith}
+use Prim.Native.Nat.{◌-◌, ◌≤◌}
+use mathlib.Core.Bool.{true}
+use mathlib.Core.Path.{◌≡◌, refl, sym, ap, ◌∙◌}
+use Rattle.build_rules.proofs.judge.items_valid.Given as goal
+
+abbrev pub invariant-loop-i : goal.invariant-loop-i
+invariant-loop-i l =
+    (l.i ≤ item_total l.words) × (all_below (item_valid l.words l.arena) l.i ≡ true)
+
+abbrev pub decreases-loop-i : goal.decreases-loop-i
+decreases-loop-i l = item_total l.words - l.i

@@ -1,0 +1,37 @@
+-- `key_order::compare::same_long` meets its contract. The invariant: the texts are equal up to i.
+use mathlib.Core.Path.{◌≡◌, refl, sym, ◌∙◌}
+use Prim.Native.Nat.{ℕ, ◌-◌, ◌≤◌, ◌<◌}
+use native.Mathlib.Omega.{arith}
+use borrow.Author.Rules.{rules}
+use lib.ListN.{length, take, get_or}
+use Rattle.key_order.proofs.CompareLaws.{same_little_endian, same_turn, same_last}
+use Rattle.key_order.proofs.compare.same_long.Goals as goal
+
+pub loop-i-init : goal.loop-i-init
+loop-i-init c = (omega arith, refl)
+
+pub returns-then-long_at : goal.returns-then-long_at
+returns-then-long_at c =
+    let args = c.args in
+    sym (same_little_endian 8 args.a.now args.b.now c.loop-i.i
+    (λ e. c.if-long_at.true (c.long_at.ensures ∙ e ∙ sym c.long_at-in-loop-i.ensures)))
+
+pub loop-i-preserved : goal.loop-i-preserved
+loop-i-preserved c =
+    let a = c.args.a.now in
+    let b = c.args.b.now in
+    let bytes-a : (i : ℕ) → get_or a i 0 < 256 = λ i. omega (arith, c.type_inv.a i) in
+    let bytes-b : (i : ℕ) → get_or b i 0 < 256 = λ i. omega (arith, c.type_inv.b i) in (
+      omega arith,
+      same_turn 8 a b bytes-a bytes-b c.loop-i.i (omega arith) (omega arith) c.loop-i.invariant.1
+          (sym c.long_at.ensures ∙ c.if-long_at.false ∙ c.long_at-in-loop-i.ensures),
+    )
+
+pub returns : goal.returns
+returns c =
+    let a = c.args.a.now in
+    let b = c.args.b.now in
+    let bytes-a : (i : ℕ) → get_or a i 0 < 256 = λ i. omega (arith, c.type_inv.a i) in
+    let bytes-b : (i : ℕ) → get_or b i 0 < 256 = λ i. omega (arith, c.type_inv.b i) in
+    rw (c.long_at-2.ensures, c.long_at-3.ensures)
+    (same_last 8 a b bytes-a bytes-b c.loop-i.i (length a - 8) (omega arith) c.requires.0 (omega arith) c.loop-i.invariant.1)

@@ -1,0 +1,16 @@
+-- `key_order::compare::same_words` meets its contract: two stretches cover the texts (`same_two`).
+use Prim.Native.Nat.{ℕ, ◌-◌, ◌<◌}
+use native.Mathlib.Omega.{arith}
+use lib.ListN.{length, get_or}
+use Rattle.key_order.proofs.CompareLaws.{same_two}
+use borrow.Author.Rules.{rules}
+use Rattle.key_order.proofs.compare.same_words.Goals as goal
+
+pub returns : goal.returns
+returns c =
+    let a = c.args.a.now in
+    let b = c.args.b.now in
+    let bytes-a : (i : ℕ) → get_or a i 0 < 256 = λ i. omega (arith, c.type_inv.a i) in
+    let bytes-b : (i : ℕ) → get_or b i 0 < 256 = λ i. omega (arith, c.type_inv.b i) in
+    rw (c.word_at.ensures, c.word_at-2.ensures, c.word_at-3.ensures, c.word_at-4.ensures)
+    (same_two 4 a b bytes-a bytes-b (length a - 4) (omega arith) c.requires.0 (omega arith))

@@ -1,0 +1,30 @@
+-- `read_find::find::find_item` meets its contract: each return is a case of the definition, with the key's hash at hand.
+use Prim.Native.Nat.{◌<◌}
+use mathlib.Core.Path.{sym, ◌∙◌}
+use native.Mathlib.Omega.{arith}
+use native.Mathlib.Nat.{mod-lt}
+use borrow.Author.Rules.{rules}
+use Rattle.read_find.proofs.FindLaws.{find_no_buckets, find_no_items, find_filtered, find_in_run}
+use Rattle.read_find.proofs.find.find_item.Goals as goal
+
+pub returns-then-buckets-eq0 : goal.returns-then-buckets-eq0
+returns-then-buckets-eq0 c = find_no_buckets _ _ _ _ c.if-buckets-eq0.true
+
+pub returns-then-table-eq0 : goal.returns-then-table-eq0
+returns-then-table-eq0 c = find_no_items _ _ _ _ c.if-buckets-eq0.false c.if-table-eq0.true
+
+pub run_of-run-requires : goal.run_of-run-requires
+run_of-run-requires c =
+    let some : 0 < c.args.table.buckets = omega (arith, c.if-buckets-eq0.false) in
+    (c.requires.0, mod-lt c.word_size.result some)
+
+pub first_of-requires : goal.first_of-requires
+first_of-requires c = (c.requires.0, c.hash_key-hash.ensures, c.requires.1)
+
+pub returns-then-bloom_passes : goal.returns-then-bloom_passes
+returns-then-bloom_passes c =
+    find_in_run _ _ _ _ c.if-buckets-eq0.false c.if-table-eq0.false c.hash_key-hash.ensures (sym c.bloom_passes.ensures ∙ c.if-bloom_passes.true) c.word_size.ensures.0 c.run_of-run.ensures c.first_of.ensures
+
+pub returns-else-bloom_passes : goal.returns-else-bloom_passes
+returns-else-bloom_passes c =
+    find_filtered _ _ _ _ c.if-buckets-eq0.false c.if-table-eq0.false c.hash_key-hash.ensures (sym c.bloom_passes.ensures ∙ c.if-bloom_passes.false)

@@ -1,0 +1,6 @@
+use Rattle.view_part.proofs.PartLaws.{stretch_same}
+use borrow.Author.Rules.{rules}
+use Rattle.view_part.proofs.part.listed_part.Goals as goal
+
+pub returns : goal.returns
+returns c = stretch_same _ _ _ _ _ _ c.listed_start.ensures c.listed_end.ensures c.stretch.ensures

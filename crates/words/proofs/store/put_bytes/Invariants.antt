@@ -1,0 +1,16 @@
+-- `words::store::put_bytes` meets its contract. The invariant: the first j bytes are copied, and the rest is as it was.
+use mathlib.Core.Path.{◌≡◌, refl, ◌∙◌}
+use Prim.Native.Nat.{◌-◌, ◌≤◌}
+use native.Mathlib.Omega.{arith}
+use borrow.Author.Rules.{rules}
+use lib.ListN.{length, take, length-set}
+use Rattle.words.specs.Store.{put_at}
+use Rattle.words.proofs.StoreLaws.{copy_start, copy_turn, copy_end}
+use Rattle.words.proofs.store.put_bytes.Given as goal
+
+abbrev pub invariant-loop-j : goal.invariant-loop-j
+invariant-loop-j l =
+    (l.j ≤ length l.src) × (length l.out ≡ length l.initial.out) × (l.out ≡ put_at l.initial.out l.at (take l.j l.src))
+
+abbrev pub decreases-loop-j : goal.decreases-loop-j
+decreases-loop-j l = length l.src - l.j

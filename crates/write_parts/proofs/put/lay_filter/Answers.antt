@@ -1,0 +1,58 @@
+-- `write_parts::put::lay_filter` meets its contract. The invariant: the filter over the first k items is laid, and the rest is as it was.
+use mathlib.Core.Path.{◌≡◌, refl, ap, ◌∙◌}
+use Prim.Native.Nat.{◌+◌, ◌*◌, ◌-◌, ◌/◌, ◌%◌, ◌≤◌, ◌<◌}
+use native.Mathlib.Nat.{mod-lt}
+use native.Mathlib.Omega.{arith}
+use borrow.Author.Rules.{rules}
+use lib.ListN.{length}
+use Rattle.words.specs.Store.{put_at}
+use Rattle.words.proofs.StoreLaws.{length-put}
+use Rattle.write_parts.specs.Slot.{slot_filter}
+use Rattle.write_parts.proofs.FilterLaws.{filter_none, filter_start, filter_turn, filter_end}
+use Rattle.write_parts.proofs.put.lay_filter.Goals as goal
+
+pub returns-then-filter-eq0 : goal.returns-then-filter-eq0
+returns-then-filter-eq0 c =
+    let args = c.args in
+    filter_none args.numbered.now args.filter args.first args.image.now args.at args.count c.if-filter-eq0.true
+
+pub loop-k-init : goal.loop-k-init
+loop-k-init c =
+    let args = c.args in
+    (omega arith, refl, filter_start args.numbered.now args.filter args.first args.image.now args.at c.put_zeros.ensures)
+
+pub overflow_mul-hash : goal.overflow_mul-hash
+overflow_mul-hash c =
+    let falls_here : c.args.at + 4 * (c.slot_word-hash.result / 32 % c.args.filter) + 4 ≤ length c.loop-k.image = let less : c.slot_word-hash.result / 32 % c.args.filter < c.args.filter = mod-lt (c.slot_word-hash.result / 32) (omega (arith, c.if-filter-eq0.false)) in
+    omega (arith, less, c.requires.filter_in_bounds, c.loop-k.invariant.1, c.put_zeros.auto) in
+    omega (arith, falls_here)
+
+pub overflow_add-at : goal.overflow_add-at
+overflow_add-at c =
+    let falls_here : c.args.at + 4 * (c.slot_word-hash.result / 32 % c.args.filter) + 4 ≤ length c.loop-k.image = let less : c.slot_word-hash.result / 32 % c.args.filter < c.args.filter = mod-lt (c.slot_word-hash.result / 32) (omega (arith, c.if-filter-eq0.false)) in
+    omega (arith, less, c.requires.filter_in_bounds, c.loop-k.invariant.1, c.put_zeros.auto) in
+    omega (arith, falls_here)
+
+pub overflow_cast-hash : goal.overflow_cast-hash
+overflow_cast-hash c = omega (arith, c.requires.by_index_lem c.loop-k.k c.loop-k-test.true, c.slot_word-hash.ensures)
+
+pub add_hash-requires : goal.add_hash-requires
+add_hash-requires c =
+    let falls_here : c.args.at + 4 * (c.slot_word-hash.result / 32 % c.args.filter) + 4 ≤ length c.loop-k.image = let less : c.slot_word-hash.result / 32 % c.args.filter < c.args.filter = mod-lt (c.slot_word-hash.result / 32) (omega (arith, c.if-filter-eq0.false)) in
+    omega (arith, less, c.requires.filter_in_bounds, c.loop-k.invariant.1, c.put_zeros.auto) in
+    falls_here
+
+pub loop-k-preserved : goal.loop-k-preserved
+loop-k-preserved c =
+    let at = c.loop-k in (
+      omega (arith, c.loop-k-test.true),
+      ap length c.add_hash.ensures ∙ length-put _ _ _ ∙ at.invariant.1,
+      filter_turn c.args.numbered.now c.args.filter c.args.first _ c.args.at at.k (omega (arith, c.if-filter-eq0.false))
+          (omega (arith, c.requires.filter_in_bounds, c.put_zeros.auto)) c.slot_word-hash.ensures at.invariant.2 c.add_hash.ensures,
+    )
+
+pub returns : goal.returns
+returns c =
+    let args = c.args in
+    let all : c.loop-k.k ≡ args.count = omega (arith, c.loop-k.invariant.0, c.loop-k-test.false) in
+    filter_end args.numbered.now args.filter args.first args.image.now args.at args.count all c.put_zeros.ensures c.loop-k.invariant.2

@@ -1,0 +1,19 @@
+-- `write_slots::numbered::start_numbered` meets its contract.
+use mathlib.Core.Path.{sym}
+use native.Mathlib.Omega.{arith}
+use lib.Seq.{length-take-le}
+use Rattle.write_parts.specs.Numbered.{slots_from}
+use Rattle.write_slots.proofs.TurnLaws.{start_made}
+use borrow.Author.Rules.{rules}
+use Rattle.write_slots.proofs.numbered.start_numbered.Goals as goal
+
+pub slice_bounds-put_words-end : goal.slice_bounds-put_words-end
+slice_bounds-put_words-end c = sym (length-take-le slots_from c.args.roster.now (omega (arith, c.requires.0)))
+
+pub put_words-requires : goal.put_words-requires
+put_words-requires c =
+    omega (arith, length-take-le slots_from c.args.roster.now (omega (arith, c.requires.0)), c.requires.1)
+
+pub returns : goal.returns
+returns c =
+    start_made c.args.roster.now c.args.numbered.now _ c.requires.0 c.requires.1 c.requires.2 c.put_words.ensures

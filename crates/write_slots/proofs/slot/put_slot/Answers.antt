@@ -1,0 +1,18 @@
+-- `write_slots::slot::put_slot` meets its contract: four words and four more.
+use native.Mathlib.Omega.{arith}
+use Rattle.write_slots.proofs.TurnLaws.{halves_put}
+use borrow.Author.Rules.{rules}
+use Rattle.write_slots.proofs.slot.put_slot.Goals as goal
+
+pub put_back-requires : goal.put_back-requires
+put_back-requires c =
+    record {
+      slotted = c.requires.slotted;
+      firsts = c.requires.firsts;
+      at_in_bounds = omega (arith, c.requires.numbered_len, c.put_front.auto, c.slot_of.ensures.1);
+    }
+
+pub returns : goal.returns
+returns c =
+    let a = c.args in
+    halves_put a.form a.words.now a.arena.now a.roster.now a.firsts.now a.numbered.now a.i c.slot_of.ensures.0 c.put_front.ensures c.put_back.ensures
