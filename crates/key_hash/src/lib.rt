@@ -1,2 +1,4 @@
 // The hash of a key, in both forms.
+#![tactic(auto)]
+
 pub mod hash;

@@ -1,4 +1,6 @@
 // How a file is laid out: limits and sizes, the header, refusals and their numbers, kinds, pointers, items, tables.
+#![tactic(auto)]
+
 pub mod item;
 pub mod kind;
 pub mod limits;

@@ -63,12 +63,13 @@ module _ (hashes : List ℕ) where
   chained_front k heads links inh fits small c b l e =
       let at = bucket_of hashes k in
       let inside : bucket_of hashes k < length hashes = omega (arith, e, l) in
-      subst (λ (x : ℕ). Chain (set links k (get_or heads (bucket_of hashes k) 0)) (get_or (set heads (bucket_of hashes k) k) x 0) (k ∷ run hashes x k)) e
-      (get_or-set_same heads at k 0 inh,
+      subst (λ (x : ℕ). Chain (set links k (get_or heads (bucket_of hashes k) 0)) (get_or (set heads (bucket_of hashes k) k) x 0) (k ∷ run hashes x k)) e (
+        get_or-set_same heads at k 0 inh,
         rw length-set fits,
         small,
         rw (get_or-set_same links k (get_or heads at 0) 0 fits)
-            (chain_set links k (get_or heads at 0) (get_or heads at 0) (run hashes at k) (run_above hashes at k k (omega arith)) (c at inside)))
+            (chain_set links k (get_or heads at 0) (get_or heads at 0) (run hashes at k) (run_above hashes at k k (omega arith)) (c at inside)),
+      )
 
   pub chained_more : (k : ℕ) (heads links : List ℕ) {b : ℕ} → b ≡ bucket_of hashes k → b < length heads → k < length links → k < no_item
       → Chained hashes k heads links → Chained hashes (k + 1) (set heads b k) (set links k (get_or heads b 0))

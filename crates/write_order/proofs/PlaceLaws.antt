@@ -160,9 +160,9 @@ module _ (key : ℕ → List ℕ) (links : List ℕ) (i : ℕ) (fits : i < lengt
       by false e =
           let stop = above_stop key i no_item j l e in
           let links_same : set links i (get_or heads b 0) ≡ linked links (get_or heads b 0) (last_above key i no_item (j ∷ l)) i =
-              sym (ap (λ (x : ℕ). linked links (get_or heads b 0) x i) stop ∙ linked_front links (get_or heads b 0) no_item i refl) in
+          sym (ap (λ (x : ℕ). linked links (get_or heads b 0) x i) stop ∙ linked_front links (get_or heads b 0) no_item i refl) in
           let head_same : get_or (set heads b i) b 0 ≡ get_or (headed heads b (last_above key i no_item (j ∷ l)) i) b 0 =
-              sym (ap (λ (x : ℕ). get_or (headed heads b x i) b 0) stop ∙ ap (λ (x : List ℕ). get_or x b 0) (headed_front heads b no_item i refl)) in
+          sym (ap (λ (x : ℕ). get_or (headed heads b x i) b 0) stop ∙ ap (λ (x : List ℕ). get_or x b 0) (headed_front heads b no_item i refl)) in
           chain_is _ _ _ _ _ _ links_same head_same (sym (put_stop key i j l e)) (front_chain heads b (j ∷ l) inside new c)
       by true e =
           let last = last_above key i j l in
@@ -170,9 +170,9 @@ module _ (key : ℕ → List ℕ) (links : List ℕ) (i : ℕ) (fits : i < lengt
           let deep = chain_behind j l c.1 (λ f. omega (arith, times_here i j l f)) (once_rest j l (once j)) (omega (arith, times_cons i j l)) (λ x. omega (arith, once x, times_cons x j l)) c.3 in
           let on = above_on key i no_item j l e in
           let links_same : behind last ≡ linked links (get_or heads b 0) (last_above key i no_item (j ∷ l)) i =
-              sym (ap (λ (x : ℕ). linked links (get_or heads b 0) x i) on ∙ linked_behind links (get_or heads b 0) last i some) in
+          sym (ap (λ (x : ℕ). linked links (get_or heads b 0) x i) on ∙ linked_behind links (get_or heads b 0) last i some) in
           let head_same : get_or heads b 0 ≡ get_or (headed heads b (last_above key i no_item (j ∷ l)) i) b 0 =
-              sym (ap (λ (x : ℕ). get_or (headed heads b x i) b 0) on ∙ ap (λ (x : List ℕ). get_or x b 0) (headed_behind heads b last i some)) in
+          sym (ap (λ (x : ℕ). get_or (headed heads b x i) b 0) on ∙ ap (λ (x : List ℕ). get_or x b 0) (headed_behind heads b last i some)) in
           chain_is _ _ _ _ _ _ links_same head_same (sym (put_on key i j l e)) (c.0, simp length-set c.1, c.2, deep)
 
   -- a chain of other items stays

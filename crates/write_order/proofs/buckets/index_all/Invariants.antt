@@ -1,0 +1,47 @@
+-- `write_order::buckets::index_all` meets its contract. The invariant, for all lists that are chained: those before b are in `order` and their links are
+-- cleared, and the chains of the others stand.
+-- where each list starts
+use mathlib.Core.Path.{◌≡◌, refl, sym, ◌∙◌}
+use mathlib.Core.Logic.{⊎_elim}
+use mathlib.Core.List.{List}
+use Prim.Native.Nat.{ℕ, ◌+◌, ◌-◌, ◌≤◌, ◌<◌}
+use native.Mathlib.Nat.{eq-or-lt_of_le}
+use native.Mathlib.Numerals.{add-one}
+use native.Mathlib.Omega.{arith}
+use lib.ListN.{length, get_or, set, length-set, length-append}
+use Rattle.words.specs.Store.{put_at}
+use Rattle.words.proofs.StoreLaws.{put-none, put-append, put_snoc}
+use Rattle.words.proofs.ChoiceLaws.{lt_or_ge}
+use Rattle.model.specs.Table.{times}
+use Rattle.layout.specs.Item.{no_item}
+use Rattle.build_memory.specs.Meaning.{listed}
+use Rattle.build_memory.proofs.MeaningLaws.{length-listed}
+use Rattle.write_order.specs.Fall.{joined}
+use Rattle.write_order.specs.Chain.{Empty, Chain, Chains, HasChains, Indexed, cleared, Ended, DrainedOf, Drained}
+use Rattle.write_order.proofs.ChainLaws.{cleared_other, cleared_here, chain_cleared, joined_fits}
+use Rattle.write_order.proofs.buckets.index_all.Given as goal
+
+abbrev pub starting : (ℕ → List ℕ) → ℕ → ℕ
+starting lists = λ (d : ℕ). length (joined lists d)
+
+pub record Buckets (lists : ℕ → List ℕ) (n : ℕ) (heads order₀ firsts₀ links order firsts : List ℕ) (b end : ℕ) : Type 0 where
+  pub end_is : end ≡ length (joined lists b)
+  pub order_is : order ≡ put_at order₀ 0 (joined lists b)
+  pub firsts_is : firsts ≡ put_at firsts₀ 0 (listed (starting lists) b)
+  pub later : (d : ℕ) → b ≤ d → d < n → Chain links (get_or heads d 0) (lists d)
+  pub clear : (x : ℕ) → x < length links → ((d : ℕ) → b ≤ d → d < n → times x (lists d) ≡ 0) → get_or links x 0 ≡ no_item
+
+-- the same for all lists that are chained at the start, and what does not depend on them
+pub record Taken (n : ℕ) (heads links₀ order₀ firsts₀ links order firsts : List ℕ) (b end : ℕ) : Type 0 where
+  pub within : b ≤ n
+  pub buckets : (lists : ℕ → List ℕ) → Chains lists n heads links₀ → Buckets lists n heads order₀ firsts₀ links order firsts b end
+  pub links_long : length links ≡ length links₀
+  pub order-long : length order ≡ length order₀
+  pub firsts-long : length firsts ≡ length firsts₀
+
+abbrev pub invariant-loop-b : goal.invariant-loop-b
+invariant-loop-b l =
+    Taken l.n l.heads l.initial.links l.initial.order l.initial.firsts l.links l.order l.firsts l.b l.end
+
+abbrev pub decreases-loop-b : goal.decreases-loop-b
+decreases-loop-b l = l.n - l.b

@@ -1,0 +1,51 @@
+-- `write_order::buckets::index_by_bucket` meets its contract: a fresh head for each bucket, the chains of the runs built, and taken apart again.
+use mathlib.Core.Path.{◌≡◌, ap, ◌∙◌}
+use mathlib.Core.List.{List}
+use Prim.Native.Nat.{ℕ}
+use native.Mathlib.Omega.{arith}
+use lib.ListN.{length}
+use borrow.Author.Rules.{rules}
+use Rattle.words.specs.Store.{put_at}
+use Rattle.layout.specs.Limits.{most_items}
+use Rattle.image.specs.Index.{run, by_bucket, bucket_start}
+use Rattle.write_order.specs.Fall.{joined}
+use Rattle.write_order.specs.Chain.{Indexed, starts}
+use Rattle.write_order.proofs.ChainLaws.{empty_fresh, empty_same, run_chains, joined-runs_below, starts_of}
+use Rattle.write_order.proofs.buckets.index_by_bucket.Goals as goal
+
+module _ (hashes : List ℕ) where
+  abbrev runs : ℕ → List ℕ
+  runs b = run hashes b (length hashes)
+
+  -- so what the chains gave is bucket by bucket
+  runs-indexed : {order order' firsts firsts' : List ℕ} → Indexed runs (length hashes) order order' firsts firsts'
+      → (order' ≡ put_at order 0 (by_bucket hashes)) × (firsts' ≡ put_at firsts 0 (starts hashes))
+  unfolding by_bucket bucket_start
+  runs-indexed x = (
+    rw (joined-runs_below hashes (length hashes)) at x.order_is,
+    rw (starts_of hashes (λ (b : ℕ). length (joined runs b)) (λ b. ap length (joined-runs_below hashes b))) at x.firsts_is,
+  )
+
+pub chain_all-requires : goal.chain_all-requires
+chain_all-requires c =
+    let few = c.requires.0.few in
+    record {
+      hashes_len_bound = (few, few, c.requires.1);
+      empty = (empty_fresh most_items, c.requires.2);
+    }
+
+pub index_all-requires : goal.index_all-requires
+index_all-requires c =
+    record {
+      n_in_bounds = (omega (arith, c.requires.0.few, c.chain_all.auto.heads), c.requires.0);
+      has_chains = record { lists = runs c.args.hashes.now; chains = run_chains _ _ _ c.chain_all.ensures.chained c.chain_all.ensures.empty_from };
+    }
+
+pub returns : goal.returns
+returns c =
+    let x = runs-indexed c.args.hashes.now (c.index_all.ensures.by_index_lem (runs c.args.hashes.now) (run_chains _ _ _ c.chain_all.ensures.chained c.chain_all.ensures.empty_from)) in
+    record {
+      order_after = x.0;
+      firsts_after = x.1;
+      links_unchanged = empty_same _ _ (c.index_all.auto.links ∙ c.chain_all.auto.links) c.index_all.ensures.empty c.requires.2;
+    }

@@ -1,0 +1,46 @@
+-- `write_order::falling::index_by_key` meets its contract: a fresh head for each bucket, the items chained, and the chains taken apart again.
+use mathlib.Core.Path.{◌∙◌}
+use native.Mathlib.Omega.{arith}
+use borrow.Author.Rules.{rules}
+use Rattle.layout.specs.Limits.{most_items}
+use Rattle.write_order.specs.Key.{Known}
+use Rattle.write_order.proofs.ChainLaws.{empty_fresh}
+use Rattle.write_order.proofs.LinkLaws.{links_long, but_empty}
+use Rattle.write_order.proofs.BucketLaws.{lists, all_chained, all_indexed}
+use Rattle.write_order.proofs.falling.index_by_key.Goals as goal
+
+pub chain_members-requires : goal.chain_members-requires
+chain_members-requires c =
+    let few = c.requires.rooms.0.few in record {
+      known = c.requires.known;
+      members_len_bound = (few, few);
+      empty = (empty_fresh most_items, c.requires.rooms.1);
+    }
+
+pub slice_bounds-index_all-end-2 : goal.slice_bounds-index_all-end-2
+unfolding Known
+slice_bounds-index_all-end-2 c = omega (arith, c.requires.known.0.0, c.chain_members.auto.words)
+
+pub index_all-requires : goal.index_all-requires
+index_all-requires c =
+    let a = c.args in
+    record {
+      n_in_bounds = (omega (arith, c.requires.rooms.0.few, c.chain_members.auto.heads), c.requires.rooms.0);
+      has_chains = record {
+        lists = lists a.form a.words.now a.arena.now a.members.now;
+        chains = all_chained a.form a.words.now a.arena.now a.members.now _ _ c.requires.known.1 c.chain_members.ensures.chained_by;
+      };
+    }
+
+pub returns : goal.returns
+unfolding Known
+returns c =
+    let a = c.args in
+    let long = c.requires.known.0.0 in
+    let both = all_indexed a.form a.words.now a.arena.now a.members.now (c.index_all.ensures.by_index_lem _ (all_chained a.form a.words.now a.arena.now a.members.now _ _ c.requires.known.1 c.chain_members.ensures.chained_by)) in
+    record {
+      words_unchanged = but_empty a.words.now c.chain_members.new.words c.index_all.new.links long c.chain_members.ensures.but_links
+          (c.index_all.auto.links ∙ links_long c.chain_members.new.words (omega (arith, long, c.chain_members.auto.words))) c.index_all.ensures.empty c.requires.rooms.1;
+      after = both.0;
+      firsts_after = both.1;
+    }
