@@ -1,2 +1,4 @@
 // Two tables through views, one over the other.
+#![tactic(auto)]
+
 pub mod layered;

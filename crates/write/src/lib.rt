@@ -1,4 +1,6 @@
 // A write: the image of a table of the builder, laid into a lent buffer.
+#![tactic(auto)]
+
 mod empty;
 pub mod write;
 
