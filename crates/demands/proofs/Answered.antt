@@ -1,4 +1,5 @@
 -- Every call has an answer that meets its contract: what the definitions compute.
+use denote.MutBor.{MutBor}
 use Prim.Native.Nat.{ℕ}
 use mathlib.Core.Path.{◌≡◌, refl, sym, ap, subst}
 use mathlib.Core.List.{List, []}
@@ -38,6 +39,10 @@ use Rattle.demands.proofs.Contracts.{answers, leaves, leaves_lent}
 abbrev lend : List ℕ → Bor (List ℕ)
 lend bytes = record { ref_ptr = (0, 0); now = bytes }
 
+-- the same, lent to be changed
+abbrev lend_mut : List ℕ → MutBor (List ℕ)
+lend_mut bytes = record { ref_ptr = (0, 0); ghost_name = 0; now = bytes }
+
 -- the arena stays
 record Same {A : Type 0} (ar : List ℕ) (o : Outcome A) : Type 0 where
   pub arena : o.after.arena ≡ ar
@@ -61,9 +66,9 @@ starts m =
     let o = fresh_start m.words m.arena in
     Starts.fresh (record {
       lifetimes = ([], ([], tt));
-      given = (lend m.words, (lend m.arena, tt));
+      given = (lend_mut m.words, (lend m.arena, tt));
       answer = started_number o.answer;
-      left = (lend o.after.words, (lend m.arena, tt));
+      left = (lend_mut o.after.words, (lend m.arena, tt));
       meets = ap (λ (ar : List ℕ). outcome (started_number o.answer) (memory o.after.words ar)) (sym (fresh_same m.words m.arena).arena);
     })
 
@@ -74,9 +79,9 @@ new_table_does m separator =
     let o = new_table m.words m.arena separator in
     Does.new_table (record {
       lifetimes = ([], ([], ([], tt)));
-      given = (lend m.words, (lend m.arena, (lend separator, tt)));
+      given = (lend_mut m.words, (lend m.arena, (lend separator, tt)));
       answer = added_answer o.answer;
-      left = (lend o.after.words, (lend m.arena, (lend separator, tt)));
+      left = (lend_mut o.after.words, (lend m.arena, (lend separator, tt)));
       meets = ap (λ (ar : List ℕ). outcome (added_answer o.answer) (memory o.after.words ar)) (sym (table_same m.words m.arena separator).arena);
     })
 
@@ -90,18 +95,18 @@ does m (Call.insert_value t key value) =
     let o = insert_value m.words m.arena t key value in
     Does.insert_value (record {
       lifetimes = ([], ([], ([], ([], tt))));
-      given = (lend m.words, (lend m.arena, (t, (lend key, (lend value, tt)))));
+      given = (lend_mut m.words, (lend_mut m.arena, (t, (lend key, (lend value, tt)))));
       answer = inserted_answer o.answer;
-      left = (lend o.after.words, (lend o.after.arena, (t, (lend key, (lend value, tt)))));
+      left = (lend_mut o.after.words, (lend_mut o.after.arena, (t, (lend key, (lend value, tt)))));
       meets = refl;
     })
 does m (Call.insert_table t key guest) =
     let o = insert_table m.words m.arena t key guest in
     Does.insert_table (record {
       lifetimes = ([], ([], ([], tt)));
-      given = (lend m.words, (lend m.arena, (t, (lend key, (guest, tt)))));
+      given = (lend_mut m.words, (lend_mut m.arena, (t, (lend key, (guest, tt)))));
       answer = inserted_answer o.answer;
-      left = (lend o.after.words, (lend o.after.arena, (t, (lend key, (guest, tt)))));
+      left = (lend_mut o.after.words, (lend_mut o.after.arena, (t, (lend key, (guest, tt)))));
       meets = refl;
     })
 does m (Call.item_count t) =
@@ -115,9 +120,9 @@ does m (Call.item_count t) =
 does m (Call.write t buffer manner filter) =
     Does.write (record {
       lifetimes = ([], ([], ([], tt)));
-      given = (lend m.words, (lend m.arena, (t, (lend buffer, (manner, (filter, tt))))));
+      given = (lend_mut m.words, (lend m.arena, (t, (lend_mut buffer, (manner, (filter, tt))))));
       answer = written_answer (write_answer (rule_of (form_of manner)) filter m.words m.arena t (length buffer));
-      left = (lend m.words, (lend m.arena, (t, (lend (image_after (rule_of (form_of manner)) filter m.words m.arena t buffer), (manner, (filter, tt))))));
+      left = (lend_mut m.words, (lend m.arena, (t, (lend_mut (image_after (rule_of (form_of manner)) filter m.words m.arena t buffer), (manner, (filter, tt))))));
       meets = (refl, (refl, refl));
     })
 
@@ -168,9 +173,9 @@ module _ (file : List ℕ) (start end : ℕ) where
       → Listing file start end position out (listed_answer (listed (key_at file start end position) (length out) position)) (written (key_at file start end position) out)
   lists position out = Listing.listing (record {
     lifetimes = ([], ([], tt));
-    given = (lend file, (start, (end, (position, (lend out, tt)))));
+    given = (lend file, (start, (end, (position, (lend_mut out, tt)))));
     answer = listed_answer (listed (key_at file start end position) (length out) position);
-    left = (lend file, (start, (end, (position, (lend (written (key_at file start end position) out), tt)))));
+    left = (lend file, (start, (end, (position, (lend_mut (written (key_at file start end position) out), tt)))));
     meets = (refl, refl);
   })
 
@@ -212,9 +217,9 @@ headed file = ReadingHeader.reading_header (record { lifetimes = ([], tt); given
 pub lays : (target : List ℕ) (big start end : ℕ) → LayingHeader target big start end (header_laid_number (header_laid (length target))) (with_header target (order_of big) start end)
 lays target big start end = LayingHeader.laying_header (record {
   lifetimes = ([], tt);
-  given = (lend target, (big, (start, (end, tt))));
+  given = (lend_mut target, (big, (start, (end, tt))));
   answer = header_laid_number (header_laid (length target));
-  left = (lend (with_header target (order_of big) start end), (big, (start, (end, tt))));
+  left = (lend_mut (with_header target (order_of big) start end), (big, (start, (end, tt))));
   meets = (refl, refl);
 })
 

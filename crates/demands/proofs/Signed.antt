@@ -5,7 +5,7 @@ use mathlib.Core.Logic.{◌⊎◌, inl, inr}
 use mathlib.Core.Bool.{Bool, true, false}
 use mathlib.Core.List.{List, [], ◌∷◌}
 use native.Mathlib.Omega.{arith}
-use borrow.Author.Tests.{eq-eqb, ne_eqb, ltb-false}
+use borrow.Author.Tests.{eq-eqb, eqb-true, ne_eqb, ltb-false}
 use lib.Dec.{ltb}
 use lib.ListN.{length, take}
 use lib.Seq.{take-take}
@@ -21,7 +21,7 @@ use Rattle.file_header.specs.declared.header.ByteOrder.{ByteOrder}
 use Rattle.file_header.specs.declared.header.Headed.{Headed}
 use Rattle.file_header.specs.declared.header.HeaderLaid.{HeaderLaid}
 use Rattle.file_header.specs.Answer.{headed_number, headed_order, header_laid_number}
-use Rattle.file_header.specs.Header.{signature, header_bytes, read_header, header_laid, when_laid, with_header}
+use Rattle.file_header.specs.Header.{signature, has_signature, header_bytes, read_header, header_laid, when_laid, with_header}
 use Rattle.file_header.proofs.HeaderLaws.{length_header, little_spells, big_spells}
 use Rattle.file_header.proofs.HeaderReads.{reads_exactly}
 use Rattle.answers.specs.declared.header.GvdbHeader.{GvdbHeader}
@@ -75,11 +75,11 @@ laid_signed target big start end number left l zero =
 
 read_by : (file : List ℕ) (h : Headed) → read_header file ≡ h → (r : GvdbHeader) → r ≡ headed_answer h → r.number ≡ 0
     → ((r.big ≡ 0) × (long_at file 0 ≡ 0x746E616972615647)) ⊎ ((r.big ≡ 1) × (long_at file 0 ≡ 0x69616E7447566172))
-unfolding headed_answer headed_number headed_order
+unfolding headed_answer headed_number headed_order has_signature
 read_by file (Headed.Root ByteOrder.Little start end) is r says zero =
-    inl (ap (λ (x : GvdbHeader). x.big) says, ((reads_exactly file ByteOrder.Little start end).0 is).signed ∙ little_spells)
+    inl (ap (λ (x : GvdbHeader). x.big) says, eqb-true _ _ ((reads_exactly file ByteOrder.Little start end).0 is).signed ∙ little_spells)
 read_by file (Headed.Root ByteOrder.Big start end) is r says zero =
-    inr (ap (λ (x : GvdbHeader). x.big) says, ((reads_exactly file ByteOrder.Big start end).0 is).signed ∙ big_spells)
+    inr (ap (λ (x : GvdbHeader). x.big) says, eqb-true _ _ ((reads_exactly file ByteOrder.Big start end).0 is).signed ∙ big_spells)
 read_by file (Headed.Refused why) is r says zero = absurd (refused_some why (sym (ap (λ (x : GvdbHeader). x.number) says) ∙ zero))
 
 pub read_signed : ReadSigned
