@@ -1,6 +1,6 @@
 -- A write, from document 01, 'Laying an image' and 'Order', and document 02 §11: 29, 24, 33, 30 anywhere in the table or those nested in it, 31. A refusal writes nothing; the
 -- builder stays as it was.
-use Rattle.std.specs.Prelude.{ℕ, zero, suc, ◌+◌, Bool, false, ◌||◌, List, [], eqb, ltb, length, get_or}
+use Rattle.std.specs.Prelude.{ℕ, zero, suc, ◌+◌, Bool, false, ◌||◌, List, eqb, ltb, length, get_or}
 use Rattle.words.specs.Choice.{pick}
 use Rattle.words.specs.Below.{some_below}
 use Rattle.words.specs.Store.{put_at}

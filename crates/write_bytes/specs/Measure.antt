@@ -1,7 +1,6 @@
 -- What measuring answers.
-use Rattle.std.specs.Prelude.{ℕ, List, ltb, length}
+use Rattle.std.specs.Prelude.{ℕ, ltb}
 use Rattle.words.specs.Choice.{pick}
-use Rattle.words.specs.Store.{put_at}
 use Rattle.layout.specs.Limits.{longest_file}
 use Rattle.write_bytes.specs.declared.Measured.{Measured}
 
