@@ -1,5 +1,5 @@
 -- Laws about the hash, for every rule for a byte.
-use Rattle.std.proofs.Common.{◌≡◌, ℕ, ◌+◌, ◌-◌, ◌*◌, ◌/◌, ◌%◌, ◌^◌, ◌<◌, ◌≤◌, true, false, ltb, ◌⊎◌, List, [], ◌∷◌, ◌++◌, length, get_or, take, drop, sym, refl, ap, ◌∙◌, inl, inr, mul-le-mul, add-one, arith, drop_of_length-le, take_all, drop-cons, take-add, le-ltb, lt-ltb}
+use Rattle.std.proofs.Common.{◌≡◌, ℕ, ◌+◌, ◌-◌, ◌*◌, ◌/◌, ◌%◌, ◌^◌, ◌<◌, ◌≤◌, ◌⊎◌, List, [], ◌∷◌, ◌++◌, length, get_or, take, drop, sym, refl, ap, ◌∙◌, inl, inr, mul-le-mul, add-one, arith, drop_of_length-le, take_all, drop-cons, take-add, le-ltb, lt-ltb}
 use native.Mathlib.Nat.{le-pred_of_lt, mod-add-mod, add-mod-mod, add-mul-mod_self_left}
 use Rattle.words.specs.Choice.{pick}
 use Rattle.key_hash.specs.declared.hash.Form.{Form}

@@ -1,7 +1,6 @@
 -- 8 comes with the offset at which the given key is bad.
 use Prim.Native.Nat.{ℕ, suc}
 use mathlib.Core.Path.{◌≡◌, sym, ap, subst}
-use mathlib.Core.Logic.{◌↔◌}
 use mathlib.Core.List.{List}
 use mathlib.Core.Bool.{Bool, true, false}
 use native.Mathlib.Omega.{arith}
@@ -10,7 +9,6 @@ use lib.ListN.{length}
 use borrow.Author.Tests.{eqb-false, ne_eqb}
 use Rattle.words.specs.Choice.{pick}
 use Rattle.words.proofs.ChoiceLaws.{pick_with}
-use Rattle.text.specs.Utf8.{is_utf8}
 use Rattle.key_order.specs.Prefix.{prefixes}
 use Rattle.text.specs.Bad.{BadText}
 use Rattle.text.proofs.BadLaws.{bad_text, bad_no_utf8}
@@ -22,7 +20,7 @@ use Rattle.layout.specs.declared.refusal.Refusal.TheVariants.{KeyNotUtf8, KeyToo
 use Rattle.model.specs.declared.Inserted.{Inserted}
 use Rattle.model.specs.Table.{Content, Entry}
 use Rattle.model.specs.Walk.{Walked, walk}
-use Rattle.model.specs.Builder.{Builder, Result, result, refused, standing_at, free_standing, height, news, counted, at_walked, put, keyed, insert_value, settled, insert_table}
+use Rattle.model.specs.Builder.{Builder, Result, refused, standing_at, free_standing, height, news, counted, at_walked, put, keyed, insert_value, settled, insert_table}
 use Rattle.model.specs.Bad.{EightAt}
 
 module _ (at : ℕ) where

@@ -1,6 +1,6 @@
 -- What a builder holds, and what each call answers and does, in the words and the order of document 01. A refusal changes nothing.
 -- Refusal 29 is about memory and does not occur here.
-use Rattle.std.specs.Prelude.{ℕ, zero, suc, ◌+◌, ◌<◌, Bool, true, false, ◌&&◌, not, List, [], ◌∷◌, ◌++◌, eqb, ltb, leb, length, get_or, set, drop}
+use Rattle.std.specs.Prelude.{ℕ, zero, suc, ◌+◌, Bool, true, false, ◌&&◌, not, List, [], ◌∷◌, ◌++◌, eqb, ltb, leb, length, get_or, set, drop}
 use Rattle.words.specs.Choice.{pick}
 use Rattle.text.specs.Utf8.{first_bad, is_utf8}
 use Rattle.key_order.specs.Prefix.{prefixes}

@@ -1,5 +1,5 @@
 -- Tables of items, as document 01 has them under 'The builder'.
-use Rattle.std.specs.Prelude.{ℕ, zero, suc, ◌+◌, ◌<◌, Bool, true, false, List, [], ◌∷◌, ◌++◌, eqb, length, get_or, drop}
+use Rattle.std.specs.Prelude.{ℕ, zero, suc, ◌<◌, Bool, true, false, List, [], ◌∷◌, ◌++◌, eqb, length, get_or, drop}
 use Rattle.words.specs.Choice.{pick}
 use Rattle.layout.specs.Item.{no_item}
 use Rattle.layout.specs.declared.kind.Kind.{Kind}

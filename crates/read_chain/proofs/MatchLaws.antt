@@ -10,7 +10,7 @@ use lib.Seq.{take-length, take-take, drop_at, length-take-le}
 use lib.Dec.{eqb}
 use borrow.Author.Tests.{le-leb, eqb-true, eqb-false}
 use Rattle.words.specs.Choice.{pick}
-use Rattle.words.proofs.ChoiceLaws.{pick_with, pick_same, both}
+use Rattle.words.proofs.ChoiceLaws.{pick_with, pick_same}
 use Rattle.text.specs.Utf8.{first_bad, is_utf8, starts_whole}
 use Rattle.key_order.specs.Compare.{same_bytes, ends_at}
 use Rattle.text.proofs.Utf8Parts.{front_text, end_text}

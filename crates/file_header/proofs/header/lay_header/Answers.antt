@@ -4,7 +4,6 @@ use borrow.Author.Tests.{lt-ltb, le-ltb}
 use Rattle.words.specs.Choice.{pick}
 use Rattle.file_header.specs.Header.{header_laid}
 use Rattle.file_header.proofs.HeaderLaws.{put_header, laid_1, laid_16, laid_there}
-use borrow.Author.Rules.{rules}
 use Rattle.file_header.proofs.header.lay_header.Goals as goal
 
 pub returns-then-target-gt-LONGEST_FILE : goal.returns-then-target-gt-LONGEST_FILE

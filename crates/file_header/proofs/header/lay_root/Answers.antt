@@ -1,6 +1,5 @@
 -- `file_header::header::lay_root` meets its contract: four words behind one another are one store.
 use Rattle.file_header.proofs.HeaderLaws.{put_root}
-use borrow.Author.Rules.{rules}
 use Rattle.file_header.proofs.header.lay_root.Goals as goal
 
 pub returns : goal.returns

@@ -2,7 +2,6 @@
 use mathlib.Core.Path.{ap, ◌∙◌}
 use Rattle.file_header.specs.Header.{signature}
 use Rattle.file_header.proofs.HeaderLaws.{put-signature, little_words, big_words}
-use borrow.Author.Rules.{rules}
 use Rattle.file_header.proofs.header.lay_signature.Goals as goal
 
 pub returns-in-Little : goal.returns-in-Little

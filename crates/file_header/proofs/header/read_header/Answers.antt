@@ -3,7 +3,6 @@ use borrow.Author.Tests.{lt-ltb, le-ltb}
 use Rattle.words.specs.Choice.{pick}
 use Rattle.file_header.specs.Header.{read_header}
 use Rattle.file_header.proofs.HeaderLaws.{little_spells, big_spells, signed, not-signed}
-use borrow.Author.Rules.{rules}
 use Rattle.file_header.proofs.header.read_header.Goals as goal
 
 pub returns-then-file-gt-LONGEST_FILE : goal.returns-then-file-gt-LONGEST_FILE

@@ -2,7 +2,6 @@
 use borrow.Author.Tests.{eq-eqb, ne_eqb}
 use Rattle.words.specs.Choice.{pick}
 use Rattle.file_header.specs.Header.{versioned}
-use borrow.Author.Rules.{rules}
 use Rattle.file_header.proofs.header.versioned_header.Goals as goal
 
 pub returns-then-word_at-ne0 : goal.returns-then-word_at-ne0

@@ -1,5 +1,5 @@
 -- `key_hash::hash::byte_counts` meets its contract: one law for each case.
-use Rattle.std.proofs.Common.{arith, rules}
+use Rattle.std.proofs.Common.{rules}
 use Rattle.key_hash.proofs.HashLaws.{counts_plain, counts_signed}
 use Rattle.key_hash.proofs.hash.byte_counts.Goals as goal
 

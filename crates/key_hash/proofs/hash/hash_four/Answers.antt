@@ -1,5 +1,5 @@
 -- `key_hash::hash::hash_four` meets its contract: a stride is four steps.
-use Rattle.std.proofs.Common.{◌≡◌, ◌*◌, sym, ◌∙◌, arith, rules}
+use Rattle.std.proofs.Common.{◌*◌, sym, ◌∙◌}
 use Rattle.key_hash.specs.Hash.{plain}
 use Rattle.key_hash.proofs.HashLaws.{four_steps, mod_sum}
 use Rattle.key_hash.proofs.hash.hash_four.Goals as goal

@@ -1,6 +1,5 @@
 -- `key_hash::hash::hash_key` meets its contract: in either form the hash goes on from 5381.
 use Rattle.key_hash.specs.Hash.{hash_by}
-use Rattle.std.proofs.Common.{rules}
 use Rattle.key_hash.proofs.hash.hash_key.Goals as goal
 
 pub returns-in-Plain : goal.returns-in-Plain

@@ -1,7 +1,6 @@
 -- `key_hash::hash::hash_on` meets its contract. The loop's invariant: the hash is what goes on from `value` over the bytes left.
-use Rattle.std.proofs.Common.{◌≡◌, ℕ, ◌+◌, ◌-◌, ◌*◌, ◌/◌, ◌%◌, ◌≤◌, length, drop, sym, refl, ap, ◌∙◌, arith, length-drop, take_all, rules}
+use Rattle.std.proofs.Common.{◌≡◌, ◌-◌, ◌*◌, ◌/◌, ◌%◌, ◌≤◌, length, drop}
 use Rattle.key_hash.specs.Hash.{hash_from, rule_of}
-use Rattle.key_hash.proofs.HashLaws.{hash_stride}
 use Rattle.key_hash.proofs.hash.hash_on.Given as goal
 
 abbrev pub invariant-loop-i : goal.invariant-loop-i

@@ -1,5 +1,5 @@
 -- `key_hash::hash::hash_tail` meets its contract: no byte, one, two or three, each a step.
-use Rattle.std.proofs.Common.{arith, rules}
+use Rattle.std.proofs.Common.{arith}
 use Rattle.key_hash.proofs.HashLaws.{tail_none, tail-one, tail-two, tail-three}
 use Rattle.key_hash.proofs.hash.hash_tail.Goals as goal
 

@@ -2,7 +2,6 @@
 use mathlib.Core.Path.{sym, ◌∙◌}
 use native.Mathlib.Omega.{arith}
 use Rattle.key_order.proofs.CompareLaws.{ends_short, ends_long}
-use borrow.Author.Rules.{rules}
 use Rattle.key_order.proofs.compare.ends_with.Goals as goal
 
 pub returns-then-n-size : goal.returns-then-n-size

@@ -2,7 +2,6 @@
 use mathlib.Core.Path.{sym}
 use native.Mathlib.Omega.{arith}
 use Rattle.key_order.proofs.CompareLaws.{same_none, same_one}
-use borrow.Author.Rules.{rules}
 use Rattle.key_order.proofs.compare.same_few.Goals as goal
 
 pub returns-then-a-eq0 : goal.returns-then-a-eq0

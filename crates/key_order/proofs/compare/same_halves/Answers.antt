@@ -3,7 +3,6 @@ use Prim.Native.Nat.{ℕ, ◌-◌, ◌<◌}
 use native.Mathlib.Omega.{arith}
 use lib.ListN.{length, get_or}
 use Rattle.key_order.proofs.CompareLaws.{same_two}
-use borrow.Author.Rules.{rules}
 use Rattle.key_order.proofs.compare.same_halves.Goals as goal
 
 pub returns : goal.returns

@@ -1,9 +1,8 @@
 -- `key_order::compare::same_long` meets its contract. The invariant: the texts are equal up to i.
-use mathlib.Core.Path.{◌≡◌, refl, sym, ◌∙◌}
-use Prim.Native.Nat.{ℕ, ◌-◌, ◌≤◌, ◌<◌}
+use mathlib.Core.Path.{refl, sym, ◌∙◌}
+use Prim.Native.Nat.{ℕ, ◌-◌, ◌<◌}
 use native.Mathlib.Omega.{arith}
-use borrow.Author.Rules.{rules}
-use lib.ListN.{length, take, get_or}
+use lib.ListN.{length, get_or}
 use Rattle.key_order.proofs.CompareLaws.{same_little_endian, same_turn, same_last}
 use Rattle.key_order.proofs.compare.same_long.Goals as goal
 

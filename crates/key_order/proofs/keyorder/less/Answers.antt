@@ -1,10 +1,6 @@
 -- `key_order::keyorder::less` meets its contract. The invariant: the order of the texts is that of what is left of both.
-use mathlib.Core.Path.{◌≡◌, sym, ◌∙◌}
-use Prim.Native.Nat.{◌-◌, ◌≤◌}
+use mathlib.Core.Path.{sym, ◌∙◌}
 use native.Mathlib.Omega.{arith}
-use borrow.Author.Rules.{rules}
-use lib.ListN.{length, drop}
-use Rattle.key_order.specs.Order.{precedes}
 use Rattle.key_order.proofs.OrderLaws.{front_same, turn_less, turn_more, turn_same, end_left, end_right}
 use Rattle.key_order.proofs.keyorder.less.Goals as goal
 

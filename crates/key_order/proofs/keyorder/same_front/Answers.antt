@@ -1,9 +1,8 @@
 -- `key_order::keyorder::same_front` meets its contract. The invariant: the texts are equal up to i.
-use mathlib.Core.Path.{◌≡◌, refl, sym, ◌∙◌}
-use Prim.Native.Nat.{ℕ, ◌-◌, ◌≤◌, ◌<◌}
+use mathlib.Core.Path.{refl, sym, ◌∙◌}
+use Prim.Native.Nat.{ℕ, ◌<◌}
 use native.Mathlib.Omega.{arith}
-use borrow.Author.Rules.{rules}
-use lib.ListN.{take, get_or}
+use lib.ListN.{get_or}
 use Rattle.key_order.proofs.CompareLaws.{same_turn}
 use Rattle.key_order.proofs.keyorder.same_front.Goals as goal
 

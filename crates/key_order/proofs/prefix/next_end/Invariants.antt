@@ -1,10 +1,8 @@
 -- `key_order::prefix::next_end` meets its contract. The invariant: no separator stands from `from` up to i.
-use Rattle.key_order.proofs.PrefixLaws.{next_here, next_later, next_end_lem}
 use Rattle.key_order.specs.Prefix.{next_end}
 use lib.ListN.{length}
-use native.Mathlib.Omega.{arith}
 use Prim.Native.Nat.{◌≤◌, ◌-◌}
-use mathlib.Core.Path.{◌≡◌, refl, sym, ◌∙◌}
+use mathlib.Core.Path.{◌≡◌}
 use Rattle.key_order.proofs.prefix.next_end.Given as goal
 
 abbrev pub invariant-loop-i : goal.invariant-loop-i

@@ -1,5 +1,4 @@
 -- `layout::item::open_value` meets its contract: the pointer, widened.
-use borrow.Author.Rules.{rules}
 use Rattle.layout.proofs.item.open_value.Goals as goal
 
 pub returns : goal.returns

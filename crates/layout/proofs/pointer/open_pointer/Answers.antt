@@ -4,7 +4,6 @@ use borrow.Author.Tests.{lt-ltb, le-ltb, eq-eqb, ne_eqb}
 use Rattle.words.specs.Choice.{pick}
 use Rattle.words.proofs.AlignLaws.{alignment_range}
 use Rattle.layout.specs.Pointer.{open_pointer}
-use borrow.Author.Rules.{rules}
 use Rattle.layout.proofs.pointer.open_pointer.Goals as goal
 
 pub returns-then-end-start : goal.returns-then-end-start

@@ -7,7 +7,6 @@ use Rattle.layout.specs.declared.refusal.Refusal.{Refusal}
 use Rattle.layout.specs.declared.refusal.Refusal.TheVariants.{FileTooLong, PointerOutside, Misaligned, TableTooShort, BloomTooLong, BucketsTooLong, ItemsUneven, KeyNotUtf8, FragmentNotUtf8, ParentOutside, ParentsEndless, KeyNotFound, OtherKind, BufferTooShort, PastTheLast, HeaderTooShort, SignatureUnknown, ListBroken, VersionUnknown, KeyTooLong, NotContainer, TooManyItems, ArenaFull, TableUnknown, TableInItself, NestedTooDeep, TooManyTables, SeparatorOutside, MemoryBroken, EmptyKey, ImageTooLong, HeadsTooFew, TooManyFilterWords, ReportTooShort, CheckBroken}
 use Rattle.layout.proofs.refusal.bad_at.Goals as goal
 
-
 no_offset : (why : Refusal) → ((x : ℕ) → why ≡ KeyNotUtf8 x → ⊥) → ((x : ℕ) → why ≡ FragmentNotUtf8 x → ⊥) → 0 ≡ bad_at why
 no_offset FileTooLong key fragment = refl
 no_offset PointerOutside key fragment = refl

@@ -1,7 +1,6 @@
 -- `layout::refusal::number_of` meets its contract: each arm by the variant that it matched.
 use mathlib.Core.Path.{sym, ap}
 use Rattle.layout.specs.Refusal.{number}
-use borrow.Author.Rules.{rules}
 use Rattle.layout.proofs.refusal.number_of.Goals as goal
 
 pub returns-in-FileTooLong : goal.returns-in-FileTooLong

@@ -4,7 +4,6 @@ use borrow.Author.Tests.{lt-ltb, le-ltb}
 use Rattle.words.specs.Choice.{pick}
 use Rattle.layout.specs.Table.{open_table}
 use Rattle.layout.proofs.OpenLaws.{pointer_inside}
-use borrow.Author.Rules.{rules}
 use Rattle.layout.proofs.table.open_table.Goals as goal
 
 pub returns-then-file-gt-LONGEST_FILE : goal.returns-then-file-gt-LONGEST_FILE

@@ -4,7 +4,6 @@ use borrow.Author.Tests.{lt-ltb, le-ltb, eq-eqb, ne_eqb}
 use Rattle.words.specs.Choice.{pick}
 use Rattle.words.specs.Bits.{bloom_count}
 use Rattle.layout.specs.Table.{table_in, table_of}
-use borrow.Author.Rules.{rules}
 use Rattle.layout.proofs.table.table_in.Goals as goal
 
 pub returns-then-size-lt-HEAD_SIZE : goal.returns-then-size-lt-HEAD_SIZE

@@ -2,7 +2,7 @@
 use mathlib.Core.Path.{sym}
 use borrow.Author.Rules.{rules}
 use lib.Seq.{length-take-le}
-use Rattle.read_chain.proofs.MatchLaws.{Climbing, start, ended, up, over}
+use Rattle.read_chain.proofs.MatchLaws.{start, ended, up, over}
 use Rattle.read_chain.proofs.chain.chain_names.Goals as goal
 
 pub loop-left-init : goal.loop-left-init

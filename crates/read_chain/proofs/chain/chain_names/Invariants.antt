@@ -1,8 +1,5 @@
 -- `read_chain::chain::chain_names` meets its contract: the invariant is `Climbing`, and the measure is the steps left.
-use mathlib.Core.Path.{sym}
-use borrow.Author.Rules.{rules}
-use lib.Seq.{length-take-le}
-use Rattle.read_chain.proofs.MatchLaws.{Climbing, start, ended, up, over}
+use Rattle.read_chain.proofs.MatchLaws.{Climbing}
 use Rattle.read_chain.proofs.chain.chain_names.Given as goal
 
 abbrev pub invariant-loop-left : goal.invariant-loop-left

@@ -1,6 +1,5 @@
 -- `read_chain::chain::climb` meets its contract: each return is a case of the definition, with the fragment's pointer in the file's widths.
 use mathlib.Core.Path.{sym, ◌∙◌}
-use borrow.Author.Rules.{rules}
 use Rattle.layout.proofs.OpenLaws.{pointer_inside}
 use Rattle.read_chain.proofs.ChainLaws.{climb_refused, climb_text, climb_no_text}
 use Rattle.read_chain.proofs.chain.climb.Goals as goal

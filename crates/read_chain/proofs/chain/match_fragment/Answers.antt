@@ -1,7 +1,5 @@
 -- `read_chain::chain::match_fragment` meets its contract: each return by the tests that led there.
 use mathlib.Core.Path.{sym, ◌∙◌}
-use borrow.Author.Rules.{rules}
-use borrow.Author.Tests.{not-true, not-false}
 use Rattle.key_order.proofs.CompareLaws.{ends_split}
 use Rattle.read_chain.proofs.ChainLaws.{parent_root, parent_up, parent_outside}
 use Rattle.read_chain.proofs.MatchLaws.{match_other, match_cut, text_refused, text_root, text_up}

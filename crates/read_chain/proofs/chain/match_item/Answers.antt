@@ -2,7 +2,6 @@
 use mathlib.Core.Path.{sym, ◌∙◌}
 use Rattle.layout.proofs.OpenLaws.{pointer_inside}
 use Rattle.read_chain.proofs.MatchLaws.{match_refused, match_inside}
-use borrow.Author.Rules.{rules}
 use Rattle.read_chain.proofs.chain.match_item.Goals as goal
 
 pub slice_bounds-match_fragment-end : goal.slice_bounds-match_fragment-end

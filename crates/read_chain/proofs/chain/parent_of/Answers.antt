@@ -1,6 +1,5 @@
 -- `read_chain::chain::parent_of` meets its contract: each return is a case of the definition.
 use mathlib.Core.Path.{sym}
-use borrow.Author.Rules.{rules}
 use Rattle.read_chain.proofs.ChainLaws.{parent_root, parent_up, parent_outside}
 use Rattle.read_chain.proofs.chain.parent_of.Goals as goal
 

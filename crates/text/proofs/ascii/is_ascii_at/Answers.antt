@@ -6,7 +6,6 @@ use lib.ListN.{get_or}
 use lib.Dec.{eqb}
 use lib.Bits.{bit_and}
 use Rattle.text.proofs.AsciiLaws.{highest, field_ascii}
-use borrow.Author.Rules.{rules}
 use Rattle.text.proofs.ascii.is_ascii_at.Goals as goal
 
 pub returns : goal.returns

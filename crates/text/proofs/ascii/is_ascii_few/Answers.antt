@@ -1,10 +1,6 @@
 -- `text::ascii::is_ascii_few` meets its contract. The invariant: the text is ASCII just where what is left of it is.
-use mathlib.Core.Path.{◌≡◌, refl, sym, ◌∙◌}
-use Prim.Native.Nat.{◌-◌, ◌≤◌}
+use mathlib.Core.Path.{refl, sym, ◌∙◌}
 use native.Mathlib.Omega.{arith}
-use borrow.Author.Rules.{rules}
-use lib.ListN.{length, drop}
-use Rattle.text.specs.Ascii.{is_ascii}
 use Rattle.text.proofs.AsciiLaws.{byte_high, byte_low, bytes_end}
 use Rattle.text.proofs.ascii.is_ascii_few.Goals as goal
 

@@ -1,13 +1,9 @@
 -- `text::ascii::is_ascii_long` meets its contract. The invariant: the text is ASCII up to i.
-use mathlib.Core.Path.{◌≡◌, sym, ◌∙◌}
+use mathlib.Core.Path.{◌≡◌}
 use mathlib.Core.Bool.{true}
 use Prim.Native.Nat.{◌-◌, ◌≤◌}
-use native.Mathlib.Omega.{arith}
-use borrow.Author.Tests.{not-true, not-false}
-use borrow.Author.Rules.{rules}
 use lib.ListN.{length, take}
 use Rattle.text.specs.Ascii.{is_ascii}
-use Rattle.text.proofs.AsciiLaws.{ascii_stop, ascii_turn, ascii_last, ascii_none}
 use Rattle.text.proofs.ascii.is_ascii_long.Given as goal
 
 abbrev pub invariant-loop-i : goal.invariant-loop-i

@@ -7,7 +7,6 @@ use lib.ListN.{length, get_or}
 use lib.Dec.{eqb}
 use lib.Bits.{bit_and}
 use Rattle.text.proofs.AsciiLaws.{highest, ascii_two}
-use borrow.Author.Rules.{rules}
 use Rattle.text.proofs.ascii.is_ascii_words.Goals as goal
 
 pub returns : goal.returns

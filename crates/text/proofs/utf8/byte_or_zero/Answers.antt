@@ -1,7 +1,6 @@
 -- `text::utf8::byte_or_zero` meets its contract: past the end `get_or` gives its default.
 use mathlib.Core.Path.{sym}
 use lib.ListN.{get_or-eq_default}
-use borrow.Author.Rules.{rules}
 use Rattle.text.proofs.utf8.byte_or_zero.Goals as goal
 
 pub returns-else-at-s : goal.returns-else-at-s

@@ -2,7 +2,6 @@
 use mathlib.Core.Path.{sym, ◌∙◌}
 use Rattle.text.specs.Utf8.{first_bad}
 use Rattle.text.proofs.AsciiLaws.{ascii_good}
-use borrow.Author.Rules.{rules}
 use Rattle.text.proofs.utf8.first_bad.Goals as goal
 
 pub returns-then-is_ascii : goal.returns-then-is_ascii

@@ -1,6 +1,5 @@
 -- `text::utf8::is_tail` meets its contract, by `is_between`'s.
 use Rattle.text.specs.Utf8.{tail}
-use borrow.Author.Rules.{rules}
 use Rattle.text.proofs.utf8.is_tail.Goals as goal
 
 pub returns : goal.returns

@@ -5,7 +5,6 @@ use lib.ListN.{length}
 use lib.Dec.{eqb}
 use Rattle.text.specs.Utf8.{is_utf8}
 use Rattle.text.proofs.AsciiLaws.{ascii_utf8}
-use borrow.Author.Rules.{rules}
 use Rattle.text.proofs.utf8.is_utf8.Goals as goal
 
 pub returns-then-is_ascii : goal.returns-then-is_ascii

@@ -2,11 +2,9 @@
 use Rattle.text.specs.Utf8.{step_len}
 use Rattle.text.proofs.Utf8Laws.{bad_here, step_room, good_turn, good_end}
 use mathlib.Core.Path.{◌≡◌}
-use Prim.Native.Nat.{◌+◌, ◌-◌, ◌≤◌}
+use Prim.Native.Nat.{◌+◌, ◌≤◌}
 use native.Mathlib.Omega.{arith}
-use borrow.Author.Rules.{rules}
 use lib.ListN.{length, drop}
-use Rattle.text.specs.Utf8.{first_bad}
 use Rattle.text.proofs.utf8.scan.Goals as goal
 
 pub returns-then-step-eq0 : goal.returns-then-step-eq0

@@ -1,10 +1,6 @@
 -- `text::utf8::scan` meets its contract. The invariant: all before `at` is good, so the answer is `at` and what the rest gives.
-use Rattle.text.specs.Utf8.{step_len}
-use Rattle.text.proofs.Utf8Laws.{bad_here, step_room, good_turn, good_end}
 use mathlib.Core.Path.{◌≡◌}
 use Prim.Native.Nat.{◌+◌, ◌-◌, ◌≤◌}
-use native.Mathlib.Omega.{arith}
-use borrow.Author.Rules.{rules}
 use lib.ListN.{length, drop}
 use Rattle.text.specs.Utf8.{first_bad}
 use Rattle.text.proofs.utf8.scan.Given as goal

@@ -5,7 +5,6 @@ use mathlib.Core.Bool.{true, false, ◌&&◌}
 use native.Mathlib.Omega.{arith}
 use Rattle.text.specs.Utf8.{tail, is_two, starts_three, starts_four}
 use Rattle.text.proofs.Utf8Laws.{len_1, len_2, len_3, len_4, len_0}
-use borrow.Author.Rules.{rules}
 use Rattle.text.proofs.utf8.sequence_len.Goals as goal
 
 pub returns-then-b0-le127 : goal.returns-then-b0-le127

@@ -1,7 +1,6 @@
 -- `text::utf8::starts_whole` meets its contract: the first byte, or 0, is no tail byte.
 use mathlib.Core.Path.{ap, ◌∙◌}
 use mathlib.Core.Bool.{not}
-use borrow.Author.Rules.{rules}
 use Rattle.text.specs.Utf8.{tail, starts_whole}
 use Rattle.text.proofs.utf8.starts_whole.Goals as goal
 

@@ -1,7 +1,6 @@
 -- `text::utf8::step_len` meets its contract: an ASCII byte is one character (`step_one`), else the four bytes are the first of what is left
 -- (`step_at`).
 use Rattle.text.proofs.Utf8Laws.{step_at, step_one}
-use borrow.Author.Rules.{rules}
 use Rattle.text.proofs.utf8.step_len.Goals as goal
 
 pub returns-then-b0-le127 : goal.returns-then-b0-le127

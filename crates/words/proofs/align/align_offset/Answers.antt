@@ -1,11 +1,10 @@
 -- `words::align::align_offset` meets its contract: the code is the definition, with the size at hand for the alignment.
 use mathlib.Core.Path.{ap}
-use Prim.Native.Nat.{ℕ, ◌%◌, ◌-◌, ◌<◌}
+use Prim.Native.Nat.{◌%◌, ◌-◌, ◌<◌}
 use native.Mathlib.Omega.{arith}
 use native.Mathlib.Nat.{mod-lt}
 use Rattle.words.specs.Align.{aligned}
 use Rattle.words.proofs.AlignLaws.{alignment_range}
-use borrow.Author.Rules.{rules}
 use Rattle.words.proofs.align.align_offset.Goals as goal
 
 pub nonzero_rem-result : goal.nonzero_rem-result

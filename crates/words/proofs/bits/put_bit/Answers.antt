@@ -1,12 +1,11 @@
 -- `words::bits::put_bit` meets its contract: the shift is exact.
 use mathlib.Core.Path.{◌≡◌, ap, ◌∙◌}
-use Prim.Native.Nat.{ℕ, ◌*◌, ◌%◌, ◌^◌}
+use Prim.Native.Nat.{◌*◌, ◌%◌, ◌^◌}
 use native.Mathlib.Omega.{arith}
 use native.Mathlib.Nat.{one-mul}
 use lib.Bits.{bit_or}
 use lib.Pow.{shl_exact}
 use Rattle.words.specs.Bits.{bit_put}
-use borrow.Author.Rules.{rules}
 use Rattle.words.proofs.bits.put_bit.Goals as goal
 
 pub returns : goal.returns

@@ -1,7 +1,6 @@
 -- `words::field::half_at` meets its contract: the two bytes are the field, byte by byte (`half_bytes`).
 use native.Mathlib.Omega.{arith}
 use Rattle.words.proofs.FieldLaws.{half_bytes}
-use borrow.Author.Rules.{rules}
 use Rattle.words.proofs.field.half_at.Goals as goal
 
 pub returns : goal.returns

@@ -1,7 +1,6 @@
 -- `words::field::long_at` meets its contract: a field of eight bytes is two of four (`long_words`).
 use native.Mathlib.Omega.{arith}
 use Rattle.words.proofs.FieldLaws.{long_words}
-use borrow.Author.Rules.{rules}
 use Rattle.words.proofs.field.long_at.Goals as goal
 
 pub returns : goal.returns

@@ -2,7 +2,6 @@
 use native.Mathlib.Omega.{arith}
 use lib.ListN.{length-set}
 use Rattle.words.proofs.FieldLaws.{two_stores}
-use borrow.Author.Rules.{rules}
 use Rattle.words.proofs.field.put_half.Goals as goal
 
 pub bounds-out-at-2 : goal.bounds-out-at-2

@@ -1,7 +1,6 @@
 -- `words::field::word_at` meets its contract: the four bytes are the field, byte by byte (`word_bytes`).
 use native.Mathlib.Omega.{arith}
 use Rattle.words.proofs.FieldLaws.{word_bytes}
-use borrow.Author.Rules.{rules}
 use Rattle.words.proofs.field.word_at.Goals as goal
 
 pub returns : goal.returns

@@ -1,10 +1,9 @@
 -- `words::store::fill_words` meets its contract. The invariant: the first i words are written, and the rest is as it was.
 use Rattle.words.proofs.StoreLaws.{copy_start, fill_turn, fill_end}
-use Rattle.words.specs.Store.{put_at, copies}
-use lib.ListN.{length, take, length-set}
+use Rattle.words.specs.Store.{copies}
+use lib.ListN.{length-set}
 use native.Mathlib.Omega.{arith}
-use Prim.Native.Nat.{◌-◌, ◌≤◌}
-use mathlib.Core.Path.{◌≡◌, refl, ◌∙◌}
+use mathlib.Core.Path.{refl, ◌∙◌}
 use Rattle.words.proofs.store.fill_words.Goals as goal
 
 pub loop-i-init : goal.loop-i-init

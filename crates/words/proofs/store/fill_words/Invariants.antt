@@ -1,10 +1,8 @@
 -- `words::store::fill_words` meets its contract. The invariant: the first i words are written, and the rest is as it was.
-use Rattle.words.proofs.StoreLaws.{copy_start, fill_turn, fill_end}
 use Rattle.words.specs.Store.{put_at, copies}
-use lib.ListN.{length, take, length-set}
-use native.Mathlib.Omega.{arith}
+use lib.ListN.{length, take}
 use Prim.Native.Nat.{◌-◌, ◌≤◌}
-use mathlib.Core.Path.{◌≡◌, refl, ◌∙◌}
+use mathlib.Core.Path.{◌≡◌}
 use Rattle.words.proofs.store.fill_words.Given as goal
 
 abbrev pub invariant-loop-i : goal.invariant-loop-i

@@ -1,10 +1,7 @@
 -- `words::store::put_bytes` meets its contract. The invariant: the first j bytes are copied, and the rest is as it was.
-use mathlib.Core.Path.{◌≡◌, refl, ◌∙◌}
-use Prim.Native.Nat.{◌-◌, ◌≤◌}
+use mathlib.Core.Path.{refl, ◌∙◌}
 use native.Mathlib.Omega.{arith}
-use borrow.Author.Rules.{rules}
-use lib.ListN.{length, take, length-set}
-use Rattle.words.specs.Store.{put_at}
+use lib.ListN.{length-set}
 use Rattle.words.proofs.StoreLaws.{copy_start, copy_turn, copy_end}
 use Rattle.words.proofs.store.put_bytes.Goals as goal
 

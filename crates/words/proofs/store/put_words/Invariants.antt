@@ -1,11 +1,8 @@
 -- `words::store::put_words` meets its contract. The invariant: the first j words are copied, and the rest is as it was.
-use mathlib.Core.Path.{◌≡◌, refl, ◌∙◌}
+use mathlib.Core.Path.{◌≡◌}
 use Prim.Native.Nat.{◌-◌, ◌≤◌}
-use native.Mathlib.Omega.{arith}
-use borrow.Author.Rules.{rules}
-use lib.ListN.{length, take, length-set}
+use lib.ListN.{length, take}
 use Rattle.words.specs.Store.{put_at}
-use Rattle.words.proofs.StoreLaws.{copy_start, copy_turn, copy_end}
 use Rattle.words.proofs.store.put_words.Given as goal
 
 abbrev pub invariant-loop-j : goal.invariant-loop-j

@@ -1,11 +1,8 @@
 -- `words::store::put_zeros` meets its contract. The invariant: the first i zeros are stored, and the rest is as it was.
-use mathlib.Core.Path.{◌≡◌, refl, ◌∙◌}
+use mathlib.Core.Path.{◌≡◌}
 use Prim.Native.Nat.{◌-◌, ◌≤◌}
-use native.Mathlib.Omega.{arith}
-use borrow.Author.Rules.{rules}
-use lib.ListN.{length, take, length-set}
+use lib.ListN.{length, take}
 use Rattle.words.specs.Store.{put_at, zeros}
-use Rattle.words.proofs.StoreLaws.{copy_start, fill_turn, fill_end}
 use Rattle.words.proofs.store.put_zeros.Given as goal
 
 abbrev pub invariant-loop-i : goal.invariant-loop-i
