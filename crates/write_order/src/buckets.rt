@@ -62,7 +62,7 @@ pub fn index_all(
 )
     requires n_in_bounds { (n ≤ length heads.now) × Rooms n order.old firsts.old }
     requires has_chains { HasChains n heads.now links.old }
-    ensures by_index_lem { (lists : ℕ → List ℕ) → Chains lists n heads.now links.old → Indexed lists n order.old order.new firsts.old firsts.new }
+    ensures by_index { (lists : ℕ → List ℕ) → Chains lists n heads.now links.old → Indexed lists n order.old order.new firsts.old firsts.new }
     ensures empty { Empty links.new }
 {
     let mut b = 0;

@@ -31,7 +31,7 @@ fn comes_before(words: &[usize], arena: &[u8], a: usize, b: usize) -> bool
 // The item of a chain behind which item i is put, or the empty mark: the last of those whose keys come behind that of i.
 fn last_above(words: &[usize], arena: &[u8], head: usize, i: usize) -> usize
     requires { (least_words ≤ length words.now) × (i < most_items) × Bounded (links_of words.now) head }
-    ensures by_index_lem { (l : List ℕ) → Chain (links_of words.now) head l → result ≡ last_above (key_of words.now arena.now) i no_item l }
+    ensures by_index { (l : List ℕ) → Chain (links_of words.now) head l → result ≡ last_above (key_of words.now arena.now) i no_item l }
     ensures upper_bound { (result ≡ no_item → ⊥) → result < most_items }
 {
     let mut last = EMPTY;

@@ -43,7 +43,7 @@ fn lay_words(
     count: usize,
     at: usize,
 ) -> usize
-    requires by_index_lem { (b : ℕ) → b < count → (from + step * b < length numbered.now) × (get_or numbered.now (from + step * b) 0 < 2 ^ 32) }
+    requires by_index { (b : ℕ) → b < count → (from + step * b < length numbered.now) × (get_or numbered.now (from + step * b) 0 < 2 ^ 32) }
     requires count_in_bounds { at + 4 * count ≤ length image.old }
     ensures { Laid image.old image.new at (words_of (λ b. get_or numbered.now (from + step * b) 0) count) result }
 {
@@ -75,7 +75,7 @@ fn lay_filter(
     filter: usize,
 )
     requires numbered_len { (length numbered.now ≡ numbered_size) × (first + count ≤ most_items) }
-    requires by_index_lem { (k : ℕ) → k < count → slot_hash numbered.now (first + k) < 2 ^ 32 }
+    requires by_index { (k : ℕ) → k < count → slot_hash numbered.now (first + k) < 2 ^ 32 }
     requires filter_in_bounds { at + filter_size * filter ≤ length image.old }
     ensures { image.new ≡ put_at image.old at (slot_filter numbered.now filter first count) }
 {
@@ -101,7 +101,7 @@ pub fn lay_front(
     filter: usize,
 )
     requires numbered_len { (length numbered.now ≡ numbered_size) × (first + count ≤ most_items) × (filter ≤ most_filter) }
-    requires by_index_lem { (b : ℕ) → b < count → (slot_hash numbered.now (first + b) < 2 ^ 32) × (slot_bucket numbered.now (first + b) < 2 ^ 32) }
+    requires by_index { (b : ℕ) → b < count → (slot_hash numbered.now (first + b) < 2 ^ 32) × (slot_bucket numbered.now (first + b) < 2 ^ 32) }
     requires count_in_bounds { at + head_size + filter_size * filter + bucket_size * count ≤ length image.old }
     ensures { image.new ≡ put_at image.old at (head_bytes filter count ++ (slot_filter numbered.now filter first count ++ words_of (λ b. slot_bucket numbered.now (first + b)) count)) }
 {

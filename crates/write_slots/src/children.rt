@@ -35,7 +35,7 @@ fn list_parents(words: &[usize], hashes: &mut [usize])
 pub fn order_siblings(words: &[usize], arena: &[u8], order: &mut [usize], firsts: &mut [usize])
     requires arena_value { fully_valid words.now arena.now ≡ true }
     requires order_len { (length order.old ≡ most_items) × (length firsts.old ≡ firsts_size) }
-    requires by_index_lem { (b : ℕ) → b < firsts_size → get_or firsts.old b 0 ≡ item_total words.now }
+    requires by_index { (b : ℕ) → b < firsts_size → get_or firsts.old b 0 ≡ item_total words.now }
     ensures { Siblings words.now order.new firsts.new }
 {
     let n = words[ITEMS];

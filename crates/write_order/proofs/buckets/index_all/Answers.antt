@@ -138,4 +138,4 @@ shape_of-firsts c = c.loop-b.invariant.firsts-long
 pub returns : goal.returns
 returns c =
     let whole = finish c.loop-b.invariant c.loop-b-test.false c.requires.has_chains in
-    record { by_index_lem = whole.0; empty = whole.1 }
+    record { by_index = whole.0; empty = whole.1 }

@@ -43,7 +43,7 @@ index_all-requires c =
 
 pub returns : goal.returns
 returns c =
-    let x = runs-indexed c.args.hashes.now (c.index_all.ensures.by_index_lem (runs c.args.hashes.now) (run_chains _ _ _ c.chain_all.ensures.chained c.chain_all.ensures.empty_from)) in
+    let x = runs-indexed c.args.hashes.now (c.index_all.ensures.by_index (runs c.args.hashes.now) (run_chains _ _ _ c.chain_all.ensures.chained c.chain_all.ensures.empty_from)) in
     record {
       order_after = x.0;
       firsts_after = x.1;

@@ -15,7 +15,7 @@ returns-then-last-eq-EMPTY c =
     let a = c.args in
     record {
       but_links = but_set a.words.now a.words.now a.i _ c.requires.least_words_in_bounds.1 (but_none a.words.now);
-      placed = placed_front a.words.now a.heads.now (key_of a.words.now a.arena.now) a.b a.i c.requires.least_words_in_bounds.0 c.requires.least_words_in_bounds.1 c.last_above-last.ensures.by_index_lem c.if-last-eq-EMPTY.true;
+      placed = placed_front a.words.now a.heads.now (key_of a.words.now a.arena.now) a.b a.i c.requires.least_words_in_bounds.0 c.requires.least_words_in_bounds.1 c.last_above-last.ensures.by_index c.if-last-eq-EMPTY.true;
     }
 
 pub overflow_add-words-2 : goal.overflow_add-words-2
@@ -45,5 +45,5 @@ returns c =
     let a = c.args in let inside = c.last_above-last.ensures.upper_bound c.if-last-eq-EMPTY.false in
     record {
       but_links = but_set a.words.now _ _ a.i inside (but_set a.words.now a.words.now a.i _ c.requires.least_words_in_bounds.1 (but_none a.words.now));
-      placed = placed_behind a.words.now a.heads.now (key_of a.words.now a.arena.now) a.b a.i c.requires.least_words_in_bounds.0 c.requires.least_words_in_bounds.1 c.last_above-last.ensures.by_index_lem inside c.if-last-eq-EMPTY.false;
+      placed = placed_behind a.words.now a.heads.now (key_of a.words.now a.arena.now) a.b a.i c.requires.least_words_in_bounds.0 c.requires.least_words_in_bounds.1 c.last_above-last.ensures.by_index inside c.if-last-eq-EMPTY.false;
     }

@@ -37,7 +37,7 @@ unfolding Known
 returns c =
     let a = c.args in
     let long = c.requires.known.0.0 in
-    let both = all_indexed a.form a.words.now a.arena.now a.members.now (c.index_all.ensures.by_index_lem _ (all_chained a.form a.words.now a.arena.now a.members.now _ _ c.requires.known.1 c.chain_members.ensures.chained_by)) in
+    let both = all_indexed a.form a.words.now a.arena.now a.members.now (c.index_all.ensures.by_index _ (all_chained a.form a.words.now a.arena.now a.members.now _ _ c.requires.known.1 c.chain_members.ensures.chained_by)) in
     record {
       words_unchanged = but_empty a.words.now c.chain_members.new.words c.index_all.new.links long c.chain_members.ensures.but_links
           (c.index_all.auto.links ∙ links_long c.chain_members.new.words (omega (arith, long, c.chain_members.auto.words))) c.index_all.ensures.empty c.requires.rooms.1;

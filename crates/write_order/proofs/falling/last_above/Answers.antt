@@ -81,7 +81,7 @@ comes_before-requires c =
 pub returns-then-not-comes_before : goal.returns-then-not-comes_before
 returns-then-not-comes_before c =
     let m = met c.requires.0 c.loop-p.invariant c.loop-p-test.true in record {
-      by_index_lem = m.stop c.comes_before.ensures (c.if-not-comes_before.true);
+      by_index = m.stop c.comes_before.ensures (c.if-not-comes_before.true);
       upper_bound = c.loop-p.invariant.known;
     }
 
@@ -105,6 +105,6 @@ loop-p-preserved c =
 pub returns : goal.returns
 returns c =
     record {
-      by_index_lem = ended c.requires.0 c.loop-p.invariant c.loop-p-test.false;
+      by_index = ended c.requires.0 c.loop-p.invariant c.loop-p-test.false;
       upper_bound = c.loop-p.invariant.known;
     }

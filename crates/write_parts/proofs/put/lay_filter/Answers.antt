@@ -34,7 +34,7 @@ overflow_add-at c =
     omega (arith, falls_here)
 
 pub overflow_cast-hash : goal.overflow_cast-hash
-overflow_cast-hash c = omega (arith, c.requires.by_index_lem c.loop-k.k c.loop-k-test.true, c.slot_word-hash.ensures)
+overflow_cast-hash c = omega (arith, c.requires.by_index c.loop-k.k c.loop-k-test.true, c.slot_word-hash.ensures)
 
 pub add_hash-requires : goal.add_hash-requires
 add_hash-requires c =

@@ -32,7 +32,7 @@ lay_words-requires c =
     let room = (fits.slots c.args.slot c.requires.slot_lt_most_items).children other c.requires.fact in
     let from = c.slot_word-start in
     let count = c.slot_word-size.ensures in record {
-      by_index_lem = λ j less. (
+      by_index = λ j less. (
         omega (arith, fits.long, room, from.ensures, count),
         omega (arith, child_is c.args.numbered.now from.result j, fits.children (from.result + j) (omega (arith, room, from.ensures, count))),
       );

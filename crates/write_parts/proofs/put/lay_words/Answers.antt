@@ -14,19 +14,19 @@ pub loop-b-init : goal.loop-b-init
 loop-b-init c = (omega arith, refl, words_start c.args.image.now c.args.at _)
 
 pub overflow_mul-word : goal.overflow_mul-word
-overflow_mul-word c = omega (arith, (c.requires.by_index_lem c.loop-b.b c.loop-b-test.true).0)
+overflow_mul-word c = omega (arith, (c.requires.by_index c.loop-b.b c.loop-b-test.true).0)
 
 pub overflow_add-word : goal.overflow_add-word
-overflow_add-word c = omega (arith, (c.requires.by_index_lem c.loop-b.b c.loop-b-test.true).0)
+overflow_add-word c = omega (arith, (c.requires.by_index c.loop-b.b c.loop-b-test.true).0)
 
 pub offset_bounds-numbered-from : goal.offset_bounds-numbered-from
-offset_bounds-numbered-from c = omega (arith, (c.requires.by_index_lem c.loop-b.b c.loop-b-test.true).0)
+offset_bounds-numbered-from c = omega (arith, (c.requires.by_index c.loop-b.b c.loop-b-test.true).0)
 
 pub bounds-numbered-from : goal.bounds-numbered-from
-bounds-numbered-from c = (c.requires.by_index_lem c.loop-b.b c.loop-b-test.true).0
+bounds-numbered-from c = (c.requires.by_index c.loop-b.b c.loop-b-test.true).0
 
 pub overflow_cast-word : goal.overflow_cast-word
-overflow_cast-word c = omega (arith, (c.requires.by_index_lem c.loop-b.b c.loop-b-test.true).1)
+overflow_cast-word c = omega (arith, (c.requires.by_index c.loop-b.b c.loop-b-test.true).1)
 
 pub loop-b-preserved : goal.loop-b-preserved
 loop-b-preserved c =

@@ -38,4 +38,4 @@ returns c =
     let total = item_total a.words.now in
     let right = fully_valid_lem a.words.now a.arena.now c.requires.arena_value in
     let h = length-take-le total c.list_parents.new.hashes (omega (arith, right.valid.items, c.list_parents.auto.hashes)) in
-    rw (c.index_by_bucket.ensures.order_after, c.index_by_bucket.ensures.firsts_after) (siblings_made a.words.now a.arena.now right (take total c.list_parents.new.hashes) h (λ q less. get_or-take total c.list_parents.new.hashes q 0 less ∙ c.list_parents.ensures q less) a.order.now a.firsts.now c.requires.order_len.0 c.requires.order_len.1 c.requires.by_index_lem)
+    rw (c.index_by_bucket.ensures.order_after, c.index_by_bucket.ensures.firsts_after) (siblings_made a.words.now a.arena.now right (take total c.list_parents.new.hashes) h (λ q less. get_or-take total c.list_parents.new.hashes q 0 less ∙ c.list_parents.ensures q less) a.order.now a.firsts.now c.requires.order_len.0 c.requires.order_len.1 c.requires.by_index)

@@ -19,7 +19,7 @@ order_siblings-requires c =
     record {
       arena_value = c.requires.arena_value;
       order_len = (length-replicate {A = ℕ} most_items 0, length-replicate {A = ℕ} 1026 n);
-      by_index_lem = λ b h. get_or-replicate {A = ℕ} 1026 b n 0 h;
+      by_index = λ b h. get_or-replicate {A = ℕ} 1026 b n 0 h;
     }
 
 pub start_numbered-requires : goal.start_numbered-requires
