@@ -74,9 +74,9 @@ zeros_at zero i = refl
 zeros_at (suc n) zero = refl
 zeros_at (suc n) (suc i) = zeros_at n i
 
-pub none-bit_set : (n c : ℕ) → has_bit (replicate n 0) c ≡ false
+pub none_bit_set : (n c : ℕ) → has_bit (replicate n 0) c ≡ false
 unfolding has_bit
-none-bit_set n c =
+none_bit_set n c =
     let e : get_or (replicate n 0) (c / 64) 0 / 2 ^ (c % 64) % 2 ≡ 0 =
     ap (λ (w : ℕ). w / 2 ^ (c % 64) % 2) (zeros_at n (c / 64)) ∙ ap (λ (w : ℕ). w % 2) (zero-div (2 ^ (c % 64))) in
     rw e

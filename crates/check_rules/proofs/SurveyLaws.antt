@@ -18,7 +18,7 @@ use Rattle.read_chain.specs.Chain.{parent_of}
 use Rattle.check_rules.specs.Bits.{has_bit}
 use Rattle.check_rules.specs.Rules.{value_opens, children_good, lists_it, parent_keeps, parent_good, broken_rule}
 use Rattle.check_rules.specs.Survey.{five_or_shut, Fresh, Surveying, Survey, Blank}
-use Rattle.check_rules.proofs.BitsLaws.{none-bit_set}
+use Rattle.check_rules.proofs.BitsLaws.{none_bit_set}
 use Rattle.check_rules.proofs.ChildLaws.{five_open}
 use Rattle.read_find.specs.Find.{Manner}
 use Rattle.check_rules.proofs.KeepLaws.{breaks_none_keeps}
@@ -112,7 +112,7 @@ module _ (file : List ℕ) (t : Table) where
 -- zeros have no bit set, and 10,923 words hold a bit for each item that a file can hold
 pub blank : (file : List ℕ) (t : Table) (n : ℕ) → InFile file t → 699050 ≤ 64 * n → Blank t (replicate n 0)
 blank file t n inside enough =
-    record { room = omega (arith, inside.items, inside.short, length-replicate {A = ℕ} n 0); none = none-bit_set n }
+    record { room = omega (arith, inside.items, inside.short, length-replicate {A = ℕ} n 0); none = none_bit_set n }
 
 pub enough : 699050 ≤ 64 * 10923
 enough = omega arith

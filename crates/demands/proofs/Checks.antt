@@ -168,8 +168,8 @@ module _ (manner filter : ℕ) (few : filter ≤ most_filter) (file ws ar : List
         (all_pass d u p.0 (subst (AllBack (lay_by manner filter few) file (state_of ws ar) d u) pb.0 b.2) p.2)),
   )
 
-pub every_image-passes : EveryImagePasses
-every_image-passes m t buffer manner filter start end size after left d reader same =
+pub every_image_passes : EveryImagePasses
+every_image_passes m t buffer manner filter start end size after left d reader same =
     let (is, laid-is) = image_read m t buffer manner filter start end size after left d reader same in
     let ws = m.words in
     let ar = m.arena in

@@ -24,7 +24,7 @@ use Rattle.write.specs.Write.{write_answer, image_after}
 use Rattle.build_memory.specs.Meaning.{meaning}
 use Rattle.answers.specs.Header.{order_of}
 use Rattle.same.specs.Same.{Same}
-use Rattle.same.proofs.Images.{one_content_one-image as images}
+use Rattle.same.proofs.Images.{one_content_one_image as images}
 use Rattle.same.proofs.SameLaws.{count_same}
 use Rattle.demands.specs.Model.{tables_of, built}
 use Rattle.demands.specs.OneImage.{Wrote, tables, image, OneContentOneImage, OneImageOnePointer, OneContentOneFile}
@@ -69,18 +69,18 @@ gives form filter w =
     subst (Gives form filter (image w) w.table w.start w.end)
     (meant_same w.memory.words w.memory.arena (built w.room w.events) (memory_means_the_builder w.room w.events w.memory w.history)) (of_memory form filter w)
 
-pub one_content_one-image : OneContentOneImage
-one_content_one-image form filter a b =
+pub one_content_one_image : OneContentOneImage
+one_content_one_image form filter a b =
     let p = gives form filter a in
     let q = gives form filter b in
     let (to, back) = images (rule_of form) filter p.few (tables a) (tables b) a.table b.table p.writable q.writable p.short in
     (λ s. p.is ∙ to s ∙ sym q.is, λ e. back (sym p.is ∙ e ∙ q.is))
 
-pub one-image-one_pointer : OneImageOnePointer
-one-image-one_pointer form filter a b e =
+pub one_image_one_pointer : OneImageOnePointer
+one_image_one_pointer form filter a b e =
     let p = gives form filter a in
     let q = gives form filter b in
-    let many = count_same (tables a) (tables b) deepest a.table b.table p.writable q.writable ((one_content_one-image form filter a b).1 e) in
+    let many = count_same (tables a) (tables b) deepest a.table b.table p.writable q.writable ((one_content_one_image form filter a b).1 e) in
     (p.starts ∙ sym q.starts, p.ends ∙ ap (λ (n : ℕ). header_size + chunk_size filter n) many ∙ sym q.ends)
 
 -- an image is its zeros and what stands behind them, which a header leaves as it was
@@ -103,9 +103,9 @@ pub one_content_one_file : OneContentOneFile
 one_content_one_file form filter a b big number other file copy lays lays-copy =
     let did : file ≡ with_header (image a) (order_of big) a.start a.end = (laying_header_is (image a) big a.start a.end number file lays).1 in
     let did-copy : copy ≡ with_header (image b) (order_of big) b.start b.end = (laying_header_is (image b) big b.start b.end other copy lays-copy).1 in
-    let (to, back) = one_content_one-image form filter a b in (
+    let (to, back) = one_content_one_image form filter a b in (
       λ s. let e = to s in
-          let (start, end) = one-image-one_pointer form filter a b e in
+          let (start, end) = one_image_one_pointer form filter a b e in
           did ∙ ap (λ (l : List ℕ). with_header l (order_of big) a.start a.end) e
           ∙ ap (λ (n : ℕ). with_header (image b) (order_of big) n a.end) start ∙ ap (with_header (image b) (order_of big) b.start) end ∙ sym did-copy,
       λ e. back (rest_tells form filter a b

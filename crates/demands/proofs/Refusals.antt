@@ -95,8 +95,8 @@ unfolding fresh_start started_number pick
 started_still m true e n = absurd (n (rw e refl))
 started_still m false e n = rw e refl
 
-pub refused-start_changes_nothing : RefusedStartChangesNothing
-refused-start_changes_nothing m said after s n =
+pub refused_start_changes_nothing : RefusedStartChangesNothing
+refused_start_changes_nothing m said after s n =
     let is = starts_is m said after s in
     is.1 ∙ started_still m (leb least_words (length m.words)) refl (λ e. n (is.0 ∙ e))
 
@@ -111,9 +111,9 @@ listed_still (Joined.joined k) out at n = by (ltb (length out) (length k)) n
     by true n = refl
     by false n = absurd (n refl)
 
-pub refused-listing_writes_nothing : RefusedListingWritesNothing
+pub refused_listing_writes_nothing : RefusedListingWritesNothing
 unfolding listed_answer
-refused-listing_writes_nothing file start end position out r left l n =
+refused_listing_writes_nothing file start end position out r left l n =
     let is = listing_is file start end position out r left l in
     is.1 ∙ listed_still (key_at file start end position) out position (λ e. n (ap (λ (k : GvdbKey). k.number) is.0 ∙ e))
 

@@ -55,9 +55,9 @@ neither : (p q : Bool) → (p || q) ≡ false → (p ≡ false) × (q ≡ false)
 neither true q e = absurd (let z : ◌≡◌ {A = ℕ} 0 1 = cc in omega arith)
 neither false q e = (refl, e)
 
-not-too_long : (room size : ℕ) → too_long room size ≡ false → (size ≤ longest_file) × (size ≤ room)
+not_too_long : (room size : ℕ) → too_long room size ≡ false → (size ≤ longest_file) × (size ≤ room)
 unfolding too_long
-not-too_long room size e = let (file, buffer) = neither (ltb longest_file size) (ltb room size) e in (ltb-false _ _ file, ltb-false _ _ buffer)
+not_too_long room size e = let (file, buffer) = neither (ltb longest_file size) (ltb room size) e in (ltb-false _ _ file, ltb-false _ _ buffer)
 
 pub success : SuccessSays
 unfolding write_answer
@@ -65,7 +65,7 @@ success rule filter ws ar t room start end size e =
     let image = length (image_for rule filter ws ar t) in
     let good = Written.Image header_size (header_size + chunk_size filter (length (state_of ws ar t).members)) image in
     let p = passed good start end size (fully_valid ws ar) (free_standing ws t) (ltb most_filter filter) (has_empty (state_of ws ar) deepest t) (too_long room image) e in
-    let (short, fits) = not-too_long room image p.long_is in
+    let (short, fits) = not_too_long room image p.long_is in
     let is = p.answer_is in
     let long : size ≡ image = cc in record {
       starts = cc;

@@ -52,7 +52,7 @@ made_good g ws ar t parent k c good few room new =
     let m = make_item (memory ws ar) t parent k c in
     let tidy = good.tidy in
     let e3 = made.made_three ws ar t parent k c tidy few room in
-    let e2 = lows_two ws m.words (made.made_table-word ws ar t parent k c tidy few room) in
+    let e2 = lows_two ws m.words (made.made_table_word ws ar t parent k c tidy few room) in
     record {
       tidy = made.made_tidy ws ar t parent k c tidy few room;
       consistent =
@@ -180,7 +180,7 @@ module _ (g : ℕ → Table) (t : ℕ) (k : List ℕ) (sep G : ℕ) (sep-is : (g
 
     pub boxed : At m.words m.arena (item_total ws + 1) e
     boxed =
-        let e2 = lows_two ws m.words (made.made_table-word ws ar t parent (take e k) (stored container_kind [] 0) at.good.tidy few room) in
+        let e2 = lows_two ws m.words (made.made_table_word ws ar t parent (take e k) (stored container_kind [] 0) at.good.tidy few room) in
         record {
           good = made_good g ws ar t parent (take e k) (stored container_kind [] 0) at.good few room
               (new_item ws ar parent from at e is (λ j z. rise) box_text (stored container_kind [] 0) (box_fit (table_total ws)));
@@ -248,7 +248,7 @@ module _ (g : ℕ → Table) (t : ℕ) (k : List ℕ) (sep G : ℕ) (sep-is : (g
             count = omega arith;
             used = omega arith;
             arena = omega arith;
-            lows = λ p l a b. deep.lows p l a b ∙ made.made_table-word ws ar t parent (take e k) (stored container_kind [] 0) tidy few' room' p l a b;
+            lows = λ p l a b. deep.lows p l a b ∙ made.made_table_word ws ar t parent (take e k) (stored container_kind [] 0) tidy few' room' p l a b;
             more = let dm = deep.more in omega arith;
             kept = λ j l. deep.kept j (omega arith) ∙ made.other_item ws ar t parent (take e k) (stored container_kind [] 0) tidy few' room' j l;
           })

@@ -94,7 +94,7 @@ module _ (g : ℕ → Table) (ws ar : List ℕ) (t : ℕ) (k : List ℕ) (G : �
       (new_item g t k (table_separator ws t) G sep-is loose text short w a l.parent gr.end here (length k) top here.proper (ap is_utf8 (take_all' k) ∙ text) c fit') in
       record {
         good = λ z. made_good g w a t l.parent k c here.good few' room' new;
-        lows = λ p b x y. made.made_table-word w a t l.parent k c here.good.tidy few' room' p b x y ∙ gr.lows p b x y;
+        lows = λ p b x y. made.made_table_word w a t l.parent k c here.good.tidy few' room' p b x y ∙ gr.lows p b x y;
         same = λ z. false-true (sym z);
       }
 
@@ -117,7 +117,7 @@ module _ (g : ℕ → Table) (ws ar : List ℕ) (t : ℕ) (k : List ℕ) (G : �
         let m = replace_item (memory ws ar) i c in
         let f = item_of ws ar in
         let e3 = old.old_three ws ar i c good.tidy there room in
-        let lows = old.old_table-word ws ar i c good.tidy there room in
+        let lows = old.old_table_word ws ar i c good.tidy there room in
         record {
           good = λ z. record {
             tidy = old.old_tidy ws ar i c good.tidy there room;

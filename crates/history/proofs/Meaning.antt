@@ -136,7 +136,7 @@ module _ (ws ar : List ℕ) (t parent : ℕ) (k : List ℕ) (c : Stored) (tidy :
   unfolding meaning
   meaning_made =
       builder_same (made_arena ws ar t parent k c) (made.made_four ws ar t parent k c tidy few room)
-      (tables_same ws m.words (made.made_table-word ws ar t parent k c tidy few room) tidy.valid-memory.tables) items_made
+      (tables_same ws m.words (made.made_table_word ws ar t parent k c tidy few room) tidy.valid-memory.tables) items_made
 
 -- ---- an item written again
 
@@ -159,4 +159,4 @@ module _ (ws ar : List ℕ) (i : ℕ) (c : Stored) (tidy : Tidy ws ar) (there : 
   unfolding meaning
   meaning_replaced =
       builder_same (old.old_arena ws ar i c tidy there room) (old.old_four ws ar i c tidy there room)
-      (tables_same ws n.words (old.old_table-word ws ar i c tidy there room) tidy.valid-memory.tables) items_replaced
+      (tables_same ws n.words (old.old_table_word ws ar i c tidy there room) tidy.valid-memory.tables) items_replaced

@@ -49,8 +49,8 @@ module _ (ws ar : List ℕ) (t parent : ℕ) (k : List ℕ) (c : Stored) (tidy :
   pub made_four : room_used m.words ≡ room_used ws + length k + length c.value
   made_four = made_used ws ar t parent k c long few
 
-  pub made_table-word : (p : ℕ) → p < heads_from → (p ≡ 3 → ⊥) → (p ≡ 4 → ⊥) → word m.words p ≡ word ws p
-  made_table-word = made_low ws ar t parent k c long few
+  pub made_table_word : (p : ℕ) → p < heads_from → (p ≡ 3 → ⊥) → (p ≡ 4 → ⊥) → word m.words p ≡ word ws p
+  made_table_word = made_low ws ar t parent k c long few
 
   abbrev old : (at n : ℕ) → at + n ≤ room_used ws → part m.arena at n ≡ part ar at n
   old = old_part ws ar t parent k c
@@ -158,9 +158,9 @@ module _ (ws ar : List ℕ) (t parent : ℕ) (k : List ℕ) (c : Stored) (tidy :
       let s = tidy.valid-memory in
       let lw = made_length ws ar t parent k c in
       let la = made_arena ws ar t parent k c in
-      let w0 = made_table-word 0 (omega arith) (λ (e : 0 ≡ 3). omega arith) (λ (e : 0 ≡ 4). omega arith) in
-      let w1 = made_table-word 1 (omega arith) (λ (e : 1 ≡ 3). omega arith) (λ (e : 1 ≡ 4). omega arith) in
-      let w2 = made_table-word 2 (omega arith) (λ (e : 2 ≡ 3). omega arith) (λ (e : 2 ≡ 4). omega arith) in
+      let w0 = made_table_word 0 (omega arith) (λ (e : 0 ≡ 3). omega arith) (λ (e : 0 ≡ 4). omega arith) in
+      let w1 = made_table_word 1 (omega arith) (λ (e : 1 ≡ 3). omega arith) (λ (e : 1 ≡ 4). omega arith) in
+      let w2 = made_table_word 2 (omega arith) (λ (e : 2 ≡ 3). omega arith) (λ (e : 2 ≡ 4). omega arith) in
       let w3 = made_three in
       let w4 = made_four in
       record {

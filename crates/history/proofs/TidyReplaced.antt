@@ -67,8 +67,8 @@ module _ (ws ar : List ℕ) (i : ℕ) (c : Stored) (tidy : Tidy ws ar) (there : 
   behind : (p : ℕ) → item_at i + 10 ≤ p → word m.words p ≡ word ws p
   behind p l = let s = tidy.valid-memory in high p (omega arith) ∙ get_after ws (item_at i + 6) row p (omega arith)
 
-  pub old_table-word : (p : ℕ) → p < 264 → (p ≡ 3 → ⊥) → (p ≡ 4 → ⊥) → word m.words p ≡ word ws p
-  old_table-word p h n3 n4 = by_side (dec_lt p 3)
+  pub old_table_word : (p : ℕ) → p < 264 → (p ≡ 3 → ⊥) → (p ≡ 4 → ⊥) → word m.words p ≡ word ws p
+  old_table_word p h n3 n4 = by_side (dec_lt p 3)
     where
       by_side : Dec (p < 3) → word m.words p ≡ word ws p
       by_side (yes b) = low p b

@@ -117,17 +117,17 @@ step_byte a s (suc (suc (suc (suc j)))) h = absurd (omega (arith, sequence_below
 Passes : List ℕ → ℕ → Type 0
 Passes s k = ((j : ℕ) → j < k → get_or s j 0 < 256) → good_from k s ≡ length s → is_bytes s ≡ true
 
-passes-one_more : (b : ℕ) (s : List ℕ) → ((k : ℕ) → Passes s k) → (n : ℕ) → step_len (b ∷ s) ≡ n → one_more n (λ k. good_from k s) ≡ suc (length s) → is_bytes (b ∷ s) ≡ true
+passes_one_more : (b : ℕ) (s : List ℕ) → ((k : ℕ) → Passes s k) → (n : ℕ) → step_len (b ∷ s) ≡ n → one_more n (λ k. good_from k s) ≡ suc (length s) → is_bytes (b ∷ s) ≡ true
 unfolding one_more is_bytes Passes
-passes-one_more b s rest zero step good = absurd (omega arith)
-passes-one_more b s rest (suc k) step good =
+passes_one_more b s rest zero step good = absurd (omega arith)
+passes_one_more b s rest (suc k) step good =
     both_hold (lt-ltb b 256 (step_byte b s 0 (omega arith))) (rest k (λ j h. step_byte b s (suc j) (omega arith)) (omega arith))
 
 passes : (k : ℕ) (s : List ℕ) → Passes s k
 unfolding good_from is_bytes Passes
 passes k [] low good = refl
 passes (suc k) (b ∷ s) low good = both_hold (lt-ltb b 256 (low 0 (omega arith))) (passes k s (λ j h. low (suc j) (omega arith)) (omega arith))
-passes zero (b ∷ s) low good = passes-one_more b s (λ k. passes k s) (step_len (b ∷ s)) refl good
+passes zero (b ∷ s) low good = passes_one_more b s (λ k. passes k s) (step_len (b ∷ s)) refl good
 
 good_bytes : (s : List ℕ) → first_bad s ≡ length s → is_bytes s ≡ true
 unfolding first_bad Passes

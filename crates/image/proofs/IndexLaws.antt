@@ -94,10 +94,10 @@ module _ (rule : ℕ → ℕ) (table : Rows) where
       indices_descend (hashes_of rule table) j k less (omega (arith, length_hashes)) (item_bucket j (omega arith) ∙ same ∙ sym (item_bucket k l))
 
   -- so its key does not come behind
-  pub run-not_ascends : (j k : ℕ) → j < k → k < length table.members
+  pub run_not_ascends : (j k : ℕ) → j < k → k < length table.members
       → hash_by rule (table.key (item_of rule table j)) % length table.members ≡ hash_by rule (table.key (item_of rule table k)) % length table.members
       → precedes (table.key (item_of rule table j)) (table.key (item_of rule table k)) ≡ false
-  run-not_ascends j k less l same =
+  run_not_ascends j k less l same =
       rw (item_at_lem j (omega arith), item_at_lem k l)
       (ascends_at table (key_order table) (order_ascends table) (get_or (by_bucket (hashes_of rule table)) k 0) (get_or (by_bucket (hashes_of rule table)) j 0)
       (ranks_descend j k less l same) (omega (arith, length_order table, ranks_each.within j (omega arith))))
@@ -142,6 +142,6 @@ module _ (rule : ℕ → ℕ) (table : Rows) where
         by : (t : Bool) → precedes (table.key (item_of rule table k)) (table.key (item_of rule table j)) ≡ t → precedes (table.key (item_of rule table k)) (table.key (item_of rule table j)) ≡ true
         by true e = e
         by false e =
-            let equal : table.key (item_of rule table j) ≡ table.key (item_of rule table k) = total (table.key (item_of rule table j)) (table.key (item_of rule table k)) (run-not_ascends j k less l same) e in
+            let equal : table.key (item_of rule table j) ≡ table.key (item_of rule table k) = total (table.key (item_of rule table j)) (table.key (item_of rule table k)) (run_not_ascends j k less l same) e in
             let q : j ≡ k = item_once j k (omega arith) l (distinct (item_of rule table j) (item_of rule table k) (item_within j (omega arith)) (item_within k l) equal) in
             absurd (omega arith)

@@ -125,10 +125,10 @@ table_in_file manner file start end key e = subst (LookedFits file) e (table_loo
 -- ---- listing
 
 -- a value that is listed lies in the file
-pub listed-value_in_file : (file : List ℕ) (start end at : ℕ) {index from to : ℕ} {next : Cursor} → value_at file start end at ≡ Valued.Value index from to next
+pub listed_value_in_file : (file : List ℕ) (start end at : ℕ) {index from to : ℕ} {next : Cursor} → value_at file start end at ≡ Valued.Value index from to next
     → (from ≤ to) × (to ≤ length file)
 unfolding ValuedFits
-listed-value_in_file file start end at e = subst (ValuedFits file) e (valued_fits file start end at)
+listed_value_in_file file start end at e = subst (ValuedFits file) e (valued_fits file start end at)
 
 -- so does the fragment of a child that is listed
 pub child_in_file : (manner : Manner) (file : List ℕ) (start end : ℕ) (key : List ℕ) (at : ℕ) {index kind from to : ℕ} {next : Cursor}

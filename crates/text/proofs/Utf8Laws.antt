@@ -198,11 +198,11 @@ first_bad_within s = good_within 0 s
 Appends : List ℕ → List ℕ → ℕ → Type 0
 Appends a b k = k ≤ length a → good_from k a ≡ length a → good_from k (a ++ b) ≡ length a + first_bad b
 
-append-one_more : (x : ℕ) (a b : List ℕ) → ((k : ℕ) → Appends a b k) → (n : ℕ) → step_len (x ∷ a) ≡ n → one_more n (λ k. good_from k a) ≡ suc (length a)
+append_one_more : (x : ℕ) (a b : List ℕ) → ((k : ℕ) → Appends a b k) → (n : ℕ) → step_len (x ∷ a) ≡ n → one_more n (λ k. good_from k a) ≡ suc (length a)
     → one_more (step_len (x ∷ a ++ b)) (λ k. good_from k (a ++ b)) ≡ suc (length a) + first_bad b
 unfolding one_more Appends
-append-one_more x a b rest zero step e = absurd (omega arith)
-append-one_more x a b rest (suc k) step e =
+append_one_more x a b rest zero step e = absurd (omega arith)
+append_one_more x a b rest (suc k) step e =
     rw (step_append (x ∷ a) b k step) (omega (arith, rest k (omega (arith, step_within (x ∷ a))) (omega arith)))
 
 good_append : (k : ℕ) (a b : List ℕ) → Appends a b k
@@ -210,7 +210,7 @@ unfolding good_from first_bad Appends
 good_append zero [] b h e = omega arith
 good_append (suc k) [] b h e = absurd (omega arith)
 good_append (suc k) (x ∷ a) b h e = omega (arith, good_append k a b (omega arith) (omega arith))
-good_append zero (x ∷ a) b h e = append-one_more x a b (λ k. good_append k a b) (step_len (x ∷ a)) refl e
+good_append zero (x ∷ a) b h e = append_one_more x a b (λ k. good_append k a b) (step_len (x ∷ a)) refl e
 
 pub first_bad-append : (a b : List ℕ) → first_bad a ≡ length a → first_bad (a ++ b) ≡ length a + first_bad b
 unfolding first_bad Appends

@@ -22,7 +22,7 @@ use Rattle.read_listing.specs.declared.listing.Valued.{Valued}
 use Rattle.read_listing.specs.declared.listing.Cursor.{Cursor}
 use Rattle.read_listing.specs.declared.children.Childed.{Childed}
 use Rattle.read.specs.Lookup.{lookup_item, lookup_table, at_item, nested_of, at_nested}
-use Rattle.read_listing.proofs.Plain.{value_in_file, listed-value_in_file, child_in_file}
+use Rattle.read_listing.proofs.Plain.{value_in_file, listed_value_in_file, child_in_file}
 use Rattle.view.specs.declared.table.TableView.{TableView}
 use Rattle.view.specs.declared.table.OpenedView.{OpenedView}
 use Rattle.view.specs.declared.table.ValueView.{ValueView}
@@ -72,7 +72,7 @@ module _ (t : TableView) (at : ℕ) (r : ListedView) (said : ListedOf t at r) wh
   pub listed_seen : {index from to : ℕ} {next : Cursor} → r.answer ≡ Valued.Value index from to next
       → Viewed t.file r.bytes from (take (to - from) (drop from t.file.now))
   listed_seen {from = from} {to = to} e =
-      seen _ _ _ _ from to (ap listed_start e) (ap listed_end e) (listed-value_in_file t.file.now t.start t.end at (sym said.answered ∙ e)) said.viewed
+      seen _ _ _ _ from to (ap listed_start e) (ap listed_end e) (listed_value_in_file t.file.now t.start t.end at (sym said.answered ∙ e)) said.viewed
 
   pub listed_unopened : {why : Refusal} {index : ℕ} {next : Cursor} → r.answer ≡ Valued.Unopened why index next → Viewed t.file r.bytes 0 []
   listed_unopened e = none _ _ _ _ (ap listed_start e) (ap listed_end e) said.viewed

@@ -152,10 +152,10 @@ joined_fits lists b (suc n) h =
     (eq-or-lt_of_le (le_of_suc-le-suc h))
 
 module _ (hashes : List ℕ) where
-  pub joined-runs_below : (b : ℕ) → joined (λ (d : ℕ). run hashes d (length hashes)) b ≡ runs_below hashes b
+  pub joined_runs_below : (b : ℕ) → joined (λ (d : ℕ). run hashes d (length hashes)) b ≡ runs_below hashes b
   unfolding joined runs_below
-  joined-runs_below zero = refl
-  joined-runs_below (suc b) = ap (λ (l : List ℕ). l ++ run hashes b (length hashes)) (joined-runs_below b)
+  joined_runs_below zero = refl
+  joined_runs_below (suc b) = ap (λ (l : List ℕ). l ++ run hashes b (length hashes)) (joined_runs_below b)
 
   -- the chains of the runs
   pub run_chains : (heads links : List ℕ) → Chained hashes (length hashes) heads links → EmptyFrom (length hashes) links
@@ -172,7 +172,7 @@ module _ (hashes : List ℕ) where
         (λ less. absurd (omega (arith, none (bucket_of hashes x) (bucket_within hashes x less), times-run hashes x (length hashes) less)))
         (λ ge. e x ge l)
         (lt_or_ge x (length hashes));
-    few = rw (joined-runs_below (length hashes)) (start-most hashes (length hashes));
+    few = rw (joined_runs_below (length hashes)) (start-most hashes (length hashes));
   }
 
   -- ---- the bucket words

@@ -10,7 +10,7 @@ use Rattle.layout.specs.Limits.{most_items}
 use Rattle.image.specs.Index.{run, by_bucket, bucket_start}
 use Rattle.write_order.specs.Fall.{joined}
 use Rattle.write_order.specs.Chain.{Indexed, starts}
-use Rattle.write_order.proofs.ChainLaws.{empty_fresh, empty_same, run_chains, joined-runs_below, starts_of}
+use Rattle.write_order.proofs.ChainLaws.{empty_fresh, empty_same, run_chains, joined_runs_below, starts_of}
 use Rattle.write_order.proofs.buckets.index_by_bucket.Goals as goal
 
 module _ (hashes : List ℕ) where
@@ -22,8 +22,8 @@ module _ (hashes : List ℕ) where
       → (order' ≡ put_at order 0 (by_bucket hashes)) × (firsts' ≡ put_at firsts 0 (starts hashes))
   unfolding by_bucket bucket_start
   runs-indexed x = (
-    rw (joined-runs_below hashes (length hashes)) at x.order_is,
-    rw (starts_of hashes (λ (b : ℕ). length (joined runs b)) (λ b. ap length (joined-runs_below hashes b))) at x.firsts_is,
+    rw (joined_runs_below hashes (length hashes)) at x.order_is,
+    rw (starts_of hashes (λ (b : ℕ). length (joined runs b)) (λ b. ap length (joined_runs_below hashes b))) at x.firsts_is,
   )
 
 pub chain_all-requires : goal.chain_all-requires
