@@ -67,7 +67,7 @@ fn laid(list: &[u8], r: Record, said: GvdbImage, image: &[u8]) -> bool {
 
 // The table, its root pointer and its image.
 fn write(list: &[u8], r: Record, words: &mut [usize], arena: &[u8]) -> bool {
-    let mut image = io::large_buffer();
+    let mut image = [0u8; 65536];
     let said = gvdb_write(words, arena, r.one, &mut image, 0, 0);
     laid(list, r, said, &image)
 }

@@ -1,15 +1,19 @@
 // Replays fixed lists of questions with gvdb-rs's answers (data/oracle-*.list, made by tests/replay-list) and says for each kind of question how many answers are
 // equal. Then lists that show that it can say otherwise: one with wrong answers, one cut short, one with an unknown kind. What it writes is held to the file stdout.
+#![tactic(auto)]
+
+use std::io;
+
 mod building;
 mod list;
 mod reading;
 mod tally;
 mod walk;
 
-fn main() {
-    walk::replay(b"oracle-1.list");
-    walk::replay(b"oracle-2.list");
-    walk::replay(b"wrong.list");
-    walk::replay(b"cut.list");
-    walk::replay(b"unknown.list");
+fn main(rt: HostRuntime) -> io::Result<()> {
+    walk::replay(&rt, "oracle-1.list")?;
+    walk::replay(&rt, "oracle-2.list")?;
+    walk::replay(&rt, "wrong.list")?;
+    walk::replay(&rt, "cut.list")?;
+    walk::replay(&rt, "unknown.list")
 }

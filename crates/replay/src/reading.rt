@@ -31,7 +31,7 @@ fn get_table(list: &[u8], file: &[u8], r: Record) -> bool {
 
 // Position and next position; the key is the second string.
 fn next_key(list: &[u8], file: &[u8], r: Record) -> bool {
-    let mut out = io::buffer();
+    let mut out = [0u8; 4096];
     let said = gvdb_next_key(file, r.start, r.end, word_size(r.one), &mut out);
     let same = same_bytes(part_of(&out, 0, said.length), list::bytes(list, r.second));
     same & (said.number == r.number) & (said.next == word_size(r.two))

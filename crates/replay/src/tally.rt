@@ -1,9 +1,8 @@
 // For each kind three numbers: how many answers were equal, how many differ, and where the first record that differs stands.
 use crate::list;
+use std::io;
 use std::num::wrapping_add_usize;
 use words::wide::word_size;
-
-const OUT: i32 = 1;
 
 // A number of the tally; 0 where there is none.
 fn entry(tally: &[usize], at: usize) -> usize {
@@ -47,46 +46,43 @@ pub fn count(tally: &mut [usize], kind: u32, same: bool, place: usize) {
     }
 }
 
-fn number(n: usize) {
-    io::print_decimal(OUT, n as u64);
+fn number(rt: &impl Print, n: usize) -> io::Result<()> {
+    print!(rt; "{n}")
 }
 
-fn line(name: &[u8], equal: usize, differ: usize, place: usize) {
-    io::write_all(OUT, name);
-    number(equal);
-    io::write_all(OUT, b" equal, ");
-    number(differ);
-    io::write_all(OUT, b" differ");
+fn line(rt: &impl Print, name: &str, equal: usize, differ: usize, place: usize) -> io::Result<()> {
+    print!(rt; "{name} {equal} equal, {differ} differ")?;
     if 0 < differ {
-        io::write_all(OUT, b", the first at ");
-        number(place);
+        print!(rt; ", the first at ")?;
+        number(rt, place)?;
     }
-    io::write_all(OUT, b"\n");
+    println!(rt;)
 }
 
-fn told(tally: &[usize], kind: u32, name: &[u8]) {
+fn told(rt: &impl Print, tally: &[usize], kind: u32, name: &str) -> io::Result<()> {
     let at = 3 * word_size(kind);
     let equal = entry(tally, at);
     let differ = entry(tally, at + 1);
     let none = (equal == 0) & (differ == 0);
     if !none {
-        line(name, equal, differ, entry(tally, at + 2));
+        line(rt, name, equal, differ, entry(tally, at + 2))?;
     }
+    Ok(())
 }
 
 // A line for each kind of question that was asked; a file is none.
-pub fn report(tally: &[usize]) {
-    told(tally, list::OPEN, b"open ");
-    told(tally, list::GET, b"get ");
-    told(tally, list::GET_TABLE, b"get_table ");
-    told(tally, list::NEXT_KEY, b"next_key ");
-    told(tally, list::NEXT_VALUE, b"next_value ");
-    told(tally, list::HASH, b"djb_hash ");
-    told(tally, list::FIRST_BAD, b"first_bad ");
-    told(tally, list::FRESH, b"fresh ");
-    told(tally, list::NEW_TABLE, b"new_table ");
-    told(tally, list::INSERT, b"insert ");
-    told(tally, list::INSERT_TABLE, b"insert_table ");
-    told(tally, list::ITEM_COUNT, b"item_count ");
-    told(tally, list::WRITE, b"write ");
+pub fn report(rt: &impl Print, tally: &[usize]) -> io::Result<()> {
+    told(rt, tally, list::OPEN, "open")?;
+    told(rt, tally, list::GET, "get")?;
+    told(rt, tally, list::GET_TABLE, "get_table")?;
+    told(rt, tally, list::NEXT_KEY, "next_key")?;
+    told(rt, tally, list::NEXT_VALUE, "next_value")?;
+    told(rt, tally, list::HASH, "djb_hash")?;
+    told(rt, tally, list::FIRST_BAD, "first_bad")?;
+    told(rt, tally, list::FRESH, "fresh")?;
+    told(rt, tally, list::NEW_TABLE, "new_table")?;
+    told(rt, tally, list::INSERT, "insert")?;
+    told(rt, tally, list::INSERT_TABLE, "insert_table")?;
+    told(rt, tally, list::ITEM_COUNT, "item_count")?;
+    told(rt, tally, list::WRITE, "write")
 }

@@ -1,8 +1,14 @@
 // A walk over a list, record by record.
 use crate::list::{Record, Span};
 use crate::{building, list, reading, tally};
+use std::alloc::{AllocError, Global};
+use std::fs::File;
+use std::io;
+use std::io::Read;
+use std::rt::Files;
 
-const OUT: i32 = 1;
+// At most so many bytes of a list are read.
+const MOST: usize = 1048576;
 
 // A file's bytes are the second string of its record, and an image is a file too.
 fn latest(r: Record, file: Span) -> Span {
@@ -58,32 +64,29 @@ fn room_of_words() -> [usize; 14600] {
     [7usize; 14600]
 }
 
-fn room_of_list() -> [u8; 1048576] {
-    [0u8; 1048576]
+fn room_of_list(alloc: Global) -> Result<Vec<u8>, AllocError> {
+    Vec::with_capacity(alloc, MOST)
 }
 
-fn run(list: &[u8]) {
+fn run(rt: &impl Print, list: &[u8]) -> io::Result<()> {
     let mut words = room_of_words();
-    let mut arena = io::large_buffer();
+    let mut arena = [0u8; 65536];
     let mut counts = [0usize; 42];
     let stopped = walk(list, &mut words, &mut arena, &mut counts);
-    tally::report(&counts);
+    tally::report(rt, &counts)?;
     if stopped < list.len() {
-        io::write_all(OUT, b"bad list at ");
-        io::print_decimal(OUT, stopped as u64);
-        io::write_all(OUT, b"\n");
+        println!(rt; "bad list at {stopped}")?;
     }
+    Ok(())
 }
 
 // A list of data/, of at most 1 MiB; of a longer one that much.
-pub fn replay(name: &[u8]) {
-    let mut space = room_of_list();
-    let from = os::open_read(name);
-    let size = io::read_full(from, &mut space);
-    libc::close(from);
-    io::write_all(OUT, name);
-    io::write_all(OUT, b", ");
-    io::print_decimal(OUT, size as u64);
-    io::write_all(OUT, b" bytes\n");
-    run(&space[..size]);
+pub fn replay(rt: &(impl Files + Print + AllocGlobal), name: &str) -> io::Result<()> {
+    let mut list = room_of_list(rt.alloc())?;
+    File::open(rt, name)?
+        .take(MOST as u64)
+        .read_to_end(&mut list)?;
+    let size = list.len();
+    println!(rt; "{name}, {size} bytes")?;
+    run(rt, list.as_slice())
 }

@@ -1,51 +1,49 @@
 // Words and numbers on standard output.
-const OUT: i32 = 1;
+#![tactic(auto)]
 
-pub fn text(s: &[u8]) {
-    io::write_all(OUT, s);
+use std::io;
+
+pub fn text(rt: &impl Print, s: &[u8]) -> io::Result<()> {
+    rt.write_all(s)
 }
 
 // The first bytes of a slice.
-pub fn front(s: &[u8], size: usize) {
+pub fn front(rt: &impl Print, s: &[u8], size: usize) -> io::Result<()> {
     if size <= s.len() {
-        io::write_all(OUT, &s[..size]);
+        rt.write_all(&s[..size])?;
     }
+    Ok(())
 }
 
-pub fn number(n: u64) {
-    io::print_decimal(OUT, n);
+pub fn number(rt: &impl Print, n: u64) -> io::Result<()> {
+    print!(rt; "{n}")
 }
 
-pub fn size(n: usize) {
-    io::print_decimal(OUT, n as u64);
+pub fn size(rt: &impl Print, n: usize) -> io::Result<()> {
+    print!(rt; "{n}")
 }
 
-pub fn end() {
-    io::write_all(OUT, b"\n");
+pub fn end(rt: &impl Print) -> io::Result<()> {
+    println!(rt;)
 }
 
 // The bytes in hexadecimal, and a space.
-pub fn bytes(s: &[u8]) {
-    let mut i = 0;
-    while i < s.len() {
-        io::print_hex(OUT, words::wide::byte_size(s[i]) as u64, 2);
-        io::write_all(OUT, b" ");
-        i += 1;
+pub fn bytes(rt: &impl Print, s: &[u8]) -> io::Result<()> {
+    for b in s {
+        print!(rt; "{b:02x} ")?;
     }
+    Ok(())
 }
 
 // A pointer: its start and its end.
-pub fn place(start: u32, end: u32) {
-    io::write_all(OUT, b" ");
-    io::print_decimal(OUT, start as u64);
-    io::write_all(OUT, b" to ");
-    io::print_decimal(OUT, end as u64);
+pub fn place(rt: &impl Print, start: u32, end: u32) -> io::Result<()> {
+    print!(rt; " {start} to {end}")
 }
 
-pub fn yes_no(b: bool) {
+pub fn yes_no(rt: &impl Print, b: bool) -> io::Result<()> {
     if b {
-        io::write_all(OUT, b"yes");
+        print!(rt; "yes")
     } else {
-        io::write_all(OUT, b"no");
+        print!(rt; "no")
     }
 }

@@ -1,5 +1,5 @@
 -- P1 to P12: every line of the table holds, by computation.
-use mathlib.Core.Path.{refl}
+use Rattle.std.proofs.Common.{refl}
 use Rattle.words.specs.Choice.{pick}
 use Rattle.key_hash.specs.Hash.{hash_from, hash_by}
 use Rattle.words.specs.Align.{aligned}

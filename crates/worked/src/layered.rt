@@ -1,19 +1,23 @@
 // A file of data/ over another: which of the two tables answers a key, what it answers, and the value's bytes as a view shows them.
+use crate::data_file;
 use key_hash::hash::Form;
 use read::layered::{Source, lookup_layered};
 use read_find::manner::{Lookup, Manner};
+use std::io;
+use std::rt::Files;
 use view_layered::layered::layered_bytes;
 use words::field::word_at;
 
-fn source(from: Source) {
+fn source(rt: &impl Print, from: Source) -> io::Result<()> {
     match from {
-        Source::Owner => say::text(b"the owner's:"),
-        Source::District => say::text(b"the district's:"),
+        Source::Owner => print!(rt; "the owner's:"),
+        Source::District => print!(rt; "the district's:"),
     }
 }
 
 // A key looked up in the owner's table, and in the district's under it.
 fn lookup<'a, 'k>(
+    rt: &impl Print,
     owner: &'a [u8],
     ostart: u32,
     oend: u32,
@@ -21,7 +25,7 @@ fn lookup<'a, 'k>(
     dstart: u32,
     dend: u32,
     key: &'k [u8],
-) {
+) -> io::Result<()> {
     let base = Manner {
         form: Form::Plain,
         lookup: Lookup::Rust,
@@ -29,72 +33,73 @@ fn lookup<'a, 'k>(
     let layered = lookup_layered(owner, ostart, oend, district, dstart, dend, key, base, base);
     let from = layered.from;
     let looked = layered.looked;
-    say::text(b"  lookup of ");
-    say::bytes(key);
-    say::text(b"in ");
-    source(from);
-    crate::tour::looked(looked);
-    say::text(b"; view ");
-    say::bytes(layered_bytes(owner, ostart, oend, district, dstart, dend, key, base, base));
-    say::end();
+    print!(rt; "  lookup of ")?;
+    say::bytes(rt, key)?;
+    print!(rt; "in ")?;
+    source(rt, from)?;
+    crate::tour::looked(rt, looked)?;
+    print!(rt; "; view ")?;
+    say::bytes(
+        rt,
+        layered_bytes(owner, ostart, oend, district, dstart, dend, key, base, base),
+    )?;
+    say::end(rt)
 }
 
 fn lookups<'a>(
+    rt: &impl Print,
     owner: &'a [u8],
     ostart: u32,
     oend: u32,
     district: &'a [u8],
     dstart: u32,
     dend: u32,
-) {
-    lookup(owner, ostart, oend, district, dstart, dend, b"a");
-    lookup(owner, ostart, oend, district, dstart, dend, b"a/");
-    lookup(owner, ostart, oend, district, dstart, dend, b"a/b");
-    lookup(owner, ostart, oend, district, dstart, dend, b"b");
-    lookup(owner, ostart, oend, district, dstart, dend, b"\xc3");
+) -> io::Result<()> {
+    lookup(rt, owner, ostart, oend, district, dstart, dend, b"a")?;
+    lookup(rt, owner, ostart, oend, district, dstart, dend, b"a/")?;
+    lookup(rt, owner, ostart, oend, district, dstart, dend, b"a/b")?;
+    lookup(rt, owner, ostart, oend, district, dstart, dend, b"b")?;
+    lookup(rt, owner, ostart, oend, district, dstart, dend, b"\xc3")
 }
 
-fn title(name: &[u8], over: &[u8], other: &[u8]) {
-    say::text(name);
-    say::text(over);
-    say::text(other);
-    say::end();
+fn title(rt: &impl Print, name: &str, over: &str, other: &str) -> io::Result<()> {
+    println!(rt; "{name}{over}{other}")
 }
 
 // A file over another, and over no more than the other's header, whose pointer then leads outside.
-fn over<'a, 'n, 'o>(name: &'n [u8], owner: &'a [u8], other: &'o [u8], district: &'a [u8]) {
+fn over<'a, 'n, 'o>(
+    rt: &impl Print,
+    name: &'n str,
+    owner: &'a [u8],
+    other: &'o str,
+    district: &'a [u8],
+) -> io::Result<()> {
     if owner.len() < 24 {
-        return;
+        return Ok(());
     }
     if district.len() < 24 {
-        return;
+        return Ok(());
     }
     let ostart = word_at(owner, 16);
     let oend = word_at(owner, 20);
     let dstart = word_at(district, 16);
     let dend = word_at(district, 20);
-    title(name, b" over ", other);
-    lookups(owner, ostart, oend, district, dstart, dend);
-    title(name, b" over the header of ", other);
+    title(rt, name, " over ", other)?;
+    lookups(rt, owner, ostart, oend, district, dstart, dend)?;
+    title(rt, name, " over the header of ", other)?;
     let header = view_part::part::stretch(district, 0, 24);
-    lookups(owner, ostart, oend, header, dstart, dend);
+    lookups(rt, owner, ostart, oend, header, dstart, dend)
 }
 
 // Two files of data/.
-fn pair(name: &[u8], other: &[u8]) {
-    let mut above = io::buffer();
-    let from = os::open_read(name);
-    let size = io::read_full(from, &mut above);
-    libc::close(from);
-    let mut below = io::buffer();
-    let from = os::open_read(other);
-    let room = io::read_full(from, &mut below);
-    libc::close(from);
-    over(name, &above[..size], other, &below[..room]);
+fn pair(rt: &(impl Files + Print + AllocGlobal), name: &str, other: &str) -> io::Result<()> {
+    let above = data_file::read(rt, name)?;
+    let below = data_file::read(rt, other)?;
+    over(rt, name, above.as_slice(), other, below.as_slice())
 }
 
-pub fn files() {
-    pair(b"one.gvdb", b"two.gvdb");
-    pair(b"two.gvdb", b"one.gvdb");
-    pair(b"nested.gvdb", b"one.gvdb");
+pub fn files(rt: &(impl Files + Print + AllocGlobal)) -> io::Result<()> {
+    pair(rt, "one.gvdb", "two.gvdb")?;
+    pair(rt, "two.gvdb", "one.gvdb")?;
+    pair(rt, "nested.gvdb", "one.gvdb")
 }

@@ -1,5 +1,10 @@
 // Document 01's worked numbers as the code answers them, small files read by every call, and the boundary cases of UTF-8 and of opening. What it writes is held to the
 // file stdout.
+#![tactic(auto)]
+
+use std::io;
+
+mod data_file;
 mod header;
 mod layered;
 mod open;
@@ -8,17 +13,17 @@ mod small;
 mod tour;
 mod utf8;
 
-fn main() {
-    small::hashes();
-    small::alignments();
-    small::blooms();
-    small::prefixes();
-    small::orders();
-    utf8::sequences();
-    open::pointers();
-    open::tables();
-    header::headers();
-    tour::files();
-    seen::files();
-    layered::files();
+fn main(rt: HostRuntime) -> io::Result<()> {
+    small::hashes(&rt)?;
+    small::alignments(&rt)?;
+    small::blooms(&rt)?;
+    small::prefixes(&rt)?;
+    small::orders(&rt)?;
+    utf8::sequences(&rt)?;
+    open::pointers(&rt)?;
+    open::tables(&rt)?;
+    header::headers(&rt)?;
+    tour::files(&rt)?;
+    seen::files(&rt)?;
+    layered::files(&rt)
 }

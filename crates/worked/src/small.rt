@@ -1,114 +1,106 @@
 // P1 to P12, and the order of keys.
+use std::io;
 use words::align::Alignment;
 
-fn hash(key: &[u8]) {
-    say::text(b"hash \"");
-    say::text(key);
-    say::text(b"\" ");
-    say::number(key_hash::hash::djb_hash(key) as u64);
-    say::end();
+fn hash(rt: &impl Print, key: &[u8]) -> io::Result<()> {
+    print!(rt; "hash \"")?;
+    say::text(rt, key)?;
+    println!(rt; "\" {}", key_hash::hash::djb_hash(key))
 }
 
 // P1 to P5.
-pub fn hashes() {
-    hash(b"");
-    hash(b"a");
-    hash(b"a/");
-    hash(b"a/b");
-    hash(b"a/bc");
-    hash(b"\xc3\xa9");
+pub fn hashes(rt: &impl Print) -> io::Result<()> {
+    hash(rt, b"")?;
+    hash(rt, b"a")?;
+    hash(rt, b"a/")?;
+    hash(rt, b"a/b")?;
+    hash(rt, b"a/bc")?;
+    hash(rt, b"\xc3\xa9")
 }
 
-fn align(offset: usize) {
+fn align(rt: &impl Print, offset: usize) -> io::Result<()> {
     if offset < 1000 {
-        say::text(b"align ");
-        say::size(offset);
-        say::text(b" to 1, 4, 8: ");
-        say::size(words::align::align_offset(offset, Alignment::Key));
-        say::text(b" ");
-        say::size(words::align::align_offset(offset, Alignment::Table));
-        say::text(b" ");
-        say::size(words::align::align_offset(offset, Alignment::Value));
-        say::end();
+        print!(rt; "align {offset} to 1, 4, 8: ")?;
+        say::size(rt, words::align::align_offset(offset, Alignment::Key))?;
+        print!(rt; " ")?;
+        say::size(rt, words::align::align_offset(offset, Alignment::Table))?;
+        print!(rt; " ")?;
+        say::size(rt, words::align::align_offset(offset, Alignment::Value))?;
+        say::end(rt)?;
     }
+    Ok(())
 }
 
 // P6 to P8, and each remainder by 8.
-pub fn alignments() {
-    align(60);
-    align(89);
-    align(64);
-    let mut offset = 0;
-    while offset < 9 {
-        align(offset);
-        offset += 1;
+pub fn alignments(rt: &impl Print) -> io::Result<()> {
+    align(rt, 60)?;
+    align(rt, 89)?;
+    align(rt, 64)?;
+    for offset in 0..9 {
+        align(rt, offset)?;
     }
+    Ok(())
 }
 
-fn bloom(first: u32) {
-    say::text(b"first word ");
-    say::number(first as u64);
-    say::text(b": bloom words ");
-    say::number(words::bits::bloom_count(first) as u64);
-    say::text(b", shift ");
-    say::number(words::bits::bloom_shift(first) as u64);
-    say::end();
+fn bloom(rt: &impl Print, first: u32) -> io::Result<()> {
+    let count = words::bits::bloom_count(first);
+    let shift = words::bits::bloom_shift(first);
+    println!(rt; "first word {first}: bloom words {count}, shift {shift}")
 }
 
 // P9, and the edge between count and shift.
-pub fn blooms() {
-    bloom(0x2800_0000);
-    bloom(0x07FF_FFFF);
-    bloom(0x0800_0000);
-    bloom(0xFFFF_FFFF);
+pub fn blooms(rt: &impl Print) -> io::Result<()> {
+    bloom(rt, 0x2800_0000)?;
+    bloom(rt, 0x07FF_FFFF)?;
+    bloom(rt, 0x0800_0000)?;
+    bloom(rt, 0xFFFF_FFFF)
 }
 
-fn prefix(part: &[u8]) {
-    say::text(b" \"");
-    say::text(part);
-    say::text(b"\"");
+fn prefix(rt: &impl Print, part: &[u8]) -> io::Result<()> {
+    print!(rt; " \"")?;
+    say::text(rt, part)?;
+    print!(rt; "\"")
 }
 
-fn walk(key: &[u8], separator: usize) {
-    say::text(b"prefixes of \"");
-    say::text(key);
-    say::text(b"\":");
+fn walk(rt: &impl Print, key: &[u8], separator: usize) -> io::Result<()> {
+    print!(rt; "prefixes of \"")?;
+    say::text(rt, key)?;
+    print!(rt; "\":")?;
     let mut end = 0;
     loop {
         end = key_order::prefix::next_end(key, end, separator);
-        prefix(&key[..end]);
+        prefix(rt, &key[..end])?;
         if key.len() <= end {
-            say::end();
-            return;
+            return say::end(rt);
         }
     }
 }
 
 // P10 to P12, the empty key, and a table without separator.
-pub fn prefixes() {
-    walk(b"/a//b", 47);
-    walk(b"a/", 47);
-    walk(b"/", 47);
-    walk(b"", 47);
-    walk(b"/a//b", 256);
+pub fn prefixes(rt: &impl Print) -> io::Result<()> {
+    walk(rt, b"/a//b", 47)?;
+    walk(rt, b"a/", 47)?;
+    walk(rt, b"/", 47)?;
+    walk(rt, b"", 47)?;
+    walk(rt, b"/a//b", 256)
 }
 
-fn order(a: &[u8], b: &[u8]) {
-    say::text(b"\"");
-    say::text(a);
-    say::text(b"\" before \"");
-    say::text(b);
-    say::text(b"\": ");
-    say::yes_no(key_order::keyorder::less(a, b));
-    say::end();
+fn order(rt: &impl Print, a: &[u8], b: &[u8]) -> io::Result<()> {
+    print!(rt; "\"")?;
+    say::text(rt, a)?;
+    print!(rt; "\" before \"")?;
+    say::text(rt, b)?;
+    print!(rt; "\": ")?;
+    say::yes_no(rt, key_order::keyorder::less(a, b))?;
+    say::end(rt)
 }
 
-pub fn orders() {
-    order(b"", b"a");
-    order(b"a", b"");
-    order(b"a", b"a");
-    order(b"a", b"a/");
-    order(b"a/", b"a");
-    order(b"ab", b"b");
-    order(b"Z", b"a");
+pub fn orders(rt: &impl Print) -> io::Result<()> {
+    order(rt, b"", b"a")?;
+    order(rt, b"a", b"")?;
+    order(rt, b"a", b"a")?;
+    order(rt, b"a", b"a/")?;
+    order(rt, b"a/", b"a")?;
+    order(rt, b"ab", b"b")?;
+    order(rt, b"Z", b"a")
 }

@@ -1,47 +1,45 @@
 // A walk through each file of data/: what its root table opens as, its keys and values as they list, and what lookups answer.
+use crate::data_file;
 use check_rules::checked::Checked;
 use key_hash::hash::Form;
 use layout::refusal::{Refusal, bad_at, number_of};
 use read::lookup::Looked;
 use read_find::manner::{Lookup, Manner};
 use read_listing::listing::{Cursor, Listed, Valued};
+use std::io;
+use std::rt::Files;
 
 // A refusal's number; with 8 and 9 where the text is bad.
-fn refusal(why: Refusal) {
+fn refusal(rt: &impl Print, why: Refusal) -> io::Result<()> {
     let number = number_of(why);
-    say::number(number as u64);
+    print!(rt; "{number}")?;
     if (number == 8) | (number == 9) {
-        say::text(b" at ");
-        say::size(bad_at(why));
+        print!(rt; " at {}", bad_at(why))?;
     }
+    Ok(())
 }
 
 // Lists the key at a position into a buffer of 64 bytes that held dots.
-fn key(file: &[u8], start: u32, end: u32, at: usize) {
+fn key(rt: &impl Print, file: &[u8], start: u32, end: u32, at: usize) -> io::Result<()> {
     let mut out = [b'.'; 64];
-    say::text(b"  key ");
-    say::size(at);
-    say::text(b": ");
+    print!(rt; "  key {at}: ")?;
     match (Cursor { at }).next_key(file, start, end, &mut out) {
         Listed::Key { size, next } => {
-            say::text(b"\"");
-            say::front(&out, size);
-            say::text(b"\", next ");
-            say::size(next.at);
+            print!(rt; "\"")?;
+            say::front(rt, &out, size)?;
+            print!(rt; "\", next {}", next.at)?;
         }
-        Listed::Refused(why) => refusal(why),
+        Listed::Refused(why) => refusal(rt, why)?,
     }
     if out[63] != b'.' {
-        say::text(b", written to its end");
+        print!(rt; ", written to its end")?;
     }
-    say::end();
+    say::end(rt)
 }
 
 // The value at or after a position.
-fn value(file: &[u8], start: u32, end: u32, at: usize) {
-    say::text(b"  value from ");
-    say::size(at);
-    say::text(b": ");
+fn value(rt: &impl Print, file: &[u8], start: u32, end: u32, at: usize) -> io::Result<()> {
+    print!(rt; "  value from {at}: ")?;
     match (Cursor { at }).next_value(file, start, end) {
         Valued::Value {
             index,
@@ -49,152 +47,146 @@ fn value(file: &[u8], start: u32, end: u32, at: usize) {
             end,
             next,
         } => {
-            say::text(b"item ");
-            say::size(index);
-            say::place(start, end);
-            say::text(b", next ");
-            say::size(next.at);
+            print!(rt; "item {index}")?;
+            say::place(rt, start, end)?;
+            print!(rt; ", next {}", next.at)?;
         }
         Valued::Unopened { why, index, next } => {
-            say::number(number_of(why) as u64);
-            say::text(b" at item ");
-            say::size(index);
-            say::text(b", next ");
-            say::size(next.at);
+            let number = number_of(why);
+            print!(rt; "{number} at item {index}, next {}", next.at)?;
         }
-        Valued::Refused(why) => say::number(number_of(why) as u64),
+        Valued::Refused(why) => say::number(rt, number_of(why) as u64)?,
     }
-    say::end();
+    say::end(rt)
 }
 
 // What a lookup answers.
-pub fn looked(answer: Looked) {
+pub fn looked(rt: &impl Print, answer: Looked) -> io::Result<()> {
     match answer {
-        Looked::Pointer { start, end } => say::place(start, end),
+        Looked::Pointer { start, end } => say::place(rt, start, end),
         Looked::Refused(why) => {
-            say::text(b" ");
-            refusal(why);
+            print!(rt; " ")?;
+            refusal(rt, why)
         }
     }
 }
 
 // A key looked up as a value and as a table.
-fn lookup(file: &[u8], start: u32, end: u32, key: &[u8]) {
-    say::text(b"  lookup of ");
-    say::bytes(key);
-    say::text(b"as a value:");
+fn lookup(rt: &impl Print, file: &[u8], start: u32, end: u32, key: &[u8]) -> io::Result<()> {
+    print!(rt; "  lookup of ")?;
+    say::bytes(rt, key)?;
+    print!(rt; "as a value:")?;
     let base = Manner {
         form: Form::Plain,
         lookup: Lookup::Rust,
     };
-    looked(read::lookup::lookup_value(file, start, end, key, base));
-    say::text(b"; as a table:");
-    looked(read::lookup::lookup_table(file, start, end, key, base));
-    say::end();
+    looked(rt, read::lookup::lookup_value(file, start, end, key, base))?;
+    print!(rt; "; as a table:")?;
+    looked(rt, read::lookup::lookup_table(file, start, end, key, base))?;
+    say::end(rt)
 }
 
 // What the check says of the root table.
-fn check(file: &[u8], start: u32, end: u32) {
-    say::text(b"  check: ");
+fn check(rt: &impl Print, file: &[u8], start: u32, end: u32) -> io::Result<()> {
+    print!(rt; "  check: ")?;
     let base = Manner {
         form: Form::Plain,
         lookup: Lookup::Rust,
     };
     match check_table::check::check_table(file, start, end, base) {
-        Checked::Sound => say::text(b"sound"),
-        Checked::Broken { rule, item } => {
-            say::text(b"rule ");
-            say::number(rule as u64);
-            say::text(b" broken by item ");
-            say::size(item);
-        }
+        Checked::Sound => print!(rt; "sound")?,
+        Checked::Broken { rule, item } => print!(rt; "rule {rule} broken by item {item}")?,
         Checked::Unlisted { why, item } => {
-            say::text(b"rule 1 broken by item ");
-            say::size(item);
-            say::text(b": ");
-            refusal(why);
+            print!(rt; "rule 1 broken by item {item}: ")?;
+            refusal(rt, why)?;
         }
-        Checked::Refused(why) => say::number(number_of(why) as u64),
+        Checked::Refused(why) => say::number(rt, number_of(why) as u64)?,
     }
-    say::end();
+    say::end(rt)
 }
 
-fn lookups(file: &[u8], start: u32, end: u32) {
-    lookup(file, start, end, b"");
-    lookup(file, start, end, b"a");
-    lookup(file, start, end, b"b");
-    lookup(file, start, end, b"a/");
-    lookup(file, start, end, b"a/b");
-    lookup(file, start, end, b"c/b");
-    lookup(file, start, end, b"\xc3");
-    lookup(file, start, end, b"caf\xe9");
+fn lookups(rt: &impl Print, file: &[u8], start: u32, end: u32) -> io::Result<()> {
+    lookup(rt, file, start, end, b"")?;
+    lookup(rt, file, start, end, b"a")?;
+    lookup(rt, file, start, end, b"b")?;
+    lookup(rt, file, start, end, b"a/")?;
+    lookup(rt, file, start, end, b"a/b")?;
+    lookup(rt, file, start, end, b"c/b")?;
+    lookup(rt, file, start, end, b"\xc3")?;
+    lookup(rt, file, start, end, b"caf\xe9")
 }
 
 // The keys of the nested tables made by hand, and those of the files that gvdb-rs laid.
-fn names(file: &[u8], start: u32, end: u32) {
-    lookup(file, start, end, b"two");
-    lookup(file, start, end, b"three");
-    lookup(file, start, end, b"four");
-    lookup(file, start, end, b"five");
-    lookup(file, start, end, b"six");
-    lookup(file, start, end, b"seven");
-    lookup(file, start, end, b"root_key");
-    lookup(file, start, end, b"string");
-    lookup(file, start, end, b"table");
-    lookup(file, start, end, b"/gvdb/rs/test/online-symbolic.svg");
+fn names(rt: &impl Print, file: &[u8], start: u32, end: u32) -> io::Result<()> {
+    lookup(rt, file, start, end, b"two")?;
+    lookup(rt, file, start, end, b"three")?;
+    lookup(rt, file, start, end, b"four")?;
+    lookup(rt, file, start, end, b"five")?;
+    lookup(rt, file, start, end, b"six")?;
+    lookup(rt, file, start, end, b"seven")?;
+    lookup(rt, file, start, end, b"root_key")?;
+    lookup(rt, file, start, end, b"string")?;
+    lookup(rt, file, start, end, b"table")?;
+    lookup(rt, file, start, end, b"/gvdb/rs/test/online-symbolic.svg")
 }
 
 // Every position, and the one past the last item.
-fn list(file: &[u8], start: u32, end: u32, items: usize) {
-    let mut at = 0;
-    while at < items {
-        key(file, start, end, at);
-        value(file, start, end, at);
-        at += 1;
+fn list(rt: &impl Print, file: &[u8], start: u32, end: u32, items: usize) -> io::Result<()> {
+    for at in 0..items {
+        key(rt, file, start, end, at)?;
+        value(rt, file, start, end, at)?;
     }
-    key(file, start, end, items);
-    value(file, start, end, items);
+    key(rt, file, start, end, items)?;
+    value(rt, file, start, end, items)
 }
 
 // A file of data/, whose header names its root table.
-fn file(name: &[u8], named: bool) {
-    say::text(name);
-    say::end();
-    let mut space = io::buffer();
-    let from = os::open_read(name);
-    let size = io::read_full(from, &mut space);
-    libc::close(from);
-    if 24 <= size {
-        let start = words::field::word_at(&space, 16);
-        let end = words::field::word_at(&space, 20);
-        let items = crate::open::table(&space[..size], start, end);
-        check(&space[..size], start, end);
-        list(&space[..size], start, end, items);
-        lookups(&space[..size], start, end);
+fn file(rt: &(impl Files + Print + AllocGlobal), name: &str, named: bool) -> io::Result<()> {
+    println!(rt; "{name}")?;
+    let bytes = data_file::read(rt, name)?;
+    let read = bytes.as_slice();
+    if 24 <= read.len() {
+        let start = words::field::word_at(read, 16);
+        let end = words::field::word_at(read, 20);
+        let items = crate::open::table(rt, read, start, end)?;
+        check(rt, read, start, end)?;
+        list(rt, read, start, end, items)?;
+        lookups(rt, read, start, end)?;
         if named {
-            names(&space[..size], start, end);
+            names(rt, read, start, end)?;
         }
     }
+    Ok(())
 }
 
-pub fn files() {
-    file(b"one.gvdb", false);
-    file(b"two.gvdb", false);
-    file(b"own_parent.gvdb", false);
-    file(b"refusals.gvdb", false);
-    file(b"bloom.gvdb", false);
-    file(b"runs.gvdb", false);
-    file(b"beyond.gvdb", false);
-    file(b"no_buckets.gvdb", false);
-    file(b"nested.gvdb", true);
-    file(b"rule_1.gvdb", false);
-    file(b"rule_2.gvdb", false);
-    file(b"rule_3.gvdb", false);
-    file(b"rule_4.gvdb", false);
-    file(b"rule_5.gvdb", false);
-    file(b"rule_6.gvdb", false);
-    file(b"gvdbrs-test1.gvdb", true);
-    file(b"gvdbrs-test2.gvdb", true);
-    file(b"gvdbrs-test3.gresource", true);
-    file(b"gvdbrs-test4.gvdb", true);
+// The files made by hand.
+fn made(rt: &(impl Files + Print + AllocGlobal)) -> io::Result<()> {
+    file(rt, "one.gvdb", false)?;
+    file(rt, "two.gvdb", false)?;
+    file(rt, "own_parent.gvdb", false)?;
+    file(rt, "refusals.gvdb", false)?;
+    file(rt, "bloom.gvdb", false)?;
+    file(rt, "runs.gvdb", false)?;
+    file(rt, "beyond.gvdb", false)?;
+    file(rt, "no_buckets.gvdb", false)?;
+    file(rt, "nested.gvdb", true)?;
+    file(rt, "rule_1.gvdb", false)?;
+    file(rt, "rule_2.gvdb", false)?;
+    file(rt, "rule_3.gvdb", false)?;
+    file(rt, "rule_4.gvdb", false)?;
+    file(rt, "rule_5.gvdb", false)?;
+    file(rt, "rule_6.gvdb", false)
+}
+
+// The files that gvdb-rs laid.
+fn laid(rt: &(impl Files + Print + AllocGlobal)) -> io::Result<()> {
+    file(rt, "gvdbrs-test1.gvdb", true)?;
+    file(rt, "gvdbrs-test2.gvdb", true)?;
+    file(rt, "gvdbrs-test3.gresource", true)?;
+    file(rt, "gvdbrs-test4.gvdb", true)
+}
+
+pub fn files(rt: &(impl Files + Print + AllocGlobal)) -> io::Result<()> {
+    made(rt)?;
+    laid(rt)
 }

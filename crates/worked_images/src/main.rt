@@ -1,9 +1,13 @@
 // Document 01's worked images and document 02's with filter words as the code lays them, and the limits from both sides. What it writes is held to the file
 // stdout.
+#![tactic(auto)]
+
+use std::io;
+
 mod filter;
 mod laid;
 
-fn main() {
-    laid::tables();
-    filter::tables();
+fn main(rt: HostRuntime) -> io::Result<()> {
+    laid::tables(&rt)?;
+    filter::tables(&rt)
 }
