@@ -13,7 +13,7 @@ use Rattle.layout.specs.declared.refusal.Refusal.TheVariants.{MemoryBroken, Tabl
 use Rattle.model.specs.declared.Inserted.{Inserted}
 use Rattle.layout.specs.Limits.{longest_key, deepest}
 use Rattle.layout.specs.Kind.{table_kind}
-use Rattle.build_memory.specs.Memory.{valid, Memory, Outcome, outcome}
+use Rattle.build_memory.specs.Memory.{valid, Memory, outcome}
 use Rattle.build_memory.specs.Item.{stored}
 use Rattle.build_tables.specs.Table.{free_standing}
 use Rattle.build_values.specs.Insert.{insert_below_path, keyed}

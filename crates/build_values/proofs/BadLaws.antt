@@ -1,14 +1,12 @@
 -- 8 comes with the offset at which the given key is bad.
 use Prim.Native.Nat.{ℕ}
 use mathlib.Core.Path.{◌≡◌, sym, ap, subst}
-use mathlib.Core.Logic.{◌↔◌}
 use mathlib.Core.List.{List}
 use mathlib.Core.Bool.{Bool, true, false}
 use native.Mathlib.Omega.{arith}
 use lib.ListN.{length}
 use Rattle.words.specs.Choice.{pick}
 use Rattle.words.proofs.ChoiceLaws.{pick_with}
-use Rattle.text.specs.Utf8.{is_utf8}
 use Rattle.text.specs.Bad.{BadText}
 use Rattle.text.proofs.BadLaws.{bad_text, bad_no_utf8}
 use Rattle.layout.specs.Kind.{value_kind}
@@ -16,7 +14,7 @@ use Rattle.layout.specs.Refusal.{number}
 use Rattle.layout.specs.declared.refusal.Refusal.{Refusal}
 use Rattle.layout.specs.declared.refusal.Refusal.TheVariants.{MemoryBroken, TableUnknown, KeyNotUtf8, KeyTooLong, NotContainer, TooManyItems, ArenaFull, NestedTooDeep}
 use Rattle.model.specs.declared.Inserted.{Inserted}
-use Rattle.build_memory.specs.Memory.{valid, Memory, Outcome, outcome}
+use Rattle.build_memory.specs.Memory.{valid, Outcome}
 use Rattle.build_memory.specs.Item.{Stored, stored}
 use Rattle.build_tables.specs.Table.{free_standing}
 use Rattle.build_values.specs.Insert.{refused, insert_new, overwrite, insert_or_replace, insert_below_path, keyed, insert_at_key, insert_value}

@@ -1,6 +1,6 @@
 -- An answer that is explained stays as it is, or is rule 1 of an item whose key is refused.
 use Prim.Native.Nat.{ℕ, zero, suc, ◌+◌}
-use mathlib.Core.Path.{◌≡◌, refl, sym, ap, ◌∙◌}
+use mathlib.Core.Path.{◌≡◌, refl, sym, ◌∙◌}
 use mathlib.Core.Logic.{◌⊎◌, inl, inr}
 use mathlib.Core.List.{List}
 use mathlib.Core.Bool.{Bool, true, false}
@@ -14,7 +14,7 @@ use Rattle.layout.specs.declared.table.Table.{Table}
 use Rattle.read_chain.specs.Chain.{Joined, key_of}
 use Rattle.check_rules.specs.declared.checked.Checked.{Checked}
 use Rattle.check_rules.specs.Rules.{is_joined, key_lists, first_broken, unlisted, explained}
-use Rattle.check_rules.specs.Answer.{checked_number, checked_rule, checked_item, checked_why, checked_at}
+use Rattle.check_rules.specs.Answer.{checked_number, checked_rule, checked_item}
 
 module _ (file : List ℕ) (t : Table) where
   -- rule 1 of an item, and the refusal of its key

@@ -1,11 +1,9 @@
 -- The check of a table whose keys are of ASCII bytes answers alike in both forms: each key has one hash, so its lookup finds the same item.
 use mathlib.Core.Path.{◌≡◌, refl, sym, ap, ◌∙◌}
-use mathlib.Core.Bool.{Bool, true, false}
 use mathlib.Core.List.{List}
 use Prim.Native.Nat.{ℕ, zero, suc, ◌+◌}
 use lib.Dec.{eqb}
 use Rattle.words.specs.Choice.{pick}
-use Rattle.text.specs.Ascii.{is_ascii}
 use Rattle.text.specs.Utf8.{is_utf8}
 use Rattle.text.proofs.AsciiLaws.{ascii_hash}
 use Rattle.layout.specs.declared.table.Table.{Table}

@@ -1,6 +1,6 @@
 -- What the check has in common in the two forms: a table all of whose keys are of ASCII bytes gets one answer in both, and so it is sound in one exactly when in
 -- the other.
-use Rattle.std.specs.Prelude.{ℕ, ◌<◌, ◌≡◌, ◌↔◌, true, List}
+use Rattle.std.specs.Prelude.{ℕ, ◌≡◌, ◌↔◌, true, List}
 use Rattle.text.specs.Ascii.{is_ascii}
 use Rattle.layout.specs.declared.table.Table.{Table}
 use Rattle.layout.specs.declared.table.Opened.{Opened}

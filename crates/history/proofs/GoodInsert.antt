@@ -22,7 +22,6 @@ use Rattle.build_memory.specs.Item.{Stored, kind_of, replace_item}
 use Rattle.build_values.specs.declared.walk.Way.{Way}
 use Rattle.build_values.specs.Walk.{way_of, sum}
 use Rattle.build_values.specs.Insert.{containers, refused, added, insert_new, overwrite, insert_or_replace, insert_below_path}
-use Rattle.build_values.proofs.WalkLaws.{last}
 use Rattle.layout.specs.Limits.{longest_key, most_items}
 use Rattle.history.specs.Items.{item, item_of, Table}
 use Rattle.history.specs.Consistent.{Consistent}

@@ -16,7 +16,7 @@ use Rattle.build_memory.specs.Memory.{least_words, fresh_words, table_total, ite
 use Rattle.build_memory.specs.Item.{stored}
 use Rattle.build_tables.specs.Table.{free_standing, add_table, new_table, not_added}
 use Rattle.build_tables.proofs.TableLaws.{free_standing_facts}
-use Rattle.build_values.specs.Insert.{refused, insert_below_path, keyed, insert_at_key, insert_value}
+use Rattle.build_values.specs.Insert.{insert_below_path, keyed, insert_at_key, insert_value}
 use mathlib.Core.List.{List, [], ◌∷◌, ◌++◌}
 use lib.ListN.{length, length-append}
 use Rattle.words.specs.Choice.{pick}
@@ -29,7 +29,7 @@ use Rattle.model.specs.Builder as told
 use Rattle.model.specs.Builder.{Standing, standing_at, Result, result, put}
 use Rattle.build_tables.specs.Table as tables
 use Rattle.build_memory.specs.Meaning.{entry_of, standing_of, listed, meaning}
-use Rattle.history.specs.Items.{item_of, Table, table_of}
+use Rattle.history.specs.Items.{item_of, table_of}
 use Rattle.history.specs.Honest.{Honest}
 use Rattle.history.proofs.TidyTables as low
 use Rattle.history.proofs.HonestCalls.{sep_same, placed_word, tabled, two, three, kept_low, kept_high, size, loose, mark, same_table, sep_domain}

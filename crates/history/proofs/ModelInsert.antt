@@ -16,7 +16,7 @@ use Rattle.build_memory.specs.Memory.{table_total, item_total, room_used, table_
 use Rattle.build_memory.specs.Find.{find_key}
 use Rattle.build_memory.specs.Item.{Stored, kind_of, replace_item}
 use Rattle.build_values.specs.declared.walk.Way.{Way}
-use Rattle.build_values.specs.Walk.{way, descend, way_of, sum}
+use Rattle.build_values.specs.Walk.{descend, way_of, sum}
 use Rattle.build_values.specs.Insert.{containers, refused, added, insert_new, overwrite, insert_or_replace, insert_below_path}
 use mathlib.Core.List.{List, [], ◌∷◌, ◌++◌}
 use lib.ListN.{length, take, get_or, set, length-set, length-append, drop_of_length-le}

@@ -12,12 +12,11 @@ use Rattle.model.specs.declared.Inserted.{Inserted}
 use Rattle.layout.specs.Limits.{longest_key, deepest, most_tables}
 use Rattle.layout.specs.Kind.{value_kind, table_kind}
 use Rattle.build_memory.specs.Memory.{word, table_at, table_total, item_total, table_separator, table_placed, Outcome}
-use Rattle.build_memory.specs.Find.{find_key}
 use Rattle.build_memory.specs.Item.{Stored, stored}
 use Rattle.build_tables.specs.Table.{free_standing}
 use Rattle.build_tables.proofs.TableLaws.{free_standing_facts}
 use Rattle.build_values.specs.Walk.{way_of}
-use Rattle.build_values.specs.Insert.{refused, insert_below_path, keyed}
+use Rattle.build_values.specs.Insert.{refused, insert_below_path}
 use Rattle.build_nested.specs.Nest.{held_height, place_table, when_accepted, settled, nested, nest_at_key, insert_table}
 use mathlib.Core.List.{List, [], ◌∷◌, ◌++◌}
 use lib.ListN.{length, set}

@@ -19,7 +19,6 @@ use Rattle.build_memory.proofs.MadeLaws.{made_arena}
 use Rattle.build_values.specs.declared.walk.Way.{Way}
 use Rattle.build_values.specs.Walk.{way, descend, sum}
 use Rattle.build_values.specs.Insert.{Extended, containers}
-use Rattle.build_nested.specs.Nest.{nested}
 use mathlib.Core.List.{List, [], ◌∷◌, ◌++◌, append_assoc}
 use lib.ListN.{length, take}
 use lib.Seq.{length-take-le, take-length}

@@ -12,7 +12,6 @@ use Rattle.words.proofs.FieldLaws.{length-spelled}
 use Rattle.layout.specs.Limits.{longest_file}
 use Rattle.layout.specs.Table.{table_of, table_in, open_table}
 use Rattle.layout.specs.Item.{item_at}
-use Rattle.layout.specs.declared.table.Table.{Table}
 use Rattle.layout.specs.declared.table.Opened.{Opened}
 use Rattle.layout.proofs.AnswerLaws.{pointer_inside_is}
 use Rattle.layout.specs.Sizes.{chunk_size}

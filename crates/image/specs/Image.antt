@@ -1,9 +1,8 @@
 -- The image of a table of the model, whole, as document 01 has it under 'Laying an image'.
-use Rattle.std.specs.Prelude.{ℕ, zero, suc, ◌+◌, ◌*◌, List, [], ◌∷◌, ◌++◌, eqb, length}
+use Rattle.std.specs.Prelude.{ℕ, zero, suc, ◌*◌, List, [], ◌∷◌, ◌++◌, eqb, length}
 use Rattle.words.specs.Choice.{pick}
 use Rattle.words.specs.Store.{zeros}
 use Rattle.key_hash.specs.Hash.{hash_by}
-use Rattle.layout.specs.declared.kind.Kind.{Kind}
 use Rattle.layout.specs.Limits.{deepest}
 use Rattle.layout.specs.Kind.{kind_byte}
 use Rattle.layout.specs.Item.{no_item}

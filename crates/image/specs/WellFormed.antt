@@ -1,5 +1,5 @@
 -- What the builder keeps of every table that it can write.
-use Rattle.std.specs.Prelude.{ℕ, zero, suc, ◌≤◌, ◌<◌, ◌≡◌, true, List, length, take}
+use Rattle.std.specs.Prelude.{ℕ, zero, suc, ◌≤◌, ◌<◌, ◌≡◌, true, length, take}
 use Rattle.text.specs.Utf8.{is_utf8}
 use Rattle.model.specs.Table.{Content, Rows, State, Has, times, is_child}
 use Rattle.layout.specs.Limits.{longest_key, most_items}

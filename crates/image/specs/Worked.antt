@@ -1,5 +1,5 @@
 -- The images of document 01, 'Worked numbers', and two with a filter word, byte by byte: they come out of the definition by computation.
-use Rattle.std.specs.Prelude.{ℕ, ◌≡◌, refl, List, [], ◌∷◌, length, drop}
+use Rattle.std.specs.Prelude.{◌≡◌, refl, [], ◌∷◌, length, drop}
 use Rattle.words.specs.Bits.{bit_put}
 use Rattle.words.specs.Choice.{pick}
 use Rattle.words.specs.Store.{copies}

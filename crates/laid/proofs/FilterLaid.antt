@@ -1,14 +1,13 @@
 -- The filter of a laid table has exactly the bits that its items ask for.
-use Prim.Native.Nat.{ℕ, suc, ◌+◌, ◌*◌, ◌/◌, ◌%◌, ◌<◌}
-use mathlib.Core.Path.{◌≡◌, refl, sym, ap, ◌∙◌, subst}
-use mathlib.Core.Bool.{true}
+use Prim.Native.Nat.{ℕ, suc, ◌+◌, ◌*◌, ◌<◌}
+use mathlib.Core.Path.{◌≡◌, sym, ap, ◌∙◌, subst}
 use mathlib.Core.List.{List}
 use lib.ListN.{length}
 use Rattle.words.specs.Field.{word_at}
 use Rattle.words.specs.Bits.{bit_set}
 use Rattle.key_hash.specs.Hash.{hash_by}
 use Rattle.model.specs.Table.{State, Has}
-use Rattle.image.specs.Plan.{Plan, filter_word, plan_bytes}
+use Rattle.image.specs.Plan.{filter_word, plan_bytes}
 use Rattle.image.specs.Index.{item_of, laid_index}
 use Rattle.image.specs.Filter.{Asked}
 use Rattle.image.specs.Image.{plan_of, table_bytes}

@@ -1,12 +1,11 @@
 -- Two manners in which a key has one hash find the same: both lookups and the listing of children answer alike on every file.
 use mathlib.Core.Path.{◌≡◌, refl, ap, ◌∙◌}
-use mathlib.Core.Bool.{Bool, true, false}
+use mathlib.Core.Bool.{Bool, false}
 use mathlib.Core.List.{List}
 use Prim.Native.Nat.{ℕ, zero, suc, ◌+◌, ◌%◌}
 use lib.Dec.{leb, eqb}
 use Rattle.words.specs.Choice.{pick}
 use Rattle.key_hash.specs.Hash.{hash_by}
-use Rattle.text.specs.Ascii.{is_ascii}
 use Rattle.text.specs.Utf8.{is_utf8, first_bad}
 use Rattle.text.proofs.AsciiLaws.{ascii_hash}
 use Rattle.layout.specs.declared.refusal.Refusal.TheVariants.{KeyNotUtf8}
@@ -18,7 +17,7 @@ use Rattle.read_find.specs.declared.find.Found.{Found}
 use Rattle.read_find.specs.declared.find.Run.{Run}
 use Rattle.read.specs.declared.lookup.Sought.{Sought}
 use Rattle.read_chain.specs.Chain.{key_of, names}
-use Rattle.read_find.specs.Find.{Manner, shift_of, bloom_passes, run_of, item_matches, first_from, first_of, find_item}
+use Rattle.read_find.specs.Find.{shift_of, bloom_passes, run_of, item_matches, first_from, first_of, find_item}
 use Rattle.read.specs.Lookup.{at_found, lookup_in, at_opened, lookup_item, at_item, value_of, nested_of, lookup_value, lookup_table}
 use Rattle.read_listing.specs.Children.{child_of_sought, child_in_opened, next_child}
 use Rattle.read_listing.specs.FormsBy.{glib_by, rust_by, AsciiLookupsBy}

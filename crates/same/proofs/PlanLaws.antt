@@ -2,7 +2,7 @@
 use mathlib.Core.Path.{◌≡◌, refl, sym, ap, ◌∙◌}
 use mathlib.Core.Bool.{Bool, true, false}
 use mathlib.Core.List.{List, [], ◌∷◌, ◌++◌, map}
-use Prim.Native.Nat.{ℕ, zero, suc, ◌+◌, ◌*◌, ◌≤◌, ◌<◌}
+use Prim.Native.Nat.{ℕ, suc, ◌*◌, ◌≤◌, ◌<◌}
 use native.Mathlib.Omega.{arith}
 use lib.ListN.{length, drop, length-map}
 use Rattle.words.specs.Choice.{pick}
@@ -12,7 +12,7 @@ use Rattle.layout.specs.Kind.{kind_byte}
 use Rattle.layout.specs.Item.{no_item}
 use Rattle.layout.specs.Sizes.{chunk_size}
 use Rattle.model.specs.Table.{Content, Rows, State, kind_of, times, Has, is_child, fragment_at}
-use Rattle.image.specs.Index.{hashes_of, bucket_start, item_of, laid_index}
+use Rattle.image.specs.Index.{bucket_start, item_of, laid_index}
 use Rattle.image.specs.Plan.{word}
 use Rattle.image.specs.Fits.{SamePlan}
 use Rattle.image.specs.Image.{align_of, children_of, parent_index, child_words, value_of, covers_of, plan_of, table_bytes}

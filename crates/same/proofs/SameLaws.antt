@@ -1,9 +1,8 @@
 -- The same content lays the same bytes.
-use mathlib.Core.Path.{◌≡◌, refl}
-use mathlib.Core.List.{List}
+use mathlib.Core.Path.{◌≡◌}
 use Prim.Native.Nat.{ℕ, zero, suc}
 use lib.ListN.{length}
-use Rattle.model.specs.Table.{Content, State, Has}
+use Rattle.model.specs.Table.{State}
 use Rattle.image.specs.Image.{table_bytes}
 use Rattle.image.specs.WellFormed.{Writable}
 use Rattle.same.specs.Same.{Same, SameLaysSame}

@@ -1,7 +1,7 @@
 -- Laws of tables by their keys alone, and of items that the words have room for.
 use mathlib.Core.Path.{◌≡◌, refl, sym, ap, ◌∙◌}
 use mathlib.Core.List.{List}
-use Prim.Native.Nat.{ℕ, ◌+◌, ◌-◌, ◌≤◌, ◌<◌}
+use Prim.Native.Nat.{ℕ, ◌+◌, ◌≤◌, ◌<◌}
 use lib.ListN.{length, take, drop, get_or, take-append-drop}
 use Rattle.layout.specs.Limits.{most_items}
 use Rattle.model.specs.Table.{Rows, times, Has}

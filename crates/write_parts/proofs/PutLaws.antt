@@ -8,7 +8,7 @@ use lib.ListN.{length, length-append, get_or}
 use Rattle.words.specs.Choice.{pick}
 use Rattle.words.specs.Store.{part, put_at, zeros}
 use Rattle.words.specs.Field.{spelled}
-use Rattle.words.proofs.StoreLaws.{put-none, put-append, length_part, put_then}
+use Rattle.words.proofs.StoreLaws.{put-none, length_part, put_then}
 use Rattle.words.proofs.FieldLaws.{length-spelled}
 use Rattle.image.specs.Laid.{Laid}
 use Rattle.image.specs.Plan.{word, words_of, first_word}

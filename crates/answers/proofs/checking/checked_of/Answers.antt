@@ -2,7 +2,6 @@
 use mathlib.Core.Path.{sym, ap}
 use Rattle.check_rules.specs.Answer.{checked_number, checked_rule, checked_item, checked_why, checked_at}
 use Rattle.answers.specs.Checking.{checked_answer}
-use borrow.Author.Rules.{rules}
 use Rattle.answers.proofs.checking.checked_of.Goals as goal
 
 pub returns-in-Sound : goal.returns-in-Sound

@@ -2,7 +2,6 @@
 use mathlib.Core.Path.{sym, ap}
 use Rattle.file_header.specs.Answer.{headed_number, headed_order, headed_pointer}
 use Rattle.answers.specs.Header.{headed_answer}
-use borrow.Author.Rules.{rules}
 use Rattle.answers.proofs.header.headed_of.Goals as goal
 
 pub returns-in-Root : goal.returns-in-Root

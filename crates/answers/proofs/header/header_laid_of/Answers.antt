@@ -1,7 +1,6 @@
 -- `answers::header::header_laid_of` meets its contract: each arm by the variant that it matched.
 use mathlib.Core.Path.{sym, ap, ◌∙◌}
 use Rattle.file_header.specs.Answer.{header_laid_number}
-use borrow.Author.Rules.{rules}
 use Rattle.answers.proofs.header.header_laid_of.Goals as goal
 
 pub returns-in-Laid : goal.returns-in-Laid

@@ -1,5 +1,4 @@
 -- `answers::manner::lookup_of` meets its contract.
-use borrow.Author.Rules.{rules}
 use borrow.Author.Tests.{eq-eqb, ne_eqb}
 use Rattle.words.specs.Choice.{pick}
 use Rattle.answers.specs.Manner.{lookup_of}

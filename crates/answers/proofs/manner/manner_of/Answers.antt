@@ -1,5 +1,4 @@
 -- `answers::manner::manner_of` meets its contract: a manner of the form and the lookup that the number names.
-use borrow.Author.Rules.{rules}
 use Rattle.answers.specs.Manner.{manner_named}
 use Rattle.answers.proofs.manner.manner_of.Goals as goal
 

@@ -2,7 +2,6 @@
 use mathlib.Core.Path.{sym, ap}
 use Rattle.read_listing.specs.Answer.{childed_number, childed_kind, childed_pointer, childed_child, childed_at}
 use Rattle.answers.specs.Reading.{childed_answer}
-use borrow.Author.Rules.{rules}
 use Rattle.answers.proofs.reading.childed_of.Goals as goal
 
 pub returns-in-Child : goal.returns-in-Child

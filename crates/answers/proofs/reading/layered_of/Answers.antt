@@ -1,7 +1,6 @@
 -- `answers::reading::layered_of` meets its contract: the pointer's numbers, and the table that answered.
 use mathlib.Core.Path.{refl}
 use Rattle.answers.specs.Reading.{looked_answer, layered_answer}
-use borrow.Author.Rules.{rules}
 use Rattle.answers.proofs.reading.layered_of.Goals as goal
 
 pub returns : goal.returns

@@ -2,7 +2,6 @@
 use mathlib.Core.Path.{sym, ap}
 use Rattle.read_listing.specs.Answer.{listed_number, listed_key, listed_at}
 use Rattle.answers.specs.Reading.{listed_answer}
-use borrow.Author.Rules.{rules}
 use Rattle.answers.proofs.reading.listed_of.Goals as goal
 
 pub returns-in-Key : goal.returns-in-Key

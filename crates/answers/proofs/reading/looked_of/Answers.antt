@@ -2,7 +2,6 @@
 use mathlib.Core.Path.{sym, ap}
 use Rattle.read.specs.Answer.{looked_number, looked_pointer, looked_at}
 use Rattle.answers.specs.Reading.{looked_answer}
-use borrow.Author.Rules.{rules}
 use Rattle.answers.proofs.reading.looked_of.Goals as goal
 
 pub returns-in-Pointer : goal.returns-in-Pointer

@@ -6,7 +6,6 @@ use Rattle.layout.specs.Answer.{opened_number}
 use Rattle.layout.specs.declared.table.Table.{Table}
 use Rattle.layout.specs.declared.table.Opened.{Opened}
 use Rattle.answers.specs.Reading.{opened_count, opened_answer}
-use borrow.Author.Rules.{rules}
 use Rattle.answers.proofs.reading.opened_of.Goals as goal
 
 small : (count : Table → ℕ) {opened : Opened} {t : Table} → opened ≡ Opened.Table t → opened_count count opened < 2 ^ 32 → count t < 2 ^ 32

@@ -2,7 +2,6 @@
 use mathlib.Core.Path.{sym, ap}
 use Rattle.read_listing.specs.Answer.{valued_number, valued_pointer, valued_item}
 use Rattle.answers.specs.Reading.{valued_answer}
-use borrow.Author.Rules.{rules}
 use Rattle.answers.proofs.reading.valued_of.Goals as goal
 
 pub returns-in-Value : goal.returns-in-Value

@@ -2,7 +2,6 @@
 use mathlib.Core.Path.{sym, ap}
 use Rattle.build_tables.specs.Answer.{added_number, added_table}
 use Rattle.answers_build.specs.Building.{added_answer}
-use borrow.Author.Rules.{rules}
 use Rattle.answers_build.proofs.building.added_of.Goals as goal
 
 pub returns-in-Table : goal.returns-in-Table

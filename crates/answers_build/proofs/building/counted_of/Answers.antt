@@ -2,7 +2,6 @@
 use mathlib.Core.Path.{sym, ap}
 use Rattle.build_tables.specs.Answer.{counted_number, counted_items}
 use Rattle.answers_build.specs.Building.{counted_answer}
-use borrow.Author.Rules.{rules}
 use Rattle.answers_build.proofs.building.counted_of.Goals as goal
 
 pub returns-in-Items : goal.returns-in-Items

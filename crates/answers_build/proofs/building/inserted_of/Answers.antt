@@ -2,7 +2,6 @@
 use mathlib.Core.Path.{sym, ap}
 use Rattle.build_values.specs.Answer.{inserted_number, inserted_kind, inserted_at}
 use Rattle.answers_build.specs.Building.{inserted_answer}
-use borrow.Author.Rules.{rules}
 use Rattle.answers_build.proofs.building.inserted_of.Goals as goal
 
 pub returns-in-New : goal.returns-in-New

@@ -1,7 +1,6 @@
 -- `answers_build::building::started_of` meets its contract: each arm by the variant that it matched.
 use mathlib.Core.Path.{sym, ap, ◌∙◌}
 use Rattle.build_memory.specs.Answer.{started_number}
-use borrow.Author.Rules.{rules}
 use Rattle.answers_build.proofs.building.started_of.Goals as goal
 
 pub returns-in-Ready : goal.returns-in-Ready

@@ -2,7 +2,6 @@
 use mathlib.Core.Path.{sym, ap}
 use Rattle.write.specs.Write.{written_number}
 use Rattle.answers_build.specs.Writing.{written_image, written_answer}
-use borrow.Author.Rules.{rules}
 use Rattle.answers_build.proofs.writing.written_of.Goals as goal
 
 pub returns-in-Image : goal.returns-in-Image

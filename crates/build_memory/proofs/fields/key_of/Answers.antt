@@ -3,7 +3,6 @@ use Rattle.build_memory.specs.Memory.{key_start, key_of}
 use Rattle.words.specs.Store.{part}
 use Prim.Native.Nat.{ℕ}
 use mathlib.Core.Path.{ap, ◌∙◌}
-use borrow.Author.Rules.{rules}
 use Rattle.build_memory.proofs.fields.key_of.Goals as goal
 
 pub returns : goal.returns

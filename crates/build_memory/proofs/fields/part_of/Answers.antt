@@ -1,6 +1,5 @@
 -- `build_memory::fields::part_of` meets its contract: nothing past the end, the rest, or a stretch.
 use Rattle.build_memory.proofs.MemoryLaws.{part_none, part_rest, part_mid}
-use borrow.Author.Rules.{rules}
 use Rattle.build_memory.proofs.fields.part_of.Goals as goal
 
 pub returns-then-arena-at : goal.returns-then-arena-at

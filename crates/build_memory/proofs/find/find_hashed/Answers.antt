@@ -1,10 +1,6 @@
 -- `build_memory::find::find_hashed` meets its contract. The invariant: the search from the start is the search from here.
-use Rattle.build_memory.proofs.FindLaws.{chain_from, find_start, find_hit, find_next, find_none}
-use Rattle.build_memory.specs.Find.{find_key}
-use Rattle.build_memory.specs.Memory.{item_total}
+use Rattle.build_memory.proofs.FindLaws.{find_start, find_hit, find_next, find_none}
 use native.Mathlib.Omega.{arith}
-use Prim.Native.Nat.{◌≤◌}
-use mathlib.Core.Path.{◌≡◌}
 use Rattle.build_memory.proofs.find.find_hashed.Goals as goal
 
 pub loop-i-init : goal.loop-i-init
@@ -18,8 +14,7 @@ returns-then-is_item c =
     }
 
 pub loop-i-preserved : goal.loop-i-preserved
-loop-i-preserved c =
-    (
+loop-i-preserved c = (
   omega arith,
   find_next _ _ _ _ _ c.requires.hash_value _ _ c.loop-i-test.true _ c.is_item.ensures c.if-is_item.false c.loop-i.invariant.1 _
       c.item_word-i.ensures,

@@ -1,8 +1,7 @@
 -- `build_memory::find::find_hashed` meets its contract. The invariant: the search from the start is the search from here.
-use Rattle.build_memory.proofs.FindLaws.{chain_from, find_start, find_hit, find_next, find_none}
+use Rattle.build_memory.proofs.FindLaws.{chain_from}
 use Rattle.build_memory.specs.Find.{find_key}
 use Rattle.build_memory.specs.Memory.{item_total}
-use native.Mathlib.Omega.{arith}
 use Prim.Native.Nat.{◌≤◌}
 use mathlib.Core.Path.{◌≡◌}
 use Rattle.build_memory.proofs.find.find_hashed.Given as goal

@@ -4,7 +4,6 @@ use Rattle.key_order.specs.Compare.{same_bytes}
 use Prim.Native.Nat.{ℕ}
 use mathlib.Core.List.{List}
 use mathlib.Core.Path.{sym, ap, ◌∙◌}
-use borrow.Author.Rules.{rules}
 use Rattle.build_memory.proofs.find.is_item.Goals as goal
 
 pub returns-then-item_word-table : goal.returns-then-item_word-table

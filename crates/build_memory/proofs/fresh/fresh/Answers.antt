@@ -1,6 +1,5 @@
 -- `build_memory::fresh::fresh` meets its contract: 29, or the header, the heads and the links.
 use Rattle.build_memory.proofs.MemoryLaws.{fresh-refused, fresh_ready}
-use borrow.Author.Rules.{rules}
 use Rattle.build_memory.proofs.fresh.fresh.Goals as goal
 
 pub returns-then-words-lt-LEAST_WORDS : goal.returns-then-words-lt-LEAST_WORDS

@@ -1,7 +1,6 @@
 -- `build_memory::item::make_item` meets its contract.
 use Rattle.build_memory.proofs.ItemLaws.{item_made}
 use mathlib.Core.Path.{refl}
-use borrow.Author.Rules.{rules}
 use Rattle.build_memory.proofs.item.make_item.Goals as goal
 
 pub returns : goal.returns

@@ -1,7 +1,6 @@
 -- `build_memory::item::put_head` meets its contract.
 use Rattle.words.specs.Store.{put_at}
 use mathlib.Core.Path.{refl}
-use borrow.Author.Rules.{rules}
 use Rattle.build_memory.proofs.item.put_head.Goals as goal
 
 pub returns : goal.returns

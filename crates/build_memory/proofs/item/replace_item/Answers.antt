@@ -1,6 +1,5 @@
 -- `build_memory::item::replace_item` meets its contract.
 use Rattle.build_memory.proofs.ItemLaws.{item_replaced}
-use borrow.Author.Rules.{rules}
 use Rattle.build_memory.proofs.item.replace_item.Goals as goal
 
 pub returns : goal.returns

@@ -1,6 +1,5 @@
 -- `build_memory::rules::judge` meets its contract, rule by rule.
 use Rattle.build_memory.proofs.MemoryLaws.{judge_short, judge_words, judge_room, judge_counts}
-use borrow.Author.Rules.{rules}
 use Rattle.build_memory.proofs.rules.judge.Goals as goal
 
 pub returns-then-words-lt-LEAST_WORDS : goal.returns-then-words-lt-LEAST_WORDS

@@ -1,7 +1,6 @@
 -- `build_nested::height::held_at` meets its contract, test by test.
 use Rattle.build_nested.proofs.NestLaws.{held_other, held_kind, held_far, held_guest}
 use mathlib.Core.Path.{◌∙◌}
-use borrow.Author.Rules.{rules}
 use Rattle.build_nested.proofs.height.held_at.Goals as goal
 
 pub returns-then-item_word-table : goal.returns-then-item_word-table

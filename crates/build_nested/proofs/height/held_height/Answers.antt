@@ -4,7 +4,6 @@ use Rattle.build_nested.specs.Nest.{held_at, held_height}
 use Rattle.build_memory.specs.Memory.{item_total}
 use Rattle.model.specs.Builder as builder
 use native.Mathlib.Omega.{arith}
-use Prim.Native.Nat.{◌-◌, ◌≤◌}
 use mathlib.Core.Path.{◌≡◌, ap, ◌∙◌}
 use Rattle.build_nested.proofs.height.held_height.Goals as goal
 

@@ -1,11 +1,9 @@
 -- `build_nested::height::held_height` meets its contract. The invariant: `most` is the greatest height among the items passed.
-use Rattle.build_nested.proofs.NestLaws.{most-none, most_step}
-use Rattle.build_nested.specs.Nest.{held_at, held_height}
+use Rattle.build_nested.specs.Nest.{held_at}
 use Rattle.build_memory.specs.Memory.{item_total}
 use Rattle.model.specs.Builder as builder
-use native.Mathlib.Omega.{arith}
 use Prim.Native.Nat.{◌-◌, ◌≤◌}
-use mathlib.Core.Path.{◌≡◌, ap, ◌∙◌}
+use mathlib.Core.Path.{◌≡◌}
 use Rattle.build_nested.proofs.height.held_height.Given as goal
 
 abbrev pub invariant-loop-i : goal.invariant-loop-i

@@ -1,7 +1,6 @@
 -- `build_nested::insert::insert_nested` meets its contract: the insert, and the guest placed where it is accepted.
 use Rattle.build_nested.proofs.NestLaws.{accepted_low, nested-refused, nested_new, nested_old}
 use native.Mathlib.Omega.{arith}
-use borrow.Author.Rules.{rules}
 use Rattle.build_nested.proofs.insert.insert_nested.Goals as goal
 
 pub overflow_add-held : goal.overflow_add-held

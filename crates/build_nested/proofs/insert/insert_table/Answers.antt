@@ -1,9 +1,7 @@
 -- `build_nested::insert::insert_table` meets its contract: 29, or what valid memory gives.
 use Rattle.build_nested.proofs.NestLaws.{table_invalid, nest_at_key_lem}
 use Rattle.build_memory.proofs.MemoryLaws.{valid_facts}
-use borrow.Author.Tests.{not-true, not-false}
 use mathlib.Core.Path.{sym, ◌∙◌}
-use borrow.Author.Rules.{rules}
 use Rattle.build_nested.proofs.insert.insert_table.Goals as goal
 
 pub returns-then-not-judge : goal.returns-then-not-judge

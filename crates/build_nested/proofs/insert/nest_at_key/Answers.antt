@@ -2,9 +2,7 @@
 use Rattle.build_nested.proofs.NestLaws.{table_unknown, guest_unknown, in_itself, two-tables}
 use Rattle.build_values.proofs.InsertLaws.{keyed_bad, keyed_long, keyed_good}
 use Rattle.build_tables.proofs.TableLaws.{free_standing_facts}
-use borrow.Author.Tests.{not-true, not-false}
 use mathlib.Core.Path.{sym, ◌∙◌}
-use borrow.Author.Rules.{rules}
 use Rattle.build_nested.proofs.insert.nest_at_key.Goals as goal
 
 pub returns-then-not-is_free_standing : goal.returns-then-not-is_free_standing
@@ -35,10 +33,10 @@ pub insert_nested-requires : goal.insert_nested-requires
 insert_nested-requires c =
     record {
       ready = record {
-    valid-memory = c.requires;
-    known = (free_standing_facts _ _ (sym c.is_free_standing.ensures ∙ c.if-not-is_free_standing.false)).0;
-    short = c.if-key-gt-LONGEST_KEY.false;
-  };
+        valid-memory = c.requires;
+        known = (free_standing_facts _ _ (sym c.is_free_standing.ensures ∙ c.if-not-is_free_standing.false)).0;
+        short = c.if-key-gt-LONGEST_KEY.false;
+      };
       guest_bound = (free_standing_facts _ _ (sym c.is_free_standing-2.ensures ∙ c.if-not-is_free_standing-2.false)).0;
     }
 

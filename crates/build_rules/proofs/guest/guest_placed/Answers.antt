@@ -1,6 +1,5 @@
 -- `build_rules::guest::guest_placed` meets its contract.
 use Rattle.build_rules.proofs.ValidLaws.{guest_unknown, guest_known}
-use borrow.Author.Rules.{rules}
 use Rattle.build_rules.proofs.guest.guest_placed.Goals as goal
 
 pub returns-then-words-guest : goal.returns-then-words-guest

@@ -1,7 +1,6 @@
 -- `build_rules::guest::guest_valid` meets its contract.
 use Rattle.build_rules.proofs.ValidLaws.{guest_none, guest_one}
 use mathlib.Core.Path.{◌∙◌}
-use borrow.Author.Rules.{rules}
 use Rattle.build_rules.proofs.guest.guest_valid.Goals as goal
 
 pub returns-then-item_word-ne-TABLE_KIND : goal.returns-then-item_word-ne-TABLE_KIND

@@ -1,7 +1,6 @@
 -- `build_rules::guest::height_limit` meets its contract.
 use Rattle.build_rules.proofs.ValidLaws.{limit_loose, limit_placed}
 use mathlib.Core.Path.{sym, ◌∙◌}
-use borrow.Author.Rules.{rules}
 use Rattle.build_rules.proofs.guest.height_limit.Goals as goal
 
 pub returns-then-table_word-eq0 : goal.returns-then-table_word-eq0

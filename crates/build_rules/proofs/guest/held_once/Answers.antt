@@ -1,14 +1,11 @@
 -- `build_rules::guest::held_once` meets its contract. The invariant: the flags are of the tables that the items passed hold, and no table is held by two of them.
-use Rattle.build_rules.proofs.ValidLaws.{guest_low, Met, met_none, met_pass, met_mark, once_pass, once_twice, once_first}
+use Rattle.build_rules.proofs.ValidLaws.{guest_low, met_none, met_pass, met_mark, once_pass, once_twice, once_first}
 use Rattle.build_rules.specs.Valid.{held_once}
 use Rattle.build_memory.specs.Memory.{item_total}
-use Rattle.layout.specs.Limits.{most_tables}
 use Rattle.words.proofs.BelowLaws.{all_fails, all_turn}
 use Rattle.words.specs.Below.{all_below}
-use lib.ListN.{length, length-set}
+use lib.ListN.{length-set}
 use native.Mathlib.Omega.{arith}
-use Prim.Native.Nat.{◌-◌, ◌≤◌}
-use mathlib.Core.Bool.{true}
 use mathlib.Core.Path.{◌≡◌, refl, sym, ap, ◌∙◌}
 use Rattle.build_rules.proofs.guest.held_once.Goals as goal
 

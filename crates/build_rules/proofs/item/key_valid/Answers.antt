@@ -1,6 +1,5 @@
 -- `build_rules::item::key_valid` meets its contract.
 use Rattle.build_rules.proofs.ValidLaws.{key_is}
-use borrow.Author.Rules.{rules}
 use Rattle.build_rules.proofs.item.key_valid.Goals as goal
 
 pub returns : goal.returns

@@ -1,7 +1,6 @@
 -- `build_rules::item::parent_valid` meets its contract, refusal by refusal.
 use Rattle.build_rules.proofs.ValidLaws.{parent_none, parent_late, parent_else, parent_begins}
 use mathlib.Core.Path.{sym, ◌∙◌}
-use borrow.Author.Rules.{rules}
 use Rattle.build_rules.proofs.item.parent_valid.Goals as goal
 
 pub returns-then-parent-eq0 : goal.returns-then-parent-eq0

@@ -1,6 +1,5 @@
 -- `build_rules::item::ranges_valid` meets its contract.
 use Rattle.build_rules.proofs.ValidLaws.{ranges_is}
-use borrow.Author.Rules.{rules}
 use Rattle.build_rules.proofs.item.ranges_valid.Goals as goal
 
 pub returns : goal.returns

@@ -1,7 +1,6 @@
 -- `build_rules::item::value_within` meets its contract.
 use Rattle.build_rules.proofs.ValidLaws.{value_none, value-one}
 use mathlib.Core.Path.{◌∙◌}
-use borrow.Author.Rules.{rules}
 use Rattle.build_rules.proofs.item.value_within.Goals as goal
 
 pub returns-then-item_word-ne-VALUE_KIND : goal.returns-then-item_word-ne-VALUE_KIND

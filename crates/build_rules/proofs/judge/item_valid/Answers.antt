@@ -1,9 +1,7 @@
 -- `build_rules::judge::item_valid` meets its contract.
 use Rattle.build_rules.proofs.ValidLaws.{ranges_table, item_out_of_range, item_is}
-use borrow.Author.Tests.{not-true, not-false}
 use native.Mathlib.Omega.{arith}
 use mathlib.Core.Path.{sym, ◌∙◌}
-use borrow.Author.Rules.{rules}
 use Rattle.build_rules.proofs.judge.item_valid.Goals as goal
 
 pub returns-then-not-ranges_valid : goal.returns-then-not-ranges_valid

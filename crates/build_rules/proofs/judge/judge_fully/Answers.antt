@@ -1,9 +1,7 @@
 -- `build_rules::judge::judge_fully` meets its contract, rule by rule.
 use Rattle.build_rules.proofs.ValidLaws.{guests_few, whole_invalid, whole_items, whole_twice, whole_links}
 use Rattle.build_memory.proofs.MemoryLaws.{valid_facts}
-use borrow.Author.Tests.{not-true, not-false}
 use mathlib.Core.Path.{sym, ◌∙◌}
-use borrow.Author.Rules.{rules}
 use Rattle.build_rules.proofs.judge.judge_fully.Goals as goal
 
 pub returns-then-not-judge : goal.returns-then-not-judge

@@ -5,8 +5,6 @@ use Rattle.words.proofs.BelowLaws.{all_fails, all_turn}
 use Rattle.words.specs.Below.{all_below}
 use borrow.Author.Tests.{eq-eqb, ne_eqb}
 use native.Mathlib.Omega.{arith}
-use Prim.Native.Nat.{◌-◌, ◌≤◌}
-use mathlib.Core.Bool.{true}
 use mathlib.Core.Path.{◌≡◌, refl, sym, ap, ◌∙◌}
 use Rattle.build_rules.proofs.judge.links_empty.Goals as goal
 

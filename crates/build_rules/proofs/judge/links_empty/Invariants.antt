@@ -1,13 +1,10 @@
 -- `build_rules::judge::links_empty` meets its contract. The invariant: the links that were passed are empty.
 use Rattle.build_rules.specs.Valid.{link_empty}
 use Rattle.build_memory.specs.Memory.{links}
-use Rattle.words.proofs.BelowLaws.{all_fails, all_turn}
 use Rattle.words.specs.Below.{all_below}
-use borrow.Author.Tests.{eq-eqb, ne_eqb}
-use native.Mathlib.Omega.{arith}
 use Prim.Native.Nat.{◌-◌, ◌≤◌}
 use mathlib.Core.Bool.{true}
-use mathlib.Core.Path.{◌≡◌, refl, sym, ap, ◌∙◌}
+use mathlib.Core.Path.{◌≡◌}
 use Rattle.build_rules.proofs.judge.links_empty.Given as goal
 
 abbrev pub invariant-loop-j : goal.invariant-loop-j

@@ -1,6 +1,5 @@
 -- `build_tables::add::add_table` meets its contract: 27, or a row for the table and one table more.
 use Rattle.build_tables.proofs.TableLaws.{tables_many, table-added}
-use borrow.Author.Rules.{rules}
 use Rattle.build_tables.proofs.add.add_table.Goals as goal
 
 pub returns-then-t-ge-MOST_TABLES : goal.returns-then-t-ge-MOST_TABLES

@@ -1,6 +1,5 @@
 -- `build_tables::add::is_free_standing` meets its contract.
 use Rattle.build_tables.proofs.TableLaws.{free_standing_unknown, free_standing_known}
-use borrow.Author.Rules.{rules}
 use Rattle.build_tables.proofs.add.is_free_standing.Goals as goal
 
 pub returns-then-words-table : goal.returns-then-words-table

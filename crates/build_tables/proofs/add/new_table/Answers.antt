@@ -1,9 +1,7 @@
 -- `build_tables::add::new_table` meets its contract: 29, 28, or what adding the table gives.
 use Rattle.build_tables.proofs.TableLaws.{table_invalid, table_outside, table_inside}
 use Rattle.build_memory.proofs.MemoryLaws.{valid_facts}
-use borrow.Author.Tests.{not-true, not-false}
 use mathlib.Core.Path.{sym, ◌∙◌}
-use borrow.Author.Rules.{rules}
 use Rattle.build_tables.proofs.add.new_table.Goals as goal
 
 pub returns-then-not-judge : goal.returns-then-not-judge

@@ -1,6 +1,5 @@
 -- `build_tables::add::separator_word` meets its contract, by the separator's length.
 use Rattle.build_tables.proofs.TableLaws.{separator-none, separator_long, separator_low, separator_high}
-use borrow.Author.Rules.{rules}
 use Rattle.build_tables.proofs.add.separator_word.Goals as goal
 
 pub returns-then-separator-eq0 : goal.returns-then-separator-eq0

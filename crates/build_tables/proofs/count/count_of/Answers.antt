@@ -3,7 +3,6 @@ use Rattle.build_tables.proofs.TableLaws.{count_none, count_pass, count_one}
 use Rattle.build_tables.specs.Table.{count_of}
 use Rattle.build_memory.specs.Memory.{item_total}
 use native.Mathlib.Omega.{arith}
-use Prim.Native.Nat.{◌-◌, ◌≤◌}
 use mathlib.Core.Path.{◌≡◌, ap, ◌∙◌}
 use Rattle.build_tables.proofs.count.count_of.Goals as goal
 

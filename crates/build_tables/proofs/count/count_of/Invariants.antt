@@ -1,10 +1,8 @@
 -- `build_tables::count::count_of` meets its contract. The invariant: the count is that of the items passed.
-use Rattle.build_tables.proofs.TableLaws.{count_none, count_pass, count_one}
 use Rattle.build_tables.specs.Table.{count_of}
 use Rattle.build_memory.specs.Memory.{item_total}
-use native.Mathlib.Omega.{arith}
 use Prim.Native.Nat.{◌-◌, ◌≤◌}
-use mathlib.Core.Path.{◌≡◌, ap, ◌∙◌}
+use mathlib.Core.Path.{◌≡◌}
 use Rattle.build_tables.proofs.count.count_of.Given as goal
 
 abbrev pub invariant-loop-i : goal.invariant-loop-i

@@ -3,11 +3,9 @@ use Rattle.build_tables.proofs.TableLaws.{count_invalid, count_unknown, count_kn
 use Rattle.build_tables.specs.Table.{count_of}
 use Rattle.build_memory.proofs.MemoryLaws.{valid_facts}
 use Rattle.build_memory.specs.Memory.{item_total}
-use borrow.Author.Tests.{not-true, not-false}
 use native.Mathlib.Omega.{arith}
 use Prim.Native.Nat.{ℕ}
 use mathlib.Core.Path.{sym, ap, ◌∙◌}
-use borrow.Author.Rules.{rules}
 use Rattle.build_tables.proofs.count.item_count.Goals as goal
 
 pub returns-then-not-judge : goal.returns-then-not-judge

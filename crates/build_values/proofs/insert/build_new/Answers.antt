@@ -2,7 +2,6 @@
 use Rattle.build_values.proofs.InsertLaws.{new_added}
 use Rattle.build_memory.specs.Item.{stored}
 use native.Mathlib.Omega.{arith}
-use borrow.Author.Rules.{rules}
 use Rattle.build_values.proofs.insert.build_new.Goals as goal
 
 pub make_containers-above-requires : goal.make_containers-above-requires

@@ -1,9 +1,7 @@
 -- `build_values::insert::insert_at_key` meets its contract: 24, 8, 20, or on to the way.
 use Rattle.build_values.proofs.InsertLaws.{keyed_bad, keyed_long, keyed_good, valid_unknown, valid_known}
 use Rattle.build_tables.proofs.TableLaws.{free_standing_facts}
-use borrow.Author.Tests.{not-true, not-false}
 use mathlib.Core.Path.{sym, ◌∙◌}
-use borrow.Author.Rules.{rules}
 use Rattle.build_values.proofs.insert.insert_at_key.Goals as goal
 
 pub returns-then-not-is_free_standing : goal.returns-then-not-is_free_standing
@@ -22,10 +20,10 @@ returns-then-key-gt-LONGEST_KEY c =
 pub insert_below_path-requires : goal.insert_below_path-requires
 insert_below_path-requires c =
     record {
-  valid-memory = c.requires;
-  known = (free_standing_facts _ _ (sym c.is_free_standing.ensures ∙ c.if-not-is_free_standing.false)).0;
-  short = c.if-key-gt-LONGEST_KEY.false;
-}
+      valid-memory = c.requires;
+      known = (free_standing_facts _ _ (sym c.is_free_standing.ensures ∙ c.if-not-is_free_standing.false)).0;
+      short = c.if-key-gt-LONGEST_KEY.false;
+    }
 
 pub returns : goal.returns
 returns c =

@@ -1,7 +1,5 @@
 -- `build_values::insert::insert_below_path` meets its contract: 21, 26, or on along the way.
 use Rattle.build_values.proofs.InsertLaws.{way-blocked, way_deep, way_along}
-use borrow.Author.Tests.{not-true, not-false}
-use borrow.Author.Rules.{rules}
 use Rattle.build_values.proofs.insert.insert_below_path.Goals as goal
 
 pub returns-then-not-clear : goal.returns-then-not-clear

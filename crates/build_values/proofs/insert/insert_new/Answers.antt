@@ -2,7 +2,6 @@
 use Rattle.build_values.proofs.InsertLaws.{new_many, new_full, new_made}
 use Rattle.build_memory.specs.Item.{stored}
 use native.Mathlib.Omega.{arith}
-use borrow.Author.Rules.{rules}
 use Rattle.build_values.proofs.insert.insert_new.Goals as goal
 
 pub returns-then-words-cost : goal.returns-then-words-cost

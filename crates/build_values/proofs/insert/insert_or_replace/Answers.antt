@@ -3,7 +3,6 @@ use Rattle.build_values.proofs.InsertLaws.{along_old, along_new}
 use Rattle.key_hash.specs.Hash.{plain}
 use Rattle.key_hash.proofs.HashLaws.{hash_whole}
 use mathlib.Core.Path.{◌∙◌}
-use borrow.Author.Rules.{rules}
 use Rattle.build_values.proofs.insert.insert_or_replace.Goals as goal
 
 pub find_hashed-i-requires : goal.find_hashed-i-requires

@@ -1,9 +1,7 @@
 -- `build_values::insert::insert_value` meets its contract: 29, or what valid memory gives.
 use Rattle.build_values.proofs.InsertLaws.{value_invalid, value-valid}
 use Rattle.build_memory.proofs.MemoryLaws.{valid_facts}
-use borrow.Author.Tests.{not-true, not-false}
 use mathlib.Core.Path.{sym, ◌∙◌}
-use borrow.Author.Rules.{rules}
 use Rattle.build_values.proofs.insert.insert_value.Goals as goal
 
 pub returns-then-not-judge : goal.returns-then-not-judge

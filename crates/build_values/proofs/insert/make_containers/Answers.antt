@@ -1,22 +1,18 @@
 -- `build_values::insert::make_containers` meets its contract. The invariant: the containers from the start are the containers from here, the counts grow as the
 -- ends are passed, and the hash is that of the key up to here.
 use Rattle.build_values.proofs.WalkLaws.{further, last, make_end, make_more}
-use Rattle.build_values.specs.Insert.{containers}
 use Rattle.build_values.specs.Walk.{sum}
 use Rattle.build_memory.proofs.MadeLaws.{made_all}
 use Rattle.build_memory.specs.Item.{stored}
 use Rattle.layout.specs.Kind.{container_kind}
-use Rattle.build_memory.specs.Memory.{item_total, room_used, memory}
-use Rattle.key_order.specs.Prefix.{ends_past}
-use Rattle.key_hash.specs.Hash.{hash_of, plain}
+use Rattle.build_memory.specs.Memory.{memory}
+use Rattle.key_hash.specs.Hash.{plain}
 use Rattle.key_hash.proofs.HashLaws.{hash_further}
-use borrow.Author.Rules.{rules}
 use lib.Seq.{length-take-le}
 use lib.ListN.{length, take}
 use native.Mathlib.Omega.{arith}
-use Prim.Native.Nat.{◌+◌, ◌-◌, ◌≤◌}
 use mathlib.Core.List.{[]}
-use mathlib.Core.Path.{◌≡◌, refl, sym, ap, ◌∙◌}
+use mathlib.Core.Path.{refl, sym, ap, ◌∙◌}
 use Rattle.build_values.proofs.insert.make_containers.Goals as goal
 
 pub loop-table-init : goal.loop-table-init

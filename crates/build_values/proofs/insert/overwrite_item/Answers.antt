@@ -1,7 +1,6 @@
 -- `build_values::insert::overwrite_item` meets its contract: 23, or the item written again.
 use Rattle.build_values.proofs.InsertLaws.{old_full, old_written}
 use native.Mathlib.Omega.{arith}
-use borrow.Author.Rules.{rules}
 use Rattle.build_values.proofs.insert.overwrite_item.Goals as goal
 
 pub returns-then-left-value : goal.returns-then-left-value

@@ -1,12 +1,9 @@
 -- `build_values::walk::cost_of` meets its contract. The invariant: what is counted and what is left make the whole.
 use Rattle.build_values.proofs.WalkLaws.{further, last}
 use Rattle.build_values.specs.Walk.{sum}
-use Rattle.layout.specs.Limits.{longest_key}
-use Rattle.key_order.specs.Prefix.{ends_past}
 use lib.ListN.{length}
 use native.Mathlib.Omega.{arith}
-use Prim.Native.Nat.{◌+◌, ◌*◌, ◌-◌, ◌≤◌}
-use mathlib.Core.Path.{◌≡◌, ap}
+use mathlib.Core.Path.{ap}
 use Rattle.build_values.proofs.walk.cost_of.Goals as goal
 
 pub returns-then-key-e : goal.returns-then-key-e

@@ -2,16 +2,12 @@
 -- up to here.
 use Rattle.build_values.proofs.WalkLaws.{further, walked_is, walk_end, walk_miss, walk_block, walk_pass}
 use Rattle.build_values.specs.Walk.{descend}
-use Rattle.layout.specs.Limits.{most_items}
 use Rattle.key_order.specs.Prefix.{ends_past}
-use Rattle.key_hash.specs.Hash.{hash_of, plain}
+use Rattle.key_hash.specs.Hash.{plain}
 use Rattle.key_hash.proofs.HashLaws.{hash-none, hash_further}
 use lib.Seq.{length-take-le}
-use lib.ListN.{length, take}
-use borrow.Author.Rules.{rules}
 use native.Mathlib.Omega.{arith}
-use Prim.Native.Nat.{◌-◌, ◌≤◌}
-use mathlib.Core.Path.{◌≡◌, refl, sym, ◌∙◌}
+use mathlib.Core.Path.{refl, sym, ◌∙◌}
 use Rattle.build_values.specs.Walk.{descend}
 use Rattle.key_order.specs.Prefix.{ends_past}
 use Rattle.build_values.proofs.walk.descend_to.Goals as goal
@@ -25,7 +21,7 @@ returns-then-key-e c =
     let whole = walked_is a.key.now (descend a.words.now a.arena.now a.table a.key.now (ends_past a.sep a.key.now 0) 0 0) _ _ _ _ _ c.ended.ensures
     (walk_end a.sep a.key.now c.loop-table.from c.loop-table.invariant.0 _ c.next_end-e.ensures.value a.words.now a.arena.now a.table c.loop-table.parent c.if-key-e.true
     ∙ sym c.loop-table.invariant.2) c.loop-table.invariant.0 c.loop-table.invariant.1 c.loop-table.invariant.3 in
-    record { way_value = whole.0; within = whole.1.0; hashed = whole.1.1; }
+    record { way_value = whole.0; within = whole.1.0; hashed = whole.1.1 }
 
 pub slice_bounds-find_hashed-end : goal.slice_bounds-find_hashed-end
 slice_bounds-find_hashed-end c = sym (length-take-le c.next_end-e.result c.args.key.now (omega arith))
@@ -45,7 +41,7 @@ returns-then-n-i c =
     let whole = walked_is a.key.now (descend a.words.now a.arena.now a.table a.key.now (ends_past a.sep a.key.now 0) 0 0) _ _ _ _ _ c.ended-then-n-i.ensures
     (walk_miss a.sep a.key.now c.loop-table.from c.loop-table.invariant.0 _ c.next_end-e.ensures.value a.words.now a.arena.now a.table c.loop-table.parent c.if-key-e.false _
     c.find_hashed-i.ensures.value c.if-n-i.true ∙ sym c.loop-table.invariant.2) c.loop-table.invariant.0 c.loop-table.invariant.1 c.loop-table.invariant.3 in
-    record { way_value = whole.0; within = whole.1.0; hashed = whole.1.1; }
+    record { way_value = whole.0; within = whole.1.0; hashed = whole.1.1 }
 
 pub returns-then-item_word-ne-CONTAINER_KIND : goal.returns-then-item_word-ne-CONTAINER_KIND
 returns-then-item_word-ne-CONTAINER_KIND c =
@@ -53,7 +49,7 @@ returns-then-item_word-ne-CONTAINER_KIND c =
     let whole = walked_is a.key.now (descend a.words.now a.arena.now a.table a.key.now (ends_past a.sep a.key.now 0) 0 0) _ _ _ _ _ c.ended-then-item_word-ne-CONTAINER_KIND.ensures
     (walk_block a.sep a.key.now c.loop-table.from c.loop-table.invariant.0 _ c.next_end-e.ensures.value a.words.now a.arena.now a.table c.loop-table.parent c.if-key-e.false _
     c.find_hashed-i.ensures.value c.if-n-i.false (λ e. c.if-item_word-ne-CONTAINER_KIND.true (c.item_word.ensures ∙ e)) ∙ sym c.loop-table.invariant.2) c.loop-table.invariant.0 c.loop-table.invariant.1 c.loop-table.invariant.3 in
-    record { way_value = whole.0; within = whole.1.0; hashed = whole.1.1; }
+    record { way_value = whole.0; within = whole.1.0; hashed = whole.1.1 }
 
 pub loop-table-smaller : goal.loop-table-smaller
 loop-table-smaller c =

@@ -1,6 +1,5 @@
 -- `check_hash::tally::finished` meets its contract: the remainder of the product has no bearing.
 use Rattle.check_hash.proofs.TallyLaws.{finish_is}
-use Rattle.std.proofs.Common.{rules}
 use Rattle.check_hash.proofs.tally.finished.Goals as goal
 
 pub returns : goal.returns

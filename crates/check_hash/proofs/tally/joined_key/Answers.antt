@@ -1,9 +1,9 @@
 -- `check_hash::tally::joined_key` meets its contract: the invariant is `Tallying`, and the measure is the steps left.
-use Rattle.std.proofs.Common.{◌≡◌, ℕ, List, sym, refl, ap, ◌∙◌, subst, arith, rules}
+use Rattle.std.proofs.Common.{ℕ, List, sym, refl, ap, ◌∙◌, subst, arith, rules}
 use Rattle.key_hash.specs.Hash.{rule_of}
 use Rattle.read_chain.proofs.ChainLaws.{StepFits, climb_fits, fragment_taken}
 use Rattle.check_hash.specs.Tally.{prepend}
-use Rattle.check_hash.proofs.KeyLaws.{Tallying, joined-start, joined_over, joined-refused, joined_root, joined_up}
+use Rattle.check_hash.proofs.KeyLaws.{joined-start, joined_over, joined-refused, joined_root, joined_up}
 use Rattle.check_hash.proofs.tally.joined_key.Goals as goal
 
 pub loop-left-init : goal.loop-left-init
@@ -33,8 +33,7 @@ slice_bounds-prepend_all-end-in-Up c =
     omega (arith, fits, c.word_size-start.ensures.0, c.half_size-part.ensures.0)
 
 pub loop-left-preserved : goal.loop-left-preserved
-loop-left-preserved c =
-    (
+loop-left-preserved c = (
   refl,
   joined_up _ _ _ _ c.loop-left.invariant.1 c.loop-left-test.true c.item_at-item.ensures c.half_size-part.ensures.0
       (c.prepend_all-tally.ensures ∙ ap (λ (l : List ℕ). prepend (rule_of c.args.form) l c.loop-left.tally) (fragment_taken _ _ c.word_size-start.ensures.0 c.half_size-part.ensures.0))

@@ -1,9 +1,7 @@
 -- `check_hash::tally::joined_key` meets its contract: the invariant is `Tallying`, and the measure is the steps left.
-use Rattle.std.proofs.Common.{◌≡◌, ℕ, List, sym, refl, ap, ◌∙◌, subst, arith, rules}
+use Rattle.std.proofs.Common.{◌≡◌}
 use Rattle.key_hash.specs.Hash.{rule_of}
-use Rattle.read_chain.proofs.ChainLaws.{StepFits, climb_fits, fragment_taken}
-use Rattle.check_hash.specs.Tally.{prepend}
-use Rattle.check_hash.proofs.KeyLaws.{Tallying, joined-start, joined_over, joined-refused, joined_root, joined_up}
+use Rattle.check_hash.proofs.KeyLaws.{Tallying}
 use Rattle.check_hash.proofs.tally.joined_key.Given as goal
 
 abbrev pub invariant-loop-left : goal.invariant-loop-left

@@ -1,5 +1,4 @@
 -- `check_hash::tally::prepend_all` meets its contract: each arm names the form that is given.
-use Rattle.std.proofs.Common.{rules}
 use Rattle.check_hash.proofs.TallyLaws.{form_named}
 use Rattle.check_hash.proofs.tally.prepend_all.Goals as goal
 

@@ -1,6 +1,5 @@
 -- `check_hash::tally::prepend_byte` meets its contract: the remainder of the product has no bearing.
 use Rattle.check_hash.proofs.TallyLaws.{before_is}
-use Rattle.std.proofs.Common.{rules}
 use Rattle.check_hash.proofs.tally.prepend_byte.Goals as goal
 
 pub returns : goal.returns

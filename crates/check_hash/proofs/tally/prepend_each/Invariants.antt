@@ -1,8 +1,7 @@
 -- `check_hash::tally::prepend_each` meets its contract: the invariant says that the bytes from `i` on are in the tally.
-use Rattle.std.proofs.Common.{◌≡◌, ◌≤◌, length, drop, ◌∙◌, arith, rules}
+use Rattle.std.proofs.Common.{◌≡◌, ◌≤◌, length, drop}
 use Rattle.key_hash.specs.Hash.{rule_of}
 use Rattle.check_hash.specs.Tally.{prepend}
-use Rattle.check_hash.proofs.TallyLaws.{prepend_turn, prepend-start}
 use Rattle.check_hash.proofs.tally.prepend_each.Given as goal
 
 abbrev pub invariant-loop-i : goal.invariant-loop-i

@@ -1,6 +1,5 @@
 -- `check_hash::tally::prepend_four` meets its contract: a stride is four bytes in front, one by one.
 use Rattle.check_hash.proofs.TallyLaws.{four_is}
-use Rattle.std.proofs.Common.{rules}
 use Rattle.check_hash.proofs.tally.prepend_four.Goals as goal
 
 pub returns : goal.returns

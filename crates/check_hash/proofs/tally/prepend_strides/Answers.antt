@@ -1,7 +1,5 @@
 -- `check_hash::tally::prepend_strides` meets its contract: the invariant says that the bytes from `i` on are in the tally.
-use Rattle.std.proofs.Common.{◌≡◌, ◌-◌, ◌≤◌, length, drop, sym, arith, length-take-le, rules}
-use Rattle.key_hash.specs.Hash.{rule_of}
-use Rattle.check_hash.specs.Tally.{prepend}
+use Rattle.std.proofs.Common.{◌-◌, sym, arith, length-take-le, rules}
 use Rattle.check_hash.proofs.TallyLaws.{prepend_stride, prepend-start, prepend_front}
 use Rattle.check_hash.proofs.tally.prepend_strides.Goals as goal
 

@@ -1,8 +1,7 @@
 -- `check_hash::tally::prepend_strides` meets its contract: the invariant says that the bytes from `i` on are in the tally.
-use Rattle.std.proofs.Common.{◌≡◌, ◌-◌, ◌≤◌, length, drop, sym, arith, length-take-le, rules}
+use Rattle.std.proofs.Common.{◌≡◌, ◌≤◌, length, drop}
 use Rattle.key_hash.specs.Hash.{rule_of}
 use Rattle.check_hash.specs.Tally.{prepend}
-use Rattle.check_hash.proofs.TallyLaws.{prepend_stride, prepend-start, prepend_front}
 use Rattle.check_hash.proofs.tally.prepend_strides.Given as goal
 
 abbrev pub invariant-loop-i : goal.invariant-loop-i

@@ -1,6 +1,5 @@
 -- `check_keys::front::front_at` meets its contract: it is the definition, field by field.
 use Rattle.check_keys.specs.Front.{front_at}
-use borrow.Author.Rules.{rules}
 use Rattle.check_keys.proofs.front.front_at.Goals as goal
 
 pub returns : goal.returns

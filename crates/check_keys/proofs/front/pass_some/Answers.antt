@@ -1,8 +1,6 @@
 -- `check_keys::front::pass_some` meets its contract: each return is one law of a turn.
-use mathlib.Core.Path.{sym, ◌∙◌}
 use native.Mathlib.Omega.{arith}
 use Rattle.check_keys.proofs.PassLaws.{smaller_fits, some_raised, some_passed, some_differs}
-use borrow.Author.Rules.{rules}
 use Rattle.check_keys.proofs.front.pass_some.Goals as goal
 
 pub returns-then-rest-eq0 : goal.returns-then-rest-eq0

@@ -4,7 +4,6 @@ use native.Mathlib.Omega.{arith}
 use Rattle.layout.specs.declared.item.Item.{Item}
 use Rattle.read_chain.specs.Chain.{parent_of}
 use Rattle.check_keys.proofs.FrontLaws.{parent_below, raise_root, raise_refused, raise_up, left_some}
-use borrow.Author.Rules.{rules}
 use Rattle.check_keys.proofs.front.raise.Goals as goal
 
 pub overflow_sub-front : goal.overflow_sub-front

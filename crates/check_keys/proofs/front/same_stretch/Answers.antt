@@ -3,7 +3,6 @@ use mathlib.Core.Path.{ap, ◌∙◌}
 use native.Mathlib.Omega.{arith}
 use Rattle.layout.specs.declared.item.Item.{Item}
 use Rattle.check_keys.proofs.FrontLaws.{stretch_inside, stretch_same}
-use borrow.Author.Rules.{rules}
 use Rattle.check_keys.proofs.front.same_stretch.Goals as goal
 
 pub overflow_add-stop : goal.overflow_add-stop

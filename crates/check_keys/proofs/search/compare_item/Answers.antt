@@ -2,7 +2,6 @@
 use mathlib.Core.Path.{sym, ◌∙◌, subst}
 use Rattle.check_keys.specs.Front.{BackPassed}
 use Rattle.check_keys.proofs.SameLaws.{same_refused, same_outside, root_over, up_over, ended_differs}
-use borrow.Author.Rules.{rules}
 use Rattle.check_keys.proofs.search.compare_item.Goals as goal
 
 pub returns-then-file-end : goal.returns-then-file-end

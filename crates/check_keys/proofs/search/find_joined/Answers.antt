@@ -4,7 +4,6 @@ use native.Mathlib.Omega.{arith}
 use Prim.Native.Nat.{◌<◌}
 use native.Mathlib.Nat.{mod-lt}
 use Rattle.read_find.proofs.FindLaws.{find_no_buckets, find_filtered, find_in_run}
-use borrow.Author.Rules.{rules}
 use Rattle.check_keys.proofs.search.find_joined.Goals as goal
 
 pub returns-then-buckets-eq0 : goal.returns-then-buckets-eq0

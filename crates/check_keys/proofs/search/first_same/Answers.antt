@@ -1,11 +1,6 @@
 -- `check_keys::search::first_same` meets its contract: what the search has still to say from here is what it had to say from the start.
-use mathlib.Core.Path.{◌≡◌}
-use Prim.Native.Nat.{◌-◌}
-use Rattle.read_chain.specs.Chain.{key_of}
-use Rattle.read_find.specs.Find.{manner_of, first_from, first_of, item_matches}
+use Rattle.read_find.specs.Find.{first_of}
 use Rattle.read_find.proofs.FindLaws.{first_past, first_hit, first_on, first_over}
-use Rattle.check_hash.specs.Key.{bytes_of}
-use borrow.Author.Rules.{rules}
 use Rattle.check_keys.proofs.search.first_same.Goals as goal
 
 pub returns-then-count-at : goal.returns-then-count-at

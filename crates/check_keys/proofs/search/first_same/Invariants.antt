@@ -2,10 +2,8 @@
 use mathlib.Core.Path.{◌≡◌}
 use Prim.Native.Nat.{◌-◌}
 use Rattle.read_chain.specs.Chain.{key_of}
-use Rattle.read_find.specs.Find.{manner_of, first_from, first_of, item_matches}
-use Rattle.read_find.proofs.FindLaws.{first_past, first_hit, first_on, first_over}
+use Rattle.read_find.specs.Find.{manner_of, first_from, item_matches}
 use Rattle.check_hash.specs.Key.{bytes_of}
-use borrow.Author.Rules.{rules}
 use Rattle.check_keys.proofs.search.first_same.Given as goal
 
 abbrev pub invariant-loop-at : goal.invariant-loop-at

@@ -2,7 +2,6 @@
 use mathlib.Core.Path.{◌∙◌}
 use Rattle.read_find.proofs.FindLaws.{other_hash, same_hash}
 use Rattle.check_hash.proofs.KeyLaws.{names_at}
-use borrow.Author.Rules.{rules}
 use Rattle.check_keys.proofs.search.joined_matches.Goals as goal
 
 pub returns-then-item-hash : goal.returns-then-item-hash

@@ -1,10 +1,7 @@
 -- `check_keys::search::same_key` meets its contract: the invariant is `Comparing`, and the measure is the steps left.
 use mathlib.Core.Path.{subst}
-use Rattle.read_chain.specs.Chain.{key_of}
-use Rattle.check_hash.specs.Key.{bytes_of}
 use Rattle.check_keys.specs.Front.{ItemCompared}
-use Rattle.check_keys.proofs.SameLaws.{Comparing, same_start, same_over, same_ended, same_up}
-use borrow.Author.Rules.{rules}
+use Rattle.check_keys.proofs.SameLaws.{same_start, same_over, same_ended, same_up}
 use Rattle.check_keys.proofs.search.same_key.Goals as goal
 
 pub front_at-here-requires : goal.front_at-here-requires

@@ -5,7 +5,6 @@ use lib.Dec.{eqb}
 use lib.ListN.{get_or}
 use lib.Bits.{and_mask}
 use Rattle.check_rules.specs.Bits.{has_bit}
-use borrow.Author.Rules.{rules}
 use Rattle.check_rules.proofs.bits.has_bit.Goals as goal
 
 pub returns : goal.returns

@@ -7,7 +7,6 @@ use lib.ListN.{get_or, set}
 use lib.Bits.{bit_or}
 use lib.Pow.{shl_exact}
 use Rattle.check_rules.specs.Bits.{with_bit}
-use borrow.Author.Rules.{rules}
 use Rattle.check_rules.proofs.bits.set_bit.Goals as goal
 
 pub returns : goal.returns

@@ -1,8 +1,6 @@
 -- `check_rules::rules::is_among` meets its contract: the invariant says that none of the first `k` is the index.
 use mathlib.Core.Path.{◌≡◌, refl, sym, ◌∙◌}
 use native.Mathlib.Omega.{arith}
-use Prim.Native.Nat.{◌≤◌, ◌-◌}
-use mathlib.Core.Bool.{false}
 use borrow.Author.Tests.{eq-eqb, ne_eqb}
 use Rattle.words.specs.Below.{some_below}
 use Rattle.words.proofs.BelowLaws.{below_some, some_turn}

@@ -2,7 +2,6 @@
 use mathlib.Core.Path.{sym, ◌∙◌}
 use Rattle.check_hash.proofs.KeyLaws.{joined_sized, joined_hashed}
 use Rattle.check_rules.proofs.RuleLaws.{key_broken, key_nothing, key_here, key_elsewhere}
-use borrow.Author.Rules.{rules}
 use Rattle.check_rules.proofs.rules.key_rule.Goals as goal
 
 pub find_joined-requires : goal.find_joined-requires

@@ -2,7 +2,6 @@
 use mathlib.Core.Path.{sym, ◌∙◌}
 use Rattle.layout.proofs.OpenLaws.{pointer_inside}
 use Rattle.check_rules.proofs.RuleLaws.{list-refused, list_inside}
-use borrow.Author.Rules.{rules}
 use Rattle.check_rules.proofs.rules.list_opens.Goals as goal
 
 pub overflow_sub-result : goal.overflow_sub-result

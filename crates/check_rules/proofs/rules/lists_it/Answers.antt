@@ -1,9 +1,7 @@
 -- `check_rules::rules::lists_it` meets its contract: each return is a case of the definition.
 use mathlib.Core.Path.{sym, ◌∙◌}
 use native.Mathlib.Omega.{arith}
-use borrow.Author.Tests.{not-true, not-false}
 use Rattle.check_rules.proofs.RuleLaws.{lists_other, lists_shut, lists_open, list_room}
-use borrow.Author.Rules.{rules}
 use Rattle.check_rules.proofs.rules.lists_it.Goals as goal
 
 pub returns-then-parent-ne-CONTAINER_BYTE : goal.returns-then-parent-ne-CONTAINER_BYTE

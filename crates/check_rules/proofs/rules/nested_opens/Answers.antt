@@ -1,7 +1,6 @@
 -- `check_rules::rules::nested_opens` meets its contract: each arm is a case of the definition.
 use mathlib.Core.Path.{sym, ap, ◌∙◌}
 use Rattle.check_rules.specs.Rules.{is_table}
-use borrow.Author.Rules.{rules}
 use Rattle.check_rules.proofs.rules.nested_opens.Goals as goal
 
 pub returns-in-Refused : goal.returns-in-Refused

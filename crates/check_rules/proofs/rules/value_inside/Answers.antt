@@ -1,7 +1,6 @@
 -- `check_rules::rules::value_inside` meets its contract: each arm is a case of the definition.
 use mathlib.Core.Path.{sym, ◌∙◌}
 use Rattle.check_rules.specs.Rules.{is_inside}
-use borrow.Author.Rules.{rules}
 use Rattle.check_rules.proofs.rules.value_inside.Goals as goal
 
 pub returns-in-Refused : goal.returns-in-Refused

@@ -2,7 +2,6 @@
 use borrow.Author.Tests.{eq-eqb, ne_eqb}
 use Rattle.words.specs.Choice.{pick}
 use Rattle.check_rules.specs.Rules.{value_opens}
-use borrow.Author.Rules.{rules}
 use Rattle.check_rules.proofs.rules.value_opens.Goals as goal
 
 pub returns-then-kind-eq-VALUE_BYTE : goal.returns-then-kind-eq-VALUE_BYTE

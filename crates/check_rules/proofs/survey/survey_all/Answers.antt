@@ -1,10 +1,7 @@
 -- `check_rules::survey::survey_all` meets its contract: the invariant is `Surveyed`.
-use mathlib.Core.Path.{◌≡◌, refl}
+use mathlib.Core.Path.{refl}
 use native.Mathlib.Omega.{arith}
-use Prim.Native.Nat.{◌≤◌, ◌-◌}
-use lib.ListN.{length}
-use borrow.Author.Tests.{not-true, not-false}
-use Rattle.check_rules.proofs.SurveyLaws.{Surveyed, survey_start, survey_fresh, survey_over, survey_stop, survey_turn}
+use Rattle.check_rules.proofs.SurveyLaws.{survey_start, survey_fresh, survey_over, survey_stop, survey_turn}
 use borrow.Author.Rules.{rules}
 use Rattle.check_rules.proofs.survey.survey_all.Goals as goal
 
@@ -23,12 +20,11 @@ returns-then-not-survey_container c =
     survey_stop _ _ c.loop-at.invariant.2 c.item_at-item.ensures c.survey_container.ensures.said c.loop-at-test.true (c.if-not-survey_container.true) c.survey_container.ensures.wrote
 
 pub loop-at-preserved : goal.loop-at-preserved
-loop-at-preserved c =
-    (
-      omega arith,
-      omega arith,
-      survey_turn _ _ c.loop-at.invariant.2 c.item_at-item.ensures c.survey_container.ensures.said (c.if-not-survey_container.false) c.survey_container.ensures.wrote,
-    )
+loop-at-preserved c = (
+  omega arith,
+  omega arith,
+  survey_turn _ _ c.loop-at.invariant.2 c.item_at-item.ensures c.survey_container.ensures.said (c.if-not-survey_container.false) c.survey_container.ensures.wrote,
+)
 
 pub returns : goal.returns
 returns c = survey_over _ _ c.loop-at.invariant.2 c.loop-at-test.false c.loop-at.invariant.0

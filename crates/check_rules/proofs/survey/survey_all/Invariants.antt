@@ -1,11 +1,8 @@
 -- `check_rules::survey::survey_all` meets its contract: the invariant is `Surveyed`.
-use mathlib.Core.Path.{◌≡◌, refl}
-use native.Mathlib.Omega.{arith}
+use mathlib.Core.Path.{◌≡◌}
 use Prim.Native.Nat.{◌≤◌, ◌-◌}
 use lib.ListN.{length}
-use borrow.Author.Tests.{not-true, not-false}
-use Rattle.check_rules.proofs.SurveyLaws.{Surveyed, survey_start, survey_fresh, survey_over, survey_stop, survey_turn}
-use borrow.Author.Rules.{rules}
+use Rattle.check_rules.proofs.SurveyLaws.{Surveyed}
 use Rattle.check_rules.proofs.survey.survey_all.Given as goal
 
 abbrev pub invariant-loop-at : goal.invariant-loop-at

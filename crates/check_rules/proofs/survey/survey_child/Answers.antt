@@ -3,7 +3,6 @@ use mathlib.Core.Path.{refl, sym, ◌∙◌}
 use Rattle.words.specs.Choice.{pick}
 use Rattle.check_rules.specs.Survey.{after_child}
 use Rattle.check_rules.proofs.ChildLaws.{fresh_outside, fresh_strange, fresh-joined}
-use borrow.Author.Rules.{rules}
 use Rattle.check_rules.proofs.survey.survey_child.Goals as goal
 
 pub returns-then-table-child : goal.returns-then-table-child

@@ -1,14 +1,8 @@
 -- `check_rules::survey::survey_children` meets its contract: the invariant says that the first `k` children are good and have their bits.
 use mathlib.Core.Path.{◌≡◌, refl, sym, ◌∙◌}
 use native.Mathlib.Omega.{arith}
-use Prim.Native.Nat.{◌≤◌, ◌-◌}
-use mathlib.Core.Bool.{true}
-use lib.ListN.{length}
-use borrow.Author.Tests.{not-true, not-false}
 use Rattle.words.specs.Below.{all_below}
 use Rattle.read_listing.specs.Children.{child_at}
-use Rattle.check_rules.specs.Rules.{child_good, among}
-use Rattle.check_rules.specs.Survey.{Surveying}
 use Rattle.check_rules.proofs.ChildLaws.{walk_start, turn_fails, turn_goes}
 use borrow.Author.Rules.{rules}
 use Rattle.check_rules.proofs.survey.survey_children.Goals as goal
@@ -24,7 +18,7 @@ pub returns-then-not-survey_child : goal.returns-then-not-survey_child
 unfolding child_at
 returns-then-not-survey_child c =
     let whole = turn_fails c.args.file.now c.args.table c.args.index c.args.from c.args.bits.now c.loop-k.k c.loop-k.invariant.3 (c.word_size-child.ensures.0 ∙ c.word_at.ensures) c.survey_child.ensures.said c.survey_child.ensures.wrote c.args.n c.loop-k-test.true (c.if-not-survey_child.true) in
-    record { said = whole.0; wrote = whole.1; }
+    record { said = whole.0; wrote = whole.1 }
 
 pub loop-k-preserved : goal.loop-k-preserved
 unfolding child_at

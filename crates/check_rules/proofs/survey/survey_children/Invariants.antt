@@ -1,16 +1,11 @@
 -- `check_rules::survey::survey_children` meets its contract: the invariant says that the first `k` children are good and have their bits.
-use mathlib.Core.Path.{◌≡◌, refl, sym, ◌∙◌}
-use native.Mathlib.Omega.{arith}
+use mathlib.Core.Path.{◌≡◌}
 use Prim.Native.Nat.{◌≤◌, ◌-◌}
 use mathlib.Core.Bool.{true}
 use lib.ListN.{length}
-use borrow.Author.Tests.{not-true, not-false}
 use Rattle.words.specs.Below.{all_below}
-use Rattle.read_listing.specs.Children.{child_at}
 use Rattle.check_rules.specs.Rules.{child_good, among}
 use Rattle.check_rules.specs.Survey.{Surveying}
-use Rattle.check_rules.proofs.ChildLaws.{walk_start, turn_fails, turn_goes}
-use borrow.Author.Rules.{rules}
 use Rattle.check_rules.proofs.survey.survey_children.Given as goal
 
 abbrev pub invariant-loop-k : goal.invariant-loop-k

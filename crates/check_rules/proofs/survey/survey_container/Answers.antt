@@ -1,10 +1,8 @@
 -- `check_rules::survey::survey_container` meets its contract: an item that is no container, or breaks rule 4, lists nothing.
 use mathlib.Core.Path.{sym, ◌∙◌}
 use native.Mathlib.Omega.{arith}
-use borrow.Author.Tests.{not-true, not-false}
 use Rattle.check_rules.proofs.RuleLaws.{children_other, children_all, lists_other, lists_shut, lists_open, list_room}
 use Rattle.check_rules.proofs.ChildLaws.{no_bit, as_listed, five_other, five_shut, five_open}
-use borrow.Author.Rules.{rules}
 use Rattle.check_rules.proofs.survey.survey_container.Goals as goal
 
 pub returns-then-item-ne-CONTAINER_BYTE : goal.returns-then-item-ne-CONTAINER_BYTE

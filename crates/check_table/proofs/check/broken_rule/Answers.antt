@@ -1,9 +1,7 @@
 -- `check_table::check::broken_rule` meets its contract: each return is a rule of the cascade; the survey stopped where rule 5 is broken first.
 use mathlib.Core.Path.{sym, ◌∙◌}
-use borrow.Author.Tests.{not-true, not-false}
 use Rattle.check_rules.proofs.RuleLaws.{breaks_key, breaks_3, breaks_4, breaks_5, breaks_6, breaks_none}
 use Rattle.check_rules.proofs.SurveyLaws.{five_fails, five_holds}
-use borrow.Author.Rules.{rules}
 use Rattle.check_table.proofs.check.broken_rule.Goals as goal
 
 pub returns-then-key-ne0 : goal.returns-then-key-ne0

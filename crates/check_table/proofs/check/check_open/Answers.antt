@@ -1,6 +1,5 @@
 -- `check_table::check::check_open` meets its contract: zeros have no bit set.
 use Rattle.check_rules.proofs.SurveyLaws.{blank, enough}
-use borrow.Author.Rules.{rules}
 use Rattle.check_table.proofs.check.check_open.Goals as goal
 
 pub survey_all-stop-requires : goal.survey_all-stop-requires

@@ -1,8 +1,6 @@
 -- `check_table::check::check_surveyed` meets its contract: what the search has still to say from here is what it had to say from the start.
-use mathlib.Core.Path.{◌≡◌, refl, sym, ap, ◌∙◌}
-use Prim.Native.Nat.{◌-◌, ◌≤◌}
-use Rattle.read_find.specs.Find.{manner_of}
-use Rattle.check_rules.specs.Rules.{first_broken, broken_rule, explained, check_in}
+use mathlib.Core.Path.{refl, sym, ap, ◌∙◌}
+use Rattle.check_rules.specs.Rules.{broken_rule, explained}
 use Rattle.check_rules.proofs.RuleLaws.{broken-start, broken_here, broken_later, broken_over}
 use Rattle.check_rules.proofs.SurveyLaws.{passes_on}
 use borrow.Author.Rules.{rules}

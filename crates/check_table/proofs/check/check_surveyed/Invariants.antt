@@ -1,11 +1,8 @@
 -- `check_table::check::check_surveyed` meets its contract: what the search has still to say from here is what it had to say from the start.
-use mathlib.Core.Path.{◌≡◌, refl, sym, ap, ◌∙◌}
+use mathlib.Core.Path.{◌≡◌}
 use Prim.Native.Nat.{◌-◌, ◌≤◌}
 use Rattle.read_find.specs.Find.{manner_of}
 use Rattle.check_rules.specs.Rules.{first_broken, broken_rule, explained, check_in}
-use Rattle.check_rules.proofs.RuleLaws.{broken-start, broken_here, broken_later, broken_over}
-use Rattle.check_rules.proofs.SurveyLaws.{passes_on}
-use borrow.Author.Rules.{rules}
 use Rattle.check_table.proofs.check.check_surveyed.Given as goal
 
 abbrev pub invariant-loop-at : goal.invariant-loop-at

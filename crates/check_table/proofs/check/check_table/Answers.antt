@@ -2,7 +2,6 @@
 use mathlib.Core.Path.{sym, ap, ◌∙◌}
 use Rattle.layout.proofs.OpenLaws.{opened_in_file}
 use Rattle.check_rules.specs.Rules.{check_table, check_opened}
-use borrow.Author.Rules.{rules}
 use Rattle.check_table.proofs.check.check_table.Goals as goal
 
 pub check_open-requires : goal.check_open-requires

@@ -1,7 +1,6 @@
 -- `check_table::check::explain` meets its contract: a rule that is not 1 stays, and rule 1 is told with what the key measures.
 use mathlib.Core.Path.{sym, ◌∙◌}
 use Rattle.check_rules.proofs.RuleLaws.{explained_other, explained-refused, explained_sized}
-use borrow.Author.Rules.{rules}
 use Rattle.check_table.proofs.check.explain.Goals as goal
 
 pub returns-then-rule-ne1 : goal.returns-then-rule-ne1

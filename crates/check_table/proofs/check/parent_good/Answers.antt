@@ -4,7 +4,6 @@ use Rattle.check_rules.specs.Rules.{parent_keeps, lists_it}
 use Rattle.check_rules.proofs.RuleLaws.{parent_keeps_lem}
 use Rattle.check_keys.proofs.FrontLaws.{parent_below}
 use Rattle.check_rules.proofs.SurveyLaws.{six_bit_set}
-use borrow.Author.Rules.{rules}
 use Rattle.check_table.proofs.check.parent_good.Goals as goal
 
 pub item_at-requires : goal.item_at-requires

@@ -1,9 +1,6 @@
 -- `read::layered::layered_in` meets its contract: 8 is the owner's; then what the owner's table answers is told, but for 12.
 use native.Mathlib.Omega.{arith}
 use mathlib.Core.Path.{◌≡◌, refl, sym, ◌∙◌}
-use mathlib.Core.Logic.{⊎_elim}
-use borrow.Author.Rules.{rules}
-use borrow.Author.Tests.{not-true, not-false}
 use Rattle.read_find.specs.Find.{manner_of}
 use Rattle.read_find.proofs.FindLaws.{found_below}
 use Rattle.read.proofs.LookupLaws.{value_in, looked_bad, looked_none, looked_some}
@@ -28,10 +25,10 @@ pub returns-then-number_of-eq12 : goal.returns-then-number_of-eq12
 returns-then-number_of-eq12 c =
     let text = sym c.is_utf8.ensures ∙ c.if-not-is_utf8.false in
     let own : c.match-find_item.own ≡ value_in (manner_of c.args.omanner) c.args.owner.now c.args.table c.args.key.now =
-        elim c.match-find_item.branch [
-          in-Nothing w ↦ looked_none _ _ _ _ _ text c.find_item.ensures w.in-Nothing.is w.own-is
-          | in-At w ↦ looked_some _ _ _ _ _ text c.find_item.ensures w.in-At.is w.item_at.ensures (w.own-is ∙ w.value_of-own.ensures)
-        ]
+    elim c.match-find_item.branch [
+      | in-Nothing w ↦ looked_none _ _ _ _ _ text c.find_item.ensures w.in-Nothing.is w.own-is
+      | in-At w ↦ looked_some _ _ _ _ _ text c.find_item.ensures w.in-At.is w.item_at.ensures (w.own-is ∙ w.value_of-own.ensures)
+    ]
     in
     misses _ own c.in-Refused.is c.number_of.ensures c.if-number_of-eq12.true c.lookup_under.ensures
 
@@ -39,10 +36,10 @@ pub returns-in-Pointer : goal.returns-in-Pointer
 returns-in-Pointer c =
     let text = sym c.is_utf8.ensures ∙ c.if-not-is_utf8.false in
     let own : c.match-find_item.own ≡ value_in (manner_of c.args.omanner) c.args.owner.now c.args.table c.args.key.now =
-        elim c.match-find_item.branch [
-          in-Nothing w ↦ looked_none _ _ _ _ _ text c.find_item.ensures w.in-Nothing.is w.own-is
-          | in-At w ↦ looked_some _ _ _ _ _ text c.find_item.ensures w.in-At.is w.item_at.ensures (w.own-is ∙ w.value_of-own.ensures)
-        ]
+    elim c.match-find_item.branch [
+      | in-Nothing w ↦ looked_none _ _ _ _ _ text c.find_item.ensures w.in-Nothing.is w.own-is
+      | in-At w ↦ looked_some _ _ _ _ _ text c.find_item.ensures w.in-At.is w.item_at.ensures (w.own-is ∙ w.value_of-own.ensures)
+    ]
     in
     points _ own c.in-Pointer.is
 
@@ -50,9 +47,9 @@ pub returns-else-number_of-eq12 : goal.returns-else-number_of-eq12
 returns-else-number_of-eq12 c =
     let text = sym c.is_utf8.ensures ∙ c.if-not-is_utf8.false in
     let own : c.match-find_item.own ≡ value_in (manner_of c.args.omanner) c.args.owner.now c.args.table c.args.key.now =
-        elim c.match-find_item.branch [
-          in-Nothing w ↦ looked_none _ _ _ _ _ text c.find_item.ensures w.in-Nothing.is w.own-is
-          | in-At w ↦ looked_some _ _ _ _ _ text c.find_item.ensures w.in-At.is w.item_at.ensures (w.own-is ∙ w.value_of-own.ensures)
-        ]
+    elim c.match-find_item.branch [
+      | in-Nothing w ↦ looked_none _ _ _ _ _ text c.find_item.ensures w.in-Nothing.is w.own-is
+      | in-At w ↦ looked_some _ _ _ _ _ text c.find_item.ensures w.in-At.is w.item_at.ensures (w.own-is ∙ w.value_of-own.ensures)
+    ]
     in
     refuses _ own c.in-Refused.is c.number_of.ensures c.if-number_of-eq12.false

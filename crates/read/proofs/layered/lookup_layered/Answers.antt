@@ -1,6 +1,5 @@
 -- `read::layered::lookup_layered` meets its contract: what opening the owner's table answers, and then what the open table does.
 use mathlib.Core.Path.{sym, ◌∙◌}
-use borrow.Author.Rules.{rules}
 use Rattle.layout.proofs.OpenLaws.{opened_in_file}
 use Rattle.read.specs.Lookup.{lookup_value, lookup_item, at_opened}
 use Rattle.read.specs.Layered.{layered_value}

@@ -1,6 +1,5 @@
 -- `read::layered::lookup_under` meets its contract: what opening answers, 12, or the value of the item that is found.
 use mathlib.Core.Path.{refl, sym, ◌∙◌}
-use borrow.Author.Rules.{rules}
 use Rattle.layout.proofs.OpenLaws.{opened_in_file}
 use Rattle.read.specs.Lookup.{lookup_value, lookup_item, at_opened, at_item}
 use Rattle.read_find.proofs.FindLaws.{found_below}

@@ -1,7 +1,6 @@
 -- `read::lookup::lookup_in` meets its contract: what is found is an item of the table.
 use mathlib.Core.Path.{sym, ap, ◌∙◌}
 use Prim.Native.Nat.{ℕ}
-use borrow.Author.Rules.{rules}
 use Rattle.words.specs.Choice.{pick}
 use Rattle.layout.specs.declared.refusal.Refusal.TheVariants.{KeyNotUtf8}
 use Rattle.read.specs.declared.lookup.Sought.{Sought}

@@ -1,6 +1,5 @@
 -- `read::lookup::lookup_table` meets its contract: what opening answers, and then the item.
 use mathlib.Core.Path.{sym, ◌∙◌}
-use borrow.Author.Rules.{rules}
 use Rattle.layout.proofs.OpenLaws.{opened_in_file}
 use Rattle.read.specs.Lookup.{lookup_table, lookup_item, at_opened, at_item}
 use Rattle.read.proofs.lookup.lookup_table.Goals as goal

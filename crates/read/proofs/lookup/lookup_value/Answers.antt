@@ -1,6 +1,5 @@
 -- `read::lookup::lookup_value` meets its contract: what opening answers, and then the item.
 use mathlib.Core.Path.{sym, ◌∙◌}
-use borrow.Author.Rules.{rules}
 use Rattle.layout.proofs.OpenLaws.{opened_in_file}
 use Rattle.read.specs.Lookup.{lookup_value, lookup_item, at_opened, at_item}
 use Rattle.read.proofs.lookup.lookup_value.Goals as goal

@@ -1,6 +1,5 @@
 -- `read::lookup::nested_in` meets its contract: what is found is an item of the table, of which the nested table is asked.
 use mathlib.Core.Path.{refl, sym, ◌∙◌}
-use borrow.Author.Rules.{rules}
 use Rattle.read_find.proofs.FindLaws.{found_below}
 use Rattle.read.proofs.LookupLaws.{looked_bad, looked_none, looked_some}
 use Rattle.read.proofs.lookup.nested_in.Goals as goal

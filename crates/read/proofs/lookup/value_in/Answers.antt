@@ -1,6 +1,5 @@
 -- `read::lookup::value_in` meets its contract: what is found is an item of the table, of which the value is asked.
 use mathlib.Core.Path.{refl, sym, ◌∙◌}
-use borrow.Author.Rules.{rules}
 use Rattle.read_find.proofs.FindLaws.{found_below}
 use Rattle.read.proofs.LookupLaws.{looked_bad, looked_none, looked_some}
 use Rattle.read.proofs.lookup.value_in.Goals as goal

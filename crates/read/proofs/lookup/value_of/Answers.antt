@@ -1,6 +1,5 @@
 -- `read::lookup::value_of` meets its contract: each return is a case of the definition.
 use mathlib.Core.Path.{sym, ◌∙◌}
-use borrow.Author.Rules.{rules}
 use borrow.Author.Tests.{eq-eqb, ne_eqb}
 use Rattle.words.specs.Choice.{pick}
 use Rattle.read.specs.Lookup.{value_of, at_pointer}

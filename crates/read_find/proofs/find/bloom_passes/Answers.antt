@@ -2,7 +2,6 @@
 use Prim.Native.Nat.{◌<◌, ◌/◌}
 use native.Mathlib.Omega.{arith}
 use native.Mathlib.Nat.{mod-lt}
-use borrow.Author.Rules.{rules}
 use borrow.Author.Tests.{eq-eqb}
 use Rattle.words.specs.Choice.{pick}
 use Rattle.read_find.specs.Find.{bloom_passes}

@@ -3,7 +3,6 @@ use Prim.Native.Nat.{◌<◌}
 use mathlib.Core.Path.{sym, ◌∙◌}
 use native.Mathlib.Omega.{arith}
 use native.Mathlib.Nat.{mod-lt}
-use borrow.Author.Rules.{rules}
 use Rattle.read_find.proofs.FindLaws.{find_no_buckets, find_no_items, find_filtered, find_in_run}
 use Rattle.read_find.proofs.find.find_item.Goals as goal
 

@@ -1,9 +1,7 @@
 -- `read_find::find::first_of` meets its contract: what the search has still to say from here is what it had to say from the start.
 use Prim.Native.Nat.{◌-◌}
 use mathlib.Core.Path.{◌≡◌}
-use borrow.Author.Rules.{rules}
-use Rattle.read_find.specs.Find.{manner_of, first_from, first_of, item_matches}
-use Rattle.read_find.proofs.FindLaws.{first_past, first_hit, first_on, first_over}
+use Rattle.read_find.specs.Find.{manner_of, first_from, item_matches}
 use Rattle.read_find.proofs.find.first_of.Given as goal
 
 abbrev pub invariant-loop-at : goal.invariant-loop-at

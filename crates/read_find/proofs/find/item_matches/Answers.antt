@@ -1,6 +1,5 @@
 -- `read_find::find::item_matches` meets its contract: the hash at hand is the key's.
 use mathlib.Core.Path.{◌∙◌}
-use borrow.Author.Rules.{rules}
 use Rattle.read_find.proofs.FindLaws.{other_hash, same_hash}
 use Rattle.read_find.proofs.find.item_matches.Goals as goal
 

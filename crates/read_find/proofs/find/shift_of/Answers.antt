@@ -1,10 +1,6 @@
 -- `read_find::find::shift_of` meets its contract: the top five bits of a word of 32 bits are below 32.
-use Prim.Native.Nat.{ℕ}
-use mathlib.Core.Path.{◌≡◌, ap, ◌∙◌}
 use native.Mathlib.Omega.{arith}
 use borrow.Author.Rules.{rules}
-use Rattle.words.specs.Bits.{bloom_shift}
-use Rattle.words.specs.Field.{word_at}
 use Rattle.read_find.specs.Find.{shift_of}
 use Rattle.read_find.proofs.FindLaws.{strict_shift}
 use Rattle.read_find.proofs.find.shift_of.Goals as goal

@@ -1,7 +1,6 @@
 -- `read_listing::children::child_count` meets its contract: it is the definition.
 use native.Mathlib.Omega.{arith}
 use Rattle.read_listing.specs.Children.{child_count}
-use borrow.Author.Rules.{rules}
 use Rattle.read_listing.proofs.children.child_count.Goals as goal
 
 pub overflow_sub-result : goal.overflow_sub-result

@@ -5,7 +5,6 @@ use borrow.Author.Tests.{lt-ltb, le-ltb}
 use Rattle.words.specs.Choice.{pick}
 use Rattle.read_listing.specs.Children.{child_at, child_count, child_from}
 use Rattle.read_listing.proofs.ChildLaws.{list_inside}
-use borrow.Author.Rules.{rules}
 use Rattle.read_listing.proofs.children.child_from.Goals as goal
 
 pub child_count-requires : goal.child_count-requires

@@ -1,7 +1,6 @@
 -- `read_listing::children::child_in` meets its contract: what the lookup answers, and then the container.
 use mathlib.Core.Path.{sym, ◌∙◌}
 use Rattle.read_listing.specs.Children.{child_of_sought, child_in_opened}
-use borrow.Author.Rules.{rules}
 use Rattle.read_listing.proofs.children.child_in.Goals as goal
 
 pub returns-in-Refused : goal.returns-in-Refused

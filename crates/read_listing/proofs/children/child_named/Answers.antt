@@ -3,7 +3,6 @@ use native.Mathlib.Omega.{arith}
 use mathlib.Core.Path.{sym, ◌∙◌}
 use Rattle.layout.proofs.OpenLaws.{pointer_inside}
 use Rattle.read_listing.proofs.ChildLaws.{named_refused, named_text, named_no_text}
-use borrow.Author.Rules.{rules}
 use Rattle.read_listing.proofs.children.child_named.Goals as goal
 
 pub slice_bounds-is_utf8-end : goal.slice_bounds-is_utf8-end

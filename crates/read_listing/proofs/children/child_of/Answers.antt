@@ -3,7 +3,6 @@ use mathlib.Core.Path.{sym, ◌∙◌}
 use borrow.Author.Tests.{le-leb, lt-leb}
 use Rattle.words.specs.Choice.{pick}
 use Rattle.read_listing.specs.Children.{child_of}
-use borrow.Author.Rules.{rules}
 use Rattle.read_listing.proofs.children.child_of.Goals as goal
 
 pub returns-then-table-index : goal.returns-then-table-index

@@ -5,7 +5,6 @@ use Rattle.words.specs.Choice.{pick}
 use Rattle.layout.proofs.OpenLaws.{pointer_inside}
 use Rattle.read_listing.specs.Children.{open_list}
 use Rattle.read_listing.proofs.ChildLaws.{list-refused, list_whole, list_uneven}
-use borrow.Author.Rules.{rules}
 use Rattle.read_listing.proofs.children.open_list.Goals as goal
 
 pub returns-then-item-ne-CONTAINER_BYTE : goal.returns-then-item-ne-CONTAINER_BYTE

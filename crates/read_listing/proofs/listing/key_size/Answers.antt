@@ -1,7 +1,7 @@
 -- `read_listing::listing::key_size` meets its contract: the invariant is `Measuring`, and the measure is the steps left.
-use mathlib.Core.Path.{◌≡◌, refl, sym, ◌∙◌}
+use mathlib.Core.Path.{refl, sym, ◌∙◌}
 use borrow.Author.Rules.{rules}
-use Rattle.read_listing.proofs.MeasureLaws.{Measuring, measure-start, measure_over, measure-refused, measure_root, measure_up}
+use Rattle.read_listing.proofs.MeasureLaws.{measure-start, measure_over, measure-refused, measure_root, measure_up}
 use Rattle.read_listing.proofs.listing.key_size.Goals as goal
 
 pub loop-left-init : goal.loop-left-init

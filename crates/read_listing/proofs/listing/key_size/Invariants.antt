@@ -1,7 +1,6 @@
 -- `read_listing::listing::key_size` meets its contract: the invariant is `Measuring`, and the measure is the steps left.
-use mathlib.Core.Path.{◌≡◌, refl, sym, ◌∙◌}
-use borrow.Author.Rules.{rules}
-use Rattle.read_listing.proofs.MeasureLaws.{Measuring, measure-start, measure_over, measure-refused, measure_root, measure_up}
+use mathlib.Core.Path.{◌≡◌}
+use Rattle.read_listing.proofs.MeasureLaws.{Measuring}
 use Rattle.read_listing.proofs.listing.key_size.Given as goal
 
 abbrev pub invariant-loop-left : goal.invariant-loop-left

@@ -1,10 +1,7 @@
 -- `read_listing::listing::next_value_index` meets its contract: the next value from here is the next value from the start.
-use Prim.Native.Nat.{◌-◌}
-use mathlib.Core.Path.{◌≡◌, sym, ◌∙◌}
-use borrow.Author.Rules.{rules}
+use mathlib.Core.Path.{sym, ◌∙◌}
 use borrow.Author.Tests.{eq-eqb, ne_eqb}
 use Rattle.words.specs.Choice.{pick}
-use Rattle.read_listing.specs.Listing.{next_value}
 use Rattle.read_listing.proofs.ListingLaws.{next_turn, next_over}
 use Rattle.read_listing.proofs.listing.next_value_index.Goals as goal
 

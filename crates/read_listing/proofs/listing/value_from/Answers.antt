@@ -1,5 +1,4 @@
 -- `read_listing::listing::value_from` meets its contract: each return is a case of the definition.
-use borrow.Author.Rules.{rules}
 use borrow.Author.Tests.{le-leb}
 use Rattle.words.specs.Choice.{pick}
 use Rattle.read_listing.specs.Listing.{value_from, value_opened}

@@ -1,5 +1,5 @@
 -- `read_listing::listing::write_key` meets its contract: the invariant is `Writing`, and the measure is the steps left.
-use mathlib.Core.Path.{◌≡◌, refl, sym, subst, ◌∙◌}
+use mathlib.Core.Path.{refl, sym, subst, ◌∙◌}
 use borrow.Author.Rules.{rules}
 use Rattle.read_listing.proofs.WriteLaws.{Writing, write-start, write_over, write_inside, write_fits, write_room, write_root, write-refused, write_up}
 use Rattle.read_listing.proofs.listing.write_key.Goals as goal
@@ -30,12 +30,11 @@ returns-in-Root c =
     ∙ write_root _ _ _ _ c.loop-left.invariant.1 c.loop-left-test.true c.item_at-item.ensures c.word_size-start.ensures.0 c.half_size-part.ensures.0 (sym c.parent_of.ensures ∙ c.in-Root.is)
 
 pub loop-left-preserved : goal.loop-left-preserved
-loop-left-preserved c =
-    (
-      refl,
-      subst (Writing _ _ _ _ _ _ _) (sym c.put_bytes.ensures)
-          (write_up _ _ _ _ c.loop-left.invariant.1 c.loop-left-test.true c.item_at-item.ensures c.word_size-start.ensures.0 c.half_size-part.ensures.0 (sym c.parent_of.ensures ∙ c.in-Up.is)),
-    )
+loop-left-preserved c = (
+  refl,
+  subst (Writing _ _ _ _ _ _ _) (sym c.put_bytes.ensures)
+      (write_up _ _ _ _ c.loop-left.invariant.1 c.loop-left-test.true c.item_at-item.ensures c.word_size-start.ensures.0 c.half_size-part.ensures.0 (sym c.parent_of.ensures ∙ c.in-Up.is)),
+)
 
 pub shape_of-out : goal.shape_of-out
 shape_of-out c = c.loop-left.invariant.1.long

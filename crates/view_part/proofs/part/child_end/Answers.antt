@@ -1,6 +1,5 @@
 use mathlib.Core.Path.{sym, ap}
 use Rattle.view_part.specs.Part.{child_end}
-use borrow.Author.Rules.{rules}
 use Rattle.view_part.proofs.part.child_end.Goals as goal
 
 pub returns-in-Child : goal.returns-in-Child

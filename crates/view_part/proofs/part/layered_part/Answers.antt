@@ -1,6 +1,5 @@
 -- `view_part::part::layered_part` meets its contract: a part of the file that the mark names.
 use Rattle.view_part.proofs.PartLaws.{source_part}
-use borrow.Author.Rules.{rules}
 use Rattle.view_part.proofs.part.layered_part.Goals as goal
 
 pub returns-in-Owner : goal.returns-in-Owner

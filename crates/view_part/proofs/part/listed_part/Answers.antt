@@ -1,5 +1,4 @@
 use Rattle.view_part.proofs.PartLaws.{stretch_same}
-use borrow.Author.Rules.{rules}
 use Rattle.view_part.proofs.part.listed_part.Goals as goal
 
 pub returns : goal.returns

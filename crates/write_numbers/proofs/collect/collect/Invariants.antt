@@ -1,12 +1,10 @@
 -- `write_numbers::collect::collect` meets its contract. The invariant: the items of the table among the first i are stored.
-use mathlib.Core.Path.{◌≡◌, refl, sym, ap, ◌∙◌}
-use Prim.Native.Nat.{ℕ, ◌-◌, ◌≤◌}
-use native.Mathlib.Omega.{arith}
-use lib.ListN.{length, length-set}
+use mathlib.Core.Path.{◌≡◌}
+use Prim.Native.Nat.{◌-◌, ◌≤◌}
+use lib.ListN.{length}
 use Rattle.words.specs.Store.{put_at}
-use Rattle.build_memory.specs.Memory.{item_total, item_table}
-use Rattle.write_numbers.specs.Fill.{of_table, all_of_table}
-use Rattle.write_numbers.proofs.OfTableLaws.{of_table-none, of_table-start, of_table_count, of_table-put, of_table_count_pass, of_table-put_pass}
+use Rattle.build_memory.specs.Memory.{item_total}
+use Rattle.write_numbers.specs.Fill.{of_table}
 use Rattle.write_numbers.proofs.collect.collect.Given as goal
 
 abbrev pub invariant-loop-i : goal.invariant-loop-i

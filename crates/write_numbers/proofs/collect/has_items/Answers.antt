@@ -1,11 +1,6 @@
 -- `write_numbers::collect::has_items` meets its contract. The invariant: no item among the first k is in the table.
-use mathlib.Core.Path.{◌≡◌, sym, ◌∙◌}
-use mathlib.Core.Bool.{false}
-use Prim.Native.Nat.{◌-◌, ◌≤◌}
+use mathlib.Core.Path.{sym, ◌∙◌}
 use native.Mathlib.Omega.{arith}
-use Rattle.words.specs.Below.{some_below}
-use Rattle.build_memory.specs.Memory.{item_total}
-use Rattle.write_numbers.specs.Fill.{in_table}
 use Rattle.write_numbers.proofs.BareLaws.{search_start, search_turn, search_hit, search_end, past_none}
 use Rattle.write_numbers.proofs.collect.has_items.Goals as goal
 

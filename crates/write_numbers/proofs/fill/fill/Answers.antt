@@ -1,11 +1,9 @@
 -- `write_numbers::fill::fill` meets its contract. The invariant: the tables before t are filled, and the words are as they were.
 use mathlib.Core.Path.{◌≡◌, refl, sym, ap, ◌∙◌}
-use Prim.Native.Nat.{◌-◌, ◌≤◌}
 use native.Mathlib.Omega.{arith}
 use lib.ListN.{length, length-set}
-use Rattle.key_hash.specs.Hash.{rule_of}
 use Rattle.layout.specs.Limits.{most_tables}
-use Rattle.write_numbers.specs.Fill.{first_slot_of, Fits, Sized, Filled}
+use Rattle.write_numbers.specs.Fill.{Fits}
 use Rattle.write_numbers.proofs.OfTableLaws.{slot_start_lem, slot_few}
 use Rattle.write_numbers.proofs.FillLaws.{put_few, put_next, filled_none, filled_more}
 use Rattle.write_numbers.proofs.fill.fill.Goals as goal

@@ -1,13 +1,10 @@
 -- `write_numbers::fill::fill` meets its contract. The invariant: the tables before t are filled, and the words are as they were.
-use mathlib.Core.Path.{◌≡◌, refl, sym, ap, ◌∙◌}
+use mathlib.Core.Path.{◌≡◌}
 use Prim.Native.Nat.{◌-◌, ◌≤◌}
-use native.Mathlib.Omega.{arith}
-use lib.ListN.{length, length-set}
+use lib.ListN.{length}
 use Rattle.key_hash.specs.Hash.{rule_of}
 use Rattle.layout.specs.Limits.{most_tables}
-use Rattle.write_numbers.specs.Fill.{first_slot_of, Fits, Sized, Filled}
-use Rattle.write_numbers.proofs.OfTableLaws.{slot_start_lem, slot_few}
-use Rattle.write_numbers.proofs.FillLaws.{put_few, put_next, filled_none, filled_more}
+use Rattle.write_numbers.specs.Fill.{first_slot_of, Sized, Filled}
 use Rattle.write_numbers.proofs.fill.fill.Given as goal
 
 abbrev pub invariant-loop-t : goal.invariant-loop-t

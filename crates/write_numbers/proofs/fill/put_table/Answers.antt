@@ -1,8 +1,6 @@
 -- `write_numbers::fill::put_table` meets its contract: nothing is put for a table that has no item; else its items get their indices in its slots.
 use mathlib.Core.Path.{refl, sym, ◌∙◌}
 use native.Mathlib.Omega.{arith}
-use borrow.Author.Tests.{not-true}
-use borrow.Author.Rules.{rules}
 use lib.ListN.{length}
 use Rattle.write_numbers.proofs.BareLaws.{put_bare}
 use Rattle.write_numbers.proofs.FillLaws.{indexed_count, slots_part, slots_below, put_all}

@@ -1,7 +1,6 @@
 -- `write_numbers::fill::roster_all` meets its contract: the parts filled, then copied one behind the other.
 use mathlib.Core.Path.{refl}
 use Rattle.write_numbers.proofs.RosterLaws.{whole_judged, rostered}
-use borrow.Author.Rules.{rules}
 use Rattle.write_numbers.proofs.fill.roster_all.Goals as goal
 
 pub fill-requires : goal.fill-requires

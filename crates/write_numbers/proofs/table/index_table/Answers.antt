@@ -2,7 +2,6 @@
 use mathlib.Core.Path.{sym}
 use native.Mathlib.Omega.{arith}
 use lib.ListN.{replicate}
-use borrow.Author.Rules.{rules}
 use Rattle.layout.specs.Limits.{most_items}
 use Rattle.write_numbers.proofs.TableLaws.{links_empty, collected_few, collected_long, collected_known, collected_once, laid}
 use Rattle.write_numbers.proofs.table.index_table.Goals as goal

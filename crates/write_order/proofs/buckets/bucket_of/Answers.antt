@@ -3,7 +3,6 @@ use mathlib.Core.Path.{refl}
 use native.Mathlib.Nat.{mod-lt}
 use native.Mathlib.Omega.{arith}
 use Rattle.image.specs.Index.{bucket_of}
-use borrow.Author.Rules.{rules}
 use Rattle.write_order.proofs.buckets.bucket_of.Goals as goal
 
 pub returns : goal.returns

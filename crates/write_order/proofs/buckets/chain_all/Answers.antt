@@ -1,9 +1,8 @@
 -- `write_order::buckets::chain_all` meets its contract. The invariant: the ranks below p are chained, and the links from p on hold the empty mark.
 use mathlib.Core.Path.{◌≡◌, refl}
-use Prim.Native.Nat.{◌-◌, ◌≤◌, ◌<◌}
+use Prim.Native.Nat.{◌<◌}
 use native.Mathlib.Omega.{arith}
 use lib.ListN.{length, length-set}
-use Rattle.write_order.specs.Chain.{Chained, EmptyFrom}
 use Rattle.write_order.proofs.ChainLaws.{chained_none, chained_more, empty_from, empty_later}
 use Rattle.write_order.proofs.buckets.chain_all.Goals as goal
 

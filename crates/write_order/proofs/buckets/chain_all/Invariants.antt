@@ -1,10 +1,8 @@
 -- `write_order::buckets::chain_all` meets its contract. The invariant: the ranks below p are chained, and the links from p on hold the empty mark.
-use mathlib.Core.Path.{◌≡◌, refl}
-use Prim.Native.Nat.{◌-◌, ◌≤◌, ◌<◌}
-use native.Mathlib.Omega.{arith}
-use lib.ListN.{length, length-set}
+use mathlib.Core.Path.{◌≡◌}
+use Prim.Native.Nat.{◌-◌, ◌≤◌}
+use lib.ListN.{length}
 use Rattle.write_order.specs.Chain.{Chained, EmptyFrom}
-use Rattle.write_order.proofs.ChainLaws.{chained_none, chained_more, empty_from, empty_later}
 use Rattle.write_order.proofs.buckets.chain_all.Given as goal
 
 abbrev pub invariant-loop-p : goal.invariant-loop-p

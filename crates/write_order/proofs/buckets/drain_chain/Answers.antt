@@ -2,9 +2,9 @@
 -- links are cleared, and the rest, which is still chained.
 use mathlib.Core.Path.{◌≡◌, refl, sym, ap, ◌∙◌}
 use mathlib.Core.List.{List, [], ◌∷◌, ◌++◌, append_assoc, append-nil}
-use Prim.Native.Nat.{ℕ, ◌+◌, ◌-◌, ◌≤◌, ◌<◌}
+use Prim.Native.Nat.{ℕ, ◌+◌, ◌≤◌}
 use native.Mathlib.Omega.{arith}
-use lib.ListN.{length, get_or, set, length-set, length-append}
+use lib.ListN.{length, get_or, length-set, length-append}
 use Rattle.words.specs.Store.{put_at}
 use Rattle.words.proofs.StoreLaws.{put-none, put_snoc}
 use Rattle.model.specs.Table.{times}

@@ -1,17 +1,13 @@
 -- `write_order::buckets::drain_chain` meets its contract. The invariant: the chain is split into the ranks passed, which are in `order` and whose
 -- links are cleared, and the rest, which is still chained.
-use mathlib.Core.Path.{◌≡◌, refl, sym, ap, ◌∙◌}
-use mathlib.Core.List.{List, [], ◌∷◌, ◌++◌, append_assoc, append-nil}
+use mathlib.Core.Path.{◌≡◌}
+use mathlib.Core.List.{List, ◌++◌}
 use Prim.Native.Nat.{ℕ, ◌+◌, ◌-◌, ◌≤◌, ◌<◌}
-use native.Mathlib.Omega.{arith}
-use lib.ListN.{length, get_or, set, length-set, length-append}
+use lib.ListN.{length, get_or, set}
 use Rattle.words.specs.Store.{put_at}
-use Rattle.words.proofs.StoreLaws.{put-none, put_snoc}
 use Rattle.model.specs.Table.{times}
-use Rattle.image.proofs.TimesLaws.{times_here, times_cons}
 use Rattle.layout.specs.Item.{no_item}
-use Rattle.write_order.specs.Chain.{Chain, cleared, Drained}
-use Rattle.write_order.proofs.ChainLaws.{chain_set, chain_unique, cleared_nil, cleared_snoc}
+use Rattle.write_order.specs.Chain.{Chain, cleared}
 use Rattle.write_order.proofs.buckets.drain_chain.Given as goal
 
 pub record Draining (links₀ order₀ : List ℕ) (head at : ℕ) (links order : List ℕ) (p end : ℕ) : Type 0 where

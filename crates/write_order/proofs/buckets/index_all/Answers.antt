@@ -4,12 +4,11 @@
 use mathlib.Core.Path.{◌≡◌, refl, sym, ◌∙◌}
 use mathlib.Core.Logic.{⊎_elim}
 use mathlib.Core.List.{List}
-use Prim.Native.Nat.{ℕ, ◌+◌, ◌-◌, ◌≤◌, ◌<◌}
+use Prim.Native.Nat.{ℕ, ◌+◌, ◌≤◌, ◌<◌}
 use native.Mathlib.Nat.{eq-or-lt_of_le}
 use native.Mathlib.Numerals.{add-one}
 use native.Mathlib.Omega.{arith}
 use lib.ListN.{length, get_or, set, length-set, length-append}
-use Rattle.words.specs.Store.{put_at}
 use Rattle.words.proofs.StoreLaws.{put-none, put-append, put_snoc}
 use Rattle.words.proofs.ChoiceLaws.{lt_or_ge}
 use Rattle.model.specs.Table.{times}
@@ -17,7 +16,7 @@ use Rattle.layout.specs.Item.{no_item}
 use Rattle.build_memory.specs.Meaning.{listed}
 use Rattle.build_memory.proofs.MeaningLaws.{length-listed}
 use Rattle.write_order.specs.Fall.{joined}
-use Rattle.write_order.specs.Chain.{Empty, Chain, Chains, HasChains, Indexed, cleared, Ended, DrainedOf, Drained}
+use Rattle.write_order.specs.Chain.{Empty, Chains, HasChains, Indexed, cleared, Ended, DrainedOf, Drained}
 use Rattle.write_order.proofs.ChainLaws.{cleared_other, cleared_here, chain_cleared, joined_fits}
 use Rattle.write_order.proofs.buckets.index_all.Invariants.{starting, Buckets, Taken}
 use Rattle.write_order.proofs.buckets.index_all.Goals as goal

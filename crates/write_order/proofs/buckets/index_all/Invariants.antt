@@ -1,24 +1,16 @@
 -- `write_order::buckets::index_all` meets its contract. The invariant, for all lists that are chained: those before b are in `order` and their links are
 -- cleared, and the chains of the others stand.
 -- where each list starts
-use mathlib.Core.Path.{◌≡◌, refl, sym, ◌∙◌}
-use mathlib.Core.Logic.{⊎_elim}
+use mathlib.Core.Path.{◌≡◌}
 use mathlib.Core.List.{List}
-use Prim.Native.Nat.{ℕ, ◌+◌, ◌-◌, ◌≤◌, ◌<◌}
-use native.Mathlib.Nat.{eq-or-lt_of_le}
-use native.Mathlib.Numerals.{add-one}
-use native.Mathlib.Omega.{arith}
-use lib.ListN.{length, get_or, set, length-set, length-append}
+use Prim.Native.Nat.{ℕ, ◌-◌, ◌≤◌, ◌<◌}
+use lib.ListN.{length, get_or}
 use Rattle.words.specs.Store.{put_at}
-use Rattle.words.proofs.StoreLaws.{put-none, put-append, put_snoc}
-use Rattle.words.proofs.ChoiceLaws.{lt_or_ge}
 use Rattle.model.specs.Table.{times}
 use Rattle.layout.specs.Item.{no_item}
 use Rattle.build_memory.specs.Meaning.{listed}
-use Rattle.build_memory.proofs.MeaningLaws.{length-listed}
 use Rattle.write_order.specs.Fall.{joined}
-use Rattle.write_order.specs.Chain.{Empty, Chain, Chains, HasChains, Indexed, cleared, Ended, DrainedOf, Drained}
-use Rattle.write_order.proofs.ChainLaws.{cleared_other, cleared_here, chain_cleared, joined_fits}
+use Rattle.write_order.specs.Chain.{Chain, Chains}
 use Rattle.write_order.proofs.buckets.index_all.Given as goal
 
 abbrev pub starting : (ℕ → List ℕ) → ℕ → ℕ

@@ -4,7 +4,6 @@ use mathlib.Core.List.{List}
 use Prim.Native.Nat.{ℕ}
 use native.Mathlib.Omega.{arith}
 use lib.ListN.{length}
-use borrow.Author.Rules.{rules}
 use Rattle.words.specs.Store.{put_at}
 use Rattle.layout.specs.Limits.{most_items}
 use Rattle.image.specs.Index.{run, by_bucket, bucket_start}

@@ -4,7 +4,6 @@ use lib.ListN.{length-set}
 use Rattle.build_memory.specs.Memory.{key_of}
 use Rattle.write_order.proofs.LinkLaws.{but_none, but_set}
 use Rattle.write_order.proofs.PlaceLaws.{placed_front, placed_behind}
-use borrow.Author.Rules.{rules}
 use Rattle.write_order.proofs.falling.chain_item.Goals as goal
 
 pub last_above-last-requires : goal.last_above-last-requires

@@ -1,7 +1,7 @@
 -- `write_order::falling::chain_members` meets its contract. The invariant: the members before place k are chained, and all but the links is as it was.
 use mathlib.Core.Path.{◌≡◌, refl, sym, ap, ◌∙◌}
 use mathlib.Core.List.{List}
-use Prim.Native.Nat.{ℕ, ◌+◌, ◌-◌, ◌≤◌, ◌<◌, ◌%◌}
+use Prim.Native.Nat.{ℕ, ◌+◌, ◌≤◌, ◌<◌, ◌%◌}
 use native.Mathlib.Nat.{mod-lt}
 use native.Mathlib.Numerals.{add-one}
 use native.Mathlib.Omega.{arith}
@@ -12,7 +12,7 @@ use Rattle.model.specs.Table.{times}
 use Rattle.build_memory.specs.Memory.{least_words, key_of}
 use Rattle.write_order.specs.Key.{Known}
 use Rattle.write_order.specs.Items.{hash_for}
-use Rattle.write_order.specs.Chain.{Empty, Bounded, Placed, ButLinks, links_of, chain_of, ChainedBy}
+use Rattle.write_order.specs.Chain.{Empty, Bounded, Placed, ButLinks, links_of, chain_of}
 use Rattle.write_order.proofs.KeyLaws.{known_at}
 use Rattle.write_order.proofs.LinkLaws.{links_long, but_none, but_then, but_key, but_hash}
 use Rattle.write_order.proofs.BucketLaws.{chain_most, chained_start, chained_more}

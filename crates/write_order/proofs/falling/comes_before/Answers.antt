@@ -1,6 +1,5 @@
 -- `write_order::falling::comes_before` meets its contract.
 use mathlib.Core.Path.{◌∙◌}
-use borrow.Author.Rules.{rules}
 use Rattle.write_order.proofs.falling.comes_before.Goals as goal
 
 pub returns : goal.returns

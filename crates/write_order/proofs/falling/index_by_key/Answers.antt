@@ -1,7 +1,6 @@
 -- `write_order::falling::index_by_key` meets its contract: a fresh head for each bucket, the items chained, and the chains taken apart again.
 use mathlib.Core.Path.{◌∙◌}
 use native.Mathlib.Omega.{arith}
-use borrow.Author.Rules.{rules}
 use Rattle.layout.specs.Limits.{most_items}
 use Rattle.write_order.specs.Key.{Known}
 use Rattle.write_order.proofs.ChainLaws.{empty_fresh}

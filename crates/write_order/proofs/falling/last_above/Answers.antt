@@ -1,14 +1,11 @@
 -- `write_order::falling::last_above` meets its contract. The invariant: from p on the rest of the chain stands, and what is put behind `last` there is put so in all of it.
 use mathlib.Core.Path.{◌≡◌, refl, sym, ap, ◌∙◌}
-use mathlib.Core.Bool.{Bool, true, false}
 use mathlib.Core.List.{List, [], ◌∷◌}
 use Prim.Native.Nat.{ℕ, zero, suc, ◌+◌, ◌≤◌, ◌<◌}
 use native.Mathlib.Omega.{arith}
-use lib.Dec.{eqb}
-use borrow.Author.Tests.{eq-eqb, ne_eqb, not-true, not-false}
+use borrow.Author.Tests.{eq-eqb, ne_eqb}
 use lib.ListN.{length, get_or}
 use Rattle.words.specs.Choice.{pick}
-use Rattle.key_order.specs.Order.{precedes}
 use Rattle.layout.specs.Limits.{most_items}
 use Rattle.layout.specs.Item.{no_item}
 use Rattle.build_memory.specs.Memory.{links_from, least_words, key_of}

@@ -1,6 +1,5 @@
 -- `write_order::items::hash_of` meets its contract: the hash word, or the key's hash.
 use mathlib.Core.Path.{◌∙◌}
-use borrow.Author.Rules.{rules}
 use Rattle.key_hash.specs.Hash.{hash_by}
 use Rattle.write_order.proofs.ItemLaws.{for_plain, for_signed}
 use Rattle.write_order.proofs.items.hash_of.Goals as goal

@@ -1,10 +1,8 @@
 -- `write_order::items::index_items` meets its contract. The invariant: the indices of the first k items are stored.
-use mathlib.Core.Path.{◌≡◌, refl}
+use mathlib.Core.Path.{◌≡◌}
 use Prim.Native.Nat.{◌-◌, ◌≤◌}
-use native.Mathlib.Omega.{arith}
-use lib.ListN.{length, length-set}
-use Rattle.write_order.specs.Items.{AllBelow, indices_put}
-use Rattle.write_order.proofs.ItemLaws.{indices_start, indices_turn}
+use lib.ListN.{length}
+use Rattle.write_order.specs.Items.{indices_put}
 use Rattle.write_order.proofs.items.index_items.Given as goal
 
 abbrev pub invariant-loop-k : goal.invariant-loop-k

@@ -1,5 +1,4 @@
 -- `write_parts::put::add_hash` meets its contract.
-use borrow.Author.Rules.{rules}
 use Rattle.write_parts.proofs.FilterLaws.{hash-put}
 use Rattle.write_parts.proofs.put.add_hash.Goals as goal
 

@@ -1,13 +1,10 @@
 -- `write_parts::put::lay_filter` meets its contract. The invariant: the filter over the first k items is laid, and the rest is as it was.
 use mathlib.Core.Path.{◌≡◌, refl, ap, ◌∙◌}
-use Prim.Native.Nat.{◌+◌, ◌*◌, ◌-◌, ◌/◌, ◌%◌, ◌≤◌, ◌<◌}
+use Prim.Native.Nat.{◌+◌, ◌*◌, ◌/◌, ◌%◌, ◌≤◌, ◌<◌}
 use native.Mathlib.Nat.{mod-lt}
 use native.Mathlib.Omega.{arith}
-use borrow.Author.Rules.{rules}
 use lib.ListN.{length}
-use Rattle.words.specs.Store.{put_at}
 use Rattle.words.proofs.StoreLaws.{length-put}
-use Rattle.write_parts.specs.Slot.{slot_filter}
 use Rattle.write_parts.proofs.FilterLaws.{filter_none, filter_start, filter_turn, filter_end}
 use Rattle.write_parts.proofs.put.lay_filter.Goals as goal
 

@@ -1,6 +1,5 @@
 -- `write_parts::put::lay_front` meets its contract.
 use native.Mathlib.Omega.{arith}
-use borrow.Author.Rules.{rules}
 use Rattle.write_parts.proofs.PutLaws.{bucket_is, front_laid}
 use Rattle.write_parts.proofs.put.lay_front.Goals as goal
 

@@ -1,5 +1,4 @@
 -- `write_parts::put::lay_head` meets its contract.
-use borrow.Author.Rules.{rules}
 use Rattle.write_parts.proofs.PutLaws.{put_head}
 use Rattle.write_parts.proofs.put.lay_head.Goals as goal
 

@@ -2,7 +2,6 @@
 use mathlib.Core.Path.{◌≡◌}
 use Prim.Native.Nat.{◌+◌}
 use native.Mathlib.Omega.{arith}
-use borrow.Author.Rules.{rules}
 use Rattle.write_parts.specs.Numbered.{slot_fragment_size}
 use Rattle.write_parts.proofs.PutLaws.{part_end, put_key_lem}
 use Rattle.write_parts.proofs.put.lay_key.Goals as goal

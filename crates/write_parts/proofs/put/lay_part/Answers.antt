@@ -2,7 +2,6 @@
 use mathlib.Core.Path.{◌≡◌, ap, ◌∙◌}
 use Prim.Native.Nat.{ℕ, ◌+◌, ◌-◌}
 use native.Mathlib.Omega.{arith}
-use borrow.Author.Rules.{rules}
 use Rattle.words.specs.Store.{part, put_at}
 use Rattle.write_parts.proofs.PutLaws.{part_laid}
 use Rattle.write_parts.proofs.put.lay_part.Goals as goal

@@ -2,7 +2,6 @@
 use mathlib.Core.Path.{◌≡◌, sym, ◌∙◌}
 use Prim.Native.Nat.{◌+◌}
 use native.Mathlib.Omega.{arith}
-use borrow.Author.Rules.{rules}
 use Rattle.layout.specs.Kind.{value_kind}
 use Rattle.write_parts.specs.Numbered.{slot_kind}
 use Rattle.write_parts.proofs.PutLaws.{length-bytes, length_children, bytes_laid, children_laid, child_is}

@@ -1,7 +1,6 @@
 -- `write_parts::put::lay_record` meets its contract: two halves of three words.
 use mathlib.Core.Path.{ap}
 use Prim.Native.Nat.{ℕ, ◌+◌}
-use borrow.Author.Rules.{rules}
 use Rattle.write_parts.proofs.PutLaws.{put_record}
 use Rattle.write_parts.proofs.put.lay_record.Goals as goal
 

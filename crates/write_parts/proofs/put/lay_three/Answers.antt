@@ -1,5 +1,4 @@
 -- `write_parts::put::lay_three` meets its contract.
-use borrow.Author.Rules.{rules}
 use Rattle.write_parts.proofs.PutLaws.{put_three}
 use Rattle.write_parts.proofs.put.lay_three.Goals as goal
 

@@ -1,12 +1,8 @@
 -- `write_parts::put::lay_words` meets its contract. The invariant: the first b words are laid, and the rest is as it was.
 use mathlib.Core.Path.{◌≡◌, refl, ap, ◌∙◌}
-use Prim.Native.Nat.{◌+◌, ◌*◌, ◌-◌, ◌≤◌}
 use native.Mathlib.Omega.{arith}
-use borrow.Author.Rules.{rules}
-use lib.ListN.{length, get_or}
-use Rattle.words.specs.Store.{put_at}
+use lib.ListN.{length}
 use Rattle.words.proofs.StoreLaws.{length-put}
-use Rattle.image.specs.Plan.{words_of}
 use Rattle.write_parts.proofs.PutLaws.{words_start, words_turn, words_laid}
 use Rattle.write_parts.proofs.put.lay_words.Goals as goal
 

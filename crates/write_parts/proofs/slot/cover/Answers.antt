@@ -2,7 +2,6 @@
 use mathlib.Core.Path.{◌≡◌, sym, ap, ◌∙◌}
 use Prim.Native.Nat.{ℕ, ◌+◌, ◌*◌, ◌≤◌}
 use native.Mathlib.Omega.{arith}
-use borrow.Author.Rules.{rules}
 use Rattle.layout.specs.Limits.{most_items}
 use Rattle.write_parts.specs.Numbered.{slot_value_word, slot_count}
 use Rattle.write_parts.proofs.SlotLaws.{cover_value, cover_table, cover_container}

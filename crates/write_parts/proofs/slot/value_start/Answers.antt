@@ -1,7 +1,6 @@
 -- `write_parts::slot::value_start` meets its contract.
 use mathlib.Core.Path.{ap, ◌∙◌}
 use Prim.Native.Nat.{ℕ, ◌+◌}
-use borrow.Author.Rules.{rules}
 use Rattle.words.specs.Align.{aligned}
 use Rattle.write_parts.specs.Numbered.{by_kind}
 use Rattle.write_parts.proofs.SlotLaws.{start_is}

@@ -1,11 +1,8 @@
 -- `write_slots::children::list_parents` meets its contract. The invariant: the ranks passed have the parent words of their items.
-use borrow.Author.Rules.{rules}
-use Prim.Native.Nat.{ℕ, ◌≤◌, ◌<◌, ◌-◌}
-use mathlib.Core.Path.{◌≡◌, refl}
+use mathlib.Core.Path.{refl}
 use native.Mathlib.Omega.{arith}
-use lib.ListN.{length, get_or, length-set}
-use Rattle.build_memory.specs.Memory.{item_total, item_parent}
-use Rattle.layout.specs.Limits.{most_items}
+use lib.ListN.{length-set}
+use Rattle.build_memory.specs.Memory.{item_parent}
 use Rattle.write_slots.specs.NumberedAs.{from_last}
 use Rattle.write_slots.proofs.SlotLaws.{set_next}
 use Rattle.write_slots.proofs.children.list_parents.Goals as goal
@@ -30,8 +27,7 @@ overflow_add-p c = omega (arith, c.requires.1)
 
 pub loop-p-preserved : goal.loop-p-preserved
 loop-p-preserved c =
-    let a = c.args in
-    (
+    let a = c.args in (
       omega arith,
       c.loop-p.invariant.1,
       simp length-set c.loop-p.invariant.2,

@@ -1,13 +1,10 @@
 -- `write_slots::children::list_parents` meets its contract. The invariant: the ranks passed have the parent words of their items.
-use borrow.Author.Rules.{rules}
 use Prim.Native.Nat.{ℕ, ◌≤◌, ◌<◌, ◌-◌}
-use mathlib.Core.Path.{◌≡◌, refl}
-use native.Mathlib.Omega.{arith}
-use lib.ListN.{length, get_or, length-set}
+use mathlib.Core.Path.{◌≡◌}
+use lib.ListN.{length, get_or}
 use Rattle.build_memory.specs.Memory.{item_total, item_parent}
 use Rattle.layout.specs.Limits.{most_items}
 use Rattle.write_slots.specs.NumberedAs.{from_last}
-use Rattle.write_slots.proofs.SlotLaws.{set_next}
 use Rattle.write_slots.proofs.children.list_parents.Given as goal
 
 abbrev pub invariant-loop-p : goal.invariant-loop-p

@@ -9,7 +9,6 @@ use Rattle.write_order.proofs.ChainLaws.{empty_fresh}
 use Rattle.layout.specs.Limits.{most_items}
 use Rattle.write_slots.proofs.StateLaws.{fully_valid_lem}
 use Rattle.write_slots.proofs.SiblingLaws.{siblings_made}
-use borrow.Author.Rules.{rules}
 use Rattle.write_slots.proofs.children.order_siblings.Goals as goal
 
 pub bounds-words-3 : goal.bounds-words-3

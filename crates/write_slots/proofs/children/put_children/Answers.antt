@@ -1,9 +1,7 @@
 -- `write_slots::children::put_children` meets its contract. The invariant: the child words passed have their indices, all else is as it was.
-use Prim.Native.Nat.{ℕ, ◌+◌, ◌≤◌, ◌<◌, ◌-◌}
-use mathlib.Core.Path.{◌≡◌, refl}
+use mathlib.Core.Path.{refl}
 use native.Mathlib.Omega.{arith}
-use lib.ListN.{length, get_or, length-set}
-use Rattle.build_memory.specs.Memory.{item_total}
+use lib.ListN.{get_or, length-set}
 use Rattle.write_parts.specs.Numbered.{child_word, children_from}
 use Rattle.write_numbers.specs.Roster.{item_index}
 use Rattle.write_slots.specs.NumberedAs.{from_last}
@@ -48,8 +46,7 @@ overflow_add-j c = omega (arith, c.requires.least_words_in_bounds)
 
 pub loop-j-preserved : goal.loop-j-preserved
 loop-j-preserved c =
-    let a = c.args in
-    (
+    let a = c.args in (
       omega arith,
       c.loop-j.invariant.1,
       simp length-set c.loop-j.invariant.2,

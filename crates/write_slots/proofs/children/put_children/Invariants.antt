@@ -1,13 +1,11 @@
 -- `write_slots::children::put_children` meets its contract. The invariant: the child words passed have their indices, all else is as it was.
 use Prim.Native.Nat.{ℕ, ◌+◌, ◌≤◌, ◌<◌, ◌-◌}
-use mathlib.Core.Path.{◌≡◌, refl}
-use native.Mathlib.Omega.{arith}
-use lib.ListN.{length, get_or, length-set}
+use mathlib.Core.Path.{◌≡◌}
+use lib.ListN.{length, get_or}
 use Rattle.build_memory.specs.Memory.{item_total}
-use Rattle.write_parts.specs.Numbered.{child_word, children_from}
+use Rattle.write_parts.specs.Numbered.{children_from}
 use Rattle.write_numbers.specs.Roster.{item_index}
 use Rattle.write_slots.specs.NumberedAs.{from_last}
-use Rattle.write_slots.proofs.SlotLaws.{index_read, set_behind, set_apart, set_past}
 use Rattle.write_slots.proofs.children.put_children.Given as goal
 
 abbrev pub invariant-loop-j : goal.invariant-loop-j

@@ -7,7 +7,6 @@ use Rattle.layout.specs.Limits.{most_items}
 use Rattle.write_slots.proofs.StateLaws.{fully_valid_lem}
 use Rattle.write_slots.proofs.TurnLaws.{start_fits}
 use Rattle.write_slots.proofs.PlanLaws.{siblings_firsts, numbered_as}
-use borrow.Author.Rules.{rules}
 use Rattle.write_slots.proofs.numbered.fill_numbered.Goals as goal
 
 pub bounds-words-3 : goal.bounds-words-3

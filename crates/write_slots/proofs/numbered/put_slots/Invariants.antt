@@ -1,13 +1,7 @@
 -- `write_slots::numbered::put_slots` meets its contract. The invariant: the slots of the items passed have their words, and every slot can be laid.
-use borrow.Author.Rules.{rules}
 use Prim.Native.Nat.{◌≤◌, ◌-◌}
-use mathlib.Core.Path.{◌≡◌}
-use native.Mathlib.Omega.{arith}
 use Rattle.build_memory.specs.Memory.{item_total}
 use Rattle.write_slots.specs.NumberedAs.{NumberedSlots}
-use Rattle.write_slots.proofs.StateLaws.{fully_valid_lem}
-use Rattle.write_slots.proofs.RosterLaws.{slotted}
-use Rattle.write_slots.proofs.TurnLaws.{slots_none, slots_more}
 use Rattle.write_slots.proofs.numbered.put_slots.Given as goal
 
 abbrev pub invariant-loop-i : goal.invariant-loop-i

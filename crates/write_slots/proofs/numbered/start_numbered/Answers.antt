@@ -4,7 +4,6 @@ use native.Mathlib.Omega.{arith}
 use lib.Seq.{length-take-le}
 use Rattle.write_parts.specs.Numbered.{slots_from}
 use Rattle.write_slots.proofs.TurnLaws.{start_made}
-use borrow.Author.Rules.{rules}
 use Rattle.write_slots.proofs.numbered.start_numbered.Goals as goal
 
 pub slice_bounds-put_words-end : goal.slice_bounds-put_words-end

@@ -1,6 +1,5 @@
 -- `write_slots::slot::is_child` meets its contract, test by test.
 use Rattle.write_slots.proofs.SlotLaws.{child_none, child_own}
-use borrow.Author.Rules.{rules}
 use Rattle.write_slots.proofs.slot.is_child.Goals as goal
 
 pub returns-then-parent-eq0 : goal.returns-then-parent-eq0

@@ -1,7 +1,6 @@
 -- `write_slots::slot::parent_word` meets its contract: a child has a parent.
 use native.Mathlib.Omega.{arith}
 use Rattle.write_slots.proofs.SlotLaws.{word_none, word_own, child_some, turned_on, turned_off}
-use borrow.Author.Rules.{rules}
 use Rattle.write_slots.proofs.slot.parent_word.Goals as goal
 
 pub returns-then-not-is_child : goal.returns-then-not-is_child

@@ -1,7 +1,6 @@
 -- `write_slots::slot::put_back` meets its contract.
 use mathlib.Core.Path.{◌∙◌}
 use Rattle.write_slots.proofs.TurnLaws.{back_made}
-use borrow.Author.Rules.{rules}
 use Rattle.write_slots.proofs.slot.put_back.Goals as goal
 
 pub size_of-size-requires : goal.size_of-size-requires

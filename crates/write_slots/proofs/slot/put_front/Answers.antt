@@ -1,7 +1,6 @@
 -- `write_slots::slot::put_front` meets its contract.
 use mathlib.Core.Path.{◌∙◌}
 use Rattle.write_slots.proofs.TurnLaws.{front_made}
-use borrow.Author.Rules.{rules}
 use Rattle.write_slots.proofs.slot.put_front.Goals as goal
 
 pub returns : goal.returns

@@ -1,7 +1,6 @@
 -- `write_slots::slot::put_slot` meets its contract: four words and four more.
 use native.Mathlib.Omega.{arith}
 use Rattle.write_slots.proofs.TurnLaws.{halves_put}
-use borrow.Author.Rules.{rules}
 use Rattle.write_slots.proofs.slot.put_slot.Goals as goal
 
 pub put_back-requires : goal.put_back-requires

@@ -1,6 +1,5 @@
 -- `write_slots::slot::size_of` meets its contract, kind by kind.
 use Rattle.write_slots.proofs.SlotLaws.{size_value, size_guest, size_child}
-use borrow.Author.Rules.{rules}
 use Rattle.write_slots.proofs.slot.size_of.Goals as goal
 
 pub returns-then-kind-eq-VALUE_KIND : goal.returns-then-kind-eq-VALUE_KIND

@@ -5,7 +5,6 @@ use native.Mathlib.Omega.{arith}
 use lib.ListN.{get_or}
 use Rattle.write_slots.specs.NumberedAs.{slot_of}
 use Rattle.write_slots.proofs.SlotLaws.{slot_own}
-use borrow.Author.Rules.{rules}
 use Rattle.write_slots.proofs.slot.slot_of.Goals as goal
 
 pub overflow_add-result-2 : goal.overflow_add-result-2

@@ -1,6 +1,5 @@
 -- `write_slots::slot::start_of` meets its contract, kind by kind.
 use Rattle.write_slots.proofs.SlotLaws.{start-value, start_guest, start_child}
-use borrow.Author.Rules.{rules}
 use Rattle.write_slots.proofs.slot.start_of.Goals as goal
 
 pub returns-then-kind-eq-VALUE_KIND : goal.returns-then-kind-eq-VALUE_KIND

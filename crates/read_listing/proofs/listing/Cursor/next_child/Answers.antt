@@ -2,7 +2,6 @@
 use mathlib.Core.Path.{sym, ◌∙◌}
 use Rattle.layout.proofs.OpenLaws.{opened_in_file}
 use Rattle.read_listing.specs.Children.{child_in_opened, next_child}
-use borrow.Author.Rules.{rules}
 use Rattle.read_listing.proofs.listing.Cursor.next_child.Goals as goal
 
 pub child_in-requires : goal.child_in-requires

@@ -1,6 +1,5 @@
 -- `read_listing::listing::Cursor::next_key` meets its contract: a table that opens lies in the file.
 use mathlib.Core.Path.{sym, ◌∙◌}
-use borrow.Author.Rules.{rules}
 use Rattle.layout.proofs.OpenLaws.{opened_in_file}
 use Rattle.read_listing.specs.Listing.{key_at, key_opened, listed, written}
 use Rattle.read_listing.proofs.listing.Cursor.next_key.Goals as goal

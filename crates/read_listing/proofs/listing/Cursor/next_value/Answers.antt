@@ -1,6 +1,5 @@
 -- `read_listing::listing::Cursor::next_value` meets its contract: a table that opens lies in the file.
 use mathlib.Core.Path.{sym, ◌∙◌}
-use borrow.Author.Rules.{rules}
 use Rattle.layout.proofs.OpenLaws.{opened_in_file}
 use Rattle.read_listing.specs.Listing.{value_at, value_in_opened}
 use Rattle.read_listing.proofs.listing.Cursor.next_value.Goals as goal
