@@ -9,9 +9,9 @@ use std::time::{Duration, SystemTime};
 
 const RT: &str = "#!/bin/sh
 [ \"$1\" = version ] && { echo kit-of-the-test 1; exit; }
-echo \"rt $*\" >> calls
-mkdir -p target/staticlib
-[ \"$1\" != staticlib ] || cat crates/*/src/* > target/staticlib/libgvdb.a
+echo \"rt $* ${PWD##*/}\" >> ../../calls
+mkdir -p out
+[ \"$1\" != lib ] || cat ../*/src/* > out/libgvdb_c.a
 ";
 const CARGO: &str = "#!/bin/sh
 echo \"cargo $GVDB_KIT, $(echo \"$GVDB_COMMIT\" | sed 's/^[0-9a-f]\\{10\\}/commit/')\" >> calls
@@ -20,9 +20,29 @@ printf '#!/bin/sh\\necho \"ran $*\"\\nexit 7\\n' > target/cargo/release/gvdb
 chmod +x target/cargo/release/gvdb
 ";
 /// All that the script may call.
-const TOOLS: [&str; 18] =
-    ["sh", "git", "find", "sed", "cat", "dirname", "readlink", "touch", "sha256sum", "xargs", "tail", "mkdir", "chmod", "rm", "env", "grep", "echo", "uname"];
-const PROVED: &str = "rt check words\nrt check text\nrt staticlib gvdb\n";
+const TOOLS: [&str; 19] = [
+    "sh",
+    "git",
+    "find",
+    "sed",
+    "cat",
+    "dirname",
+    "readlink",
+    "touch",
+    "sha256sum",
+    "xargs",
+    "tail",
+    "mkdir",
+    "chmod",
+    "rm",
+    "cp",
+    "env",
+    "grep",
+    "echo",
+    "uname",
+];
+/// The command, and the crate in whose folder it is called.
+const PROVED: &str = "rt check words\nrt check text\nrt check gvdb\nrt lib gvdb_c\n";
 
 struct Place {
     root: PathBuf,
@@ -30,17 +50,19 @@ struct Place {
 }
 
 impl Place {
-    /// A small repository, of three crates, and the tools beside it.
+    /// A small repository, of five crates, and the tools beside it.
     fn new(name: &str) -> Place {
         let place = Place { root: folder(name).join("root"), tools: folder(&format!("{name}-tools")) };
         for (path, text) in [
-            ("crates.txt", "# a line\nwords:\ntext: words\nother: words\ngvdb: text\n"),
+            ("crates.txt", "# a line\nwords:\ntext: words\nother: words\ngvdb: text\ngvdb_c staticlib: gvdb\n"),
             ("crates/words/src/lib.rt", "words"),
             ("crates/text/src/lib.rt", "text"),
+            ("crates/other/src/lib.rt", "other"),
             ("crates/gvdb/src/lib.rt", "gvdb"),
+            ("crates/gvdb_c/src/lib.rt", "gvdb_c"),
             ("cli/Cargo.toml", "[package]"),
             ("bindings/rust/Cargo.toml", "[package]"),
-            (".gitignore", "/target/\n/calls\n"),
+            (".gitignore", "/target/\n/calls\nout/\n"),
         ] {
             place.write(path, text);
             dated(&place.root.join(path), SystemTime::now() - Duration::from_secs(60));
@@ -121,8 +143,8 @@ fn later(path: &Path) {
 fn the_first_call_says_what_is_proved() {
     let place = Place::new("first-call");
     let ran = place.run().ends(7);
-    let said = "gvdb: the library is to be proved: minutes, the first time\ngvdb: proving words, crate 1 of 3\ngvdb: proving text, crate 2 of 3\n\
-                gvdb: proving gvdb, crate 3 of 3\ngvdb: building the program\n";
+    let said = "gvdb: the library is to be proved: minutes, the first time\ngvdb: proving words, crate 1 of 4\ngvdb: proving text, crate 2 of 4\n\
+                gvdb: proving gvdb, crate 3 of 4\ngvdb: proving gvdb_c, crate 4 of 4\ngvdb: building the program\n";
     assert_eq!((ran.text(), ran.stderr.as_str()), ("ran check a b\n", said));
     // no repository knows these files, whatever lies around them
     assert_eq!(fs::read_to_string(place.root.join("calls")).unwrap(), PROVED.to_string() + "cargo kit-of-the-test 1, unknown\n");
@@ -202,9 +224,9 @@ fn what_is_missing_is_named() {
 #[test]
 fn a_crate_that_is_not_proved_ends_it() {
     let place = Place::new("unproved");
-    fs::write(place.tools.join("rt"), "#!/bin/sh\necho \"$2 NOT PROVED\"\n[ \"$2\" != text ]\n").unwrap();
+    fs::write(place.tools.join("rt"), "#!/bin/sh\necho \"${PWD##*/} NOT PROVED\"\n[ \"${PWD##*/}\" != text ]\n").unwrap();
     let ran = place.run().ends(2);
-    assert!(ran.stderr.ends_with("crate 2 of 3\ntext NOT PROVED\ngvdb: this failed: rt check text\n"), "{}", ran.stderr);
+    assert!(ran.stderr.ends_with("crate 2 of 4\ntext NOT PROVED\ngvdb: this failed: env -C crates/text rt check\n"), "{}", ran.stderr);
 }
 
 /// The program that is tested says which commit and which kit it is of.
