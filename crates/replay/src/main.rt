@@ -5,6 +5,7 @@
 use std::io;
 
 mod building;
+mod data_file;
 mod list;
 mod reading;
 mod tally;

@@ -1,14 +1,8 @@
 // A walk over a list, record by record.
 use crate::list::{Record, Span};
-use crate::{building, list, reading, tally};
-use std::alloc::{AllocError, Global};
-use std::fs::File;
+use crate::{building, data_file, list, reading, tally};
 use std::io;
-use std::io::Read;
 use std::rt::Files;
-
-// At most so many bytes of a list are read.
-const MOST: usize = 1048576;
 
 // A file's bytes are the second string of its record, and an image is a file too.
 fn latest(r: Record, file: Span) -> Span {
@@ -64,8 +58,8 @@ fn room_of_words() -> [usize; 14600] {
     [7usize; 14600]
 }
 
-fn room_of_list(alloc: Global) -> Result<Vec<u8>, AllocError> {
-    Vec::with_capacity(alloc, MOST)
+fn room_of_list() -> [u8; 1048576] {
+    [0u8; 1048576]
 }
 
 fn run(rt: &impl Print, list: &[u8]) -> io::Result<()> {
@@ -81,12 +75,9 @@ fn run(rt: &impl Print, list: &[u8]) -> io::Result<()> {
 }
 
 // A list of data/, of at most 1 MiB; of a longer one that much.
-pub fn replay(rt: &(impl Files + Print + AllocGlobal), name: &str) -> io::Result<()> {
-    let mut list = room_of_list(rt.alloc())?;
-    File::open(rt, name)?
-        .take(MOST as u64)
-        .read_to_end(&mut list)?;
-    let size = list.len();
+pub fn replay(rt: &(impl Files + Print), name: &str) -> io::Result<()> {
+    let mut space = room_of_list();
+    let size = data_file::read(rt, name, &mut space)?;
     println!(rt; "{name}, {size} bytes")?;
-    run(rt, list.as_slice())
+    run(rt, &space[..size])
 }

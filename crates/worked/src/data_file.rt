@@ -1,14 +1,26 @@
-// The files of data/.
+// The files of data/, read into lent room.
+ghost use Rattle.std.specs.Prelude.{◌≤◌, length, IfOk};
+
 use std::fs::File;
 use std::io;
 use std::io::Read;
 use std::rt::Files;
 
 // At most so many bytes of a file are read; the files are smaller.
-const MOST: u64 = 4096;
+pub const MOST: usize = 4096;
 
-pub fn read(rt: &(impl Files + AllocGlobal), name: &str) -> io::Result<Vec<u8>> {
-    let mut bytes = Vec::new(rt.alloc());
-    File::open(rt, name)?.take(MOST).read_to_end(&mut bytes)?;
-    Ok(bytes)
+// Fills the room with what a file holds, as far as either goes, and answers how much that is.
+pub fn read(rt: &impl Files, name: &str, space: &mut [u8]) -> io::Result<usize>
+    ensures { IfOk result (λ n. n ≤ length space.new) }
+{
+    let mut file = File::open(rt, name)?;
+    let mut size = 0;
+    for _ in 0..space.len() {
+        let more = file.read(&mut space[size..])?;
+        if more == 0 {
+            return Ok(size);
+        }
+        size += more;
+    }
+    Ok(size)
 }

@@ -1,5 +1,6 @@
 // A file of data/ over another: which of the two tables answers a key, what it answers, and the value's bytes as a view shows them.
 use crate::data_file;
+use crate::data_file::MOST;
 use key_hash::hash::Form;
 use read::layered::{Source, lookup_layered};
 use read_find::manner::{Lookup, Manner};
@@ -92,13 +93,15 @@ fn over<'a, 'n, 'o>(
 }
 
 // Two files of data/.
-fn pair(rt: &(impl Files + Print + AllocGlobal), name: &str, other: &str) -> io::Result<()> {
-    let above = data_file::read(rt, name)?;
-    let below = data_file::read(rt, other)?;
-    over(rt, name, above.as_slice(), other, below.as_slice())
+fn pair(rt: &(impl Files + Print), name: &str, other: &str) -> io::Result<()> {
+    let mut above = [0u8; MOST];
+    let mut below = [0u8; MOST];
+    let size = data_file::read(rt, name, &mut above)?;
+    let rest = data_file::read(rt, other, &mut below)?;
+    over(rt, name, &above[..size], other, &below[..rest])
 }
 
-pub fn files(rt: &(impl Files + Print + AllocGlobal)) -> io::Result<()> {
+pub fn files(rt: &(impl Files + Print)) -> io::Result<()> {
     pair(rt, "one.gvdb", "two.gvdb")?;
     pair(rt, "two.gvdb", "one.gvdb")?;
     pair(rt, "nested.gvdb", "one.gvdb")

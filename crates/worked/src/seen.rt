@@ -1,5 +1,6 @@
 // Values as views show them: the bytes themselves, looked up through a view of the file, and none on a refusal.
 use crate::data_file;
+use crate::data_file::MOST;
 use key_hash::hash::Form;
 use read_find::manner::{Lookup, Manner};
 use std::io;
@@ -48,15 +49,16 @@ fn nested(
 
 // A file of data/, whose header names its root table: a key, and one in a nested table.
 fn file(
-    rt: &(impl Files + Print + AllocGlobal),
+    rt: &(impl Files + Print),
     name: &str,
     key: &[u8],
     table: &[u8],
     inner: &[u8],
 ) -> io::Result<()> {
     println!(rt; "{name}")?;
-    let bytes = data_file::read(rt, name)?;
-    let read = bytes.as_slice();
+    let mut space = [0u8; MOST];
+    let size = data_file::read(rt, name, &mut space)?;
+    let read = &space[..size];
     if 24 <= read.len() {
         let start = words::field::word_at(read, 16);
         let end = words::field::word_at(read, 20);
@@ -66,7 +68,7 @@ fn file(
     Ok(())
 }
 
-pub fn files(rt: &(impl Files + Print + AllocGlobal)) -> io::Result<()> {
+pub fn files(rt: &(impl Files + Print)) -> io::Result<()> {
     file(rt, "two.gvdb", b"a/b", b"a/", b"b")?;
     file(rt, "nested.gvdb", b"v", b"a", b"a")?;
     file(rt, "nested.gvdb", b"a", b"two", b"a")?;

@@ -1,5 +1,6 @@
 // A walk through each file of data/: what its root table opens as, its keys and values as they list, and what lookups answer.
 use crate::data_file;
+use crate::data_file::MOST;
 use check_rules::checked::Checked;
 use key_hash::hash::Form;
 use layout::refusal::{Refusal, bad_at, number_of};
@@ -141,10 +142,11 @@ fn list(rt: &impl Print, file: &[u8], start: u32, end: u32, items: usize) -> io:
 }
 
 // A file of data/, whose header names its root table.
-fn file(rt: &(impl Files + Print + AllocGlobal), name: &str, named: bool) -> io::Result<()> {
+fn file(rt: &(impl Files + Print), name: &str, named: bool) -> io::Result<()> {
     println!(rt; "{name}")?;
-    let bytes = data_file::read(rt, name)?;
-    let read = bytes.as_slice();
+    let mut space = [0u8; MOST];
+    let size = data_file::read(rt, name, &mut space)?;
+    let read = &space[..size];
     if 24 <= read.len() {
         let start = words::field::word_at(read, 16);
         let end = words::field::word_at(read, 20);
@@ -160,7 +162,7 @@ fn file(rt: &(impl Files + Print + AllocGlobal), name: &str, named: bool) -> io:
 }
 
 // The files made by hand.
-fn made(rt: &(impl Files + Print + AllocGlobal)) -> io::Result<()> {
+fn made(rt: &(impl Files + Print)) -> io::Result<()> {
     file(rt, "one.gvdb", false)?;
     file(rt, "two.gvdb", false)?;
     file(rt, "own_parent.gvdb", false)?;
@@ -179,14 +181,14 @@ fn made(rt: &(impl Files + Print + AllocGlobal)) -> io::Result<()> {
 }
 
 // The files that gvdb-rs laid.
-fn laid(rt: &(impl Files + Print + AllocGlobal)) -> io::Result<()> {
+fn laid(rt: &(impl Files + Print)) -> io::Result<()> {
     file(rt, "gvdbrs-test1.gvdb", true)?;
     file(rt, "gvdbrs-test2.gvdb", true)?;
     file(rt, "gvdbrs-test3.gresource", true)?;
     file(rt, "gvdbrs-test4.gvdb", true)
 }
 
-pub fn files(rt: &(impl Files + Print + AllocGlobal)) -> io::Result<()> {
+pub fn files(rt: &(impl Files + Print)) -> io::Result<()> {
     made(rt)?;
     laid(rt)
 }
