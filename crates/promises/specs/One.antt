@@ -16,6 +16,6 @@ module _ {n : ℕ} (ps : List (ParamKind n)) (r : ResultKind n) (Post : Out n ps
   abbrev pub OneAnswer : Type 0
   OneAnswer = One (λ κs s t x y. s ≡ t)
 
--- two slices are the same bytes of the same memory; a slice's ghost name, which no program can see, is left open
+-- two slices are the same bytes of the same memory
 abbrev pub SameSlice : Bor (List ℕ) → Bor (List ℕ) → Type 0
 SameSlice s t = (s.ref_ptr.0 ≡ t.ref_ptr.0) × (s.ref_ptr.1 ≡ t.ref_ptr.1) × (s.now ≡ t.now)

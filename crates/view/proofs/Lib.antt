@@ -1,4 +1,5 @@
 pub mod Plain
 pub mod Unique
+pub mod HoldsLaws
 pub mod LayeredLaws
 pub mod ThroughLaws

@@ -1,5 +1,5 @@
 -- Each promise leaves one answer and one part of the file: two results that meet it have equal answers, equal pointers, and slices at the same offset with the same
--- bytes. What is left open is the ghost name of a slice, which no program can see.
+-- bytes.
 use Prim.Native.Nat.{ℕ}
 use mathlib.Core.Path.{◌≡◌, sym, ap, subst, ◌∙◌}
 use mathlib.Core.List.{List}
