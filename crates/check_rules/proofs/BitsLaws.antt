@@ -1,39 +1,17 @@
 -- Laws of a set of bits: what is in it after an index is put in.
-use Prim.Native.Nat.{ℕ, zero, suc, ◌+◌, ◌*◌, ◌-◌, ◌/◌, ◌%◌, ◌^◌, ◌<◌, ◌≤◌}
+use Prim.Native.Nat.{ℕ, zero, suc, ◌*◌, ◌/◌, ◌%◌, ◌^◌, ◌<◌}
 use mathlib.Core.Path.{◌≡◌, refl, ap, ◌∙◌}
 use mathlib.Core.List.{List}
 use mathlib.Core.Bool.{Bool, true, false}
 use native.Mathlib.Omega.{arith}
-use native.Mathlib.Nat.{div-eq_of_lt, pow-suc, mul-mod_left, zero-div}
+use native.Mathlib.Nat.{zero-div}
 use lib.ListN.{length, get_or, set, length-set, replicate}
 use lib.Seq.{get_or-set_same, get_or-set_other}
 use lib.Bits.{bit_or, or_zero_r}
-use lib.Pow.{pow-lt, pow-add, shl-shr}
-use lib.Dec.{eqb, ltb}
-use borrow.Author.Tests.{ltb-true, ltb-false, eqb-true, eqb-false, eq-eqb}
-use Rattle.words.proofs.BitLaws.{one_bit_same, or_bit, or_one}
+use lib.Dec.{eqb}
+use borrow.Author.Tests.{eqb-true, eqb-false, eq-eqb}
+use Rattle.words.proofs.BitLaws.{one_bit_same, one_bit_other, or_bit, or_one}
 use Rattle.check_rules.specs.Bits.{has_bit, with_bit}
-
--- another bit of a power of two
-bit_above : (b c : ℕ) → b < c → 2 ^ b / 2 ^ c % 2 ≡ 0
-bit_above b c h = ap (λ (n : ℕ). n % 2) (div-eq_of_lt (pow-lt h))
-
-bit_below : (b c : ℕ) → c < b → 2 ^ b / 2 ^ c % 2 ≡ 0
-bit_below b c h =
-    let d = b - (c + 1) in
-    let e : b ≡ suc d + c = omega arith in
-    ap (λ (n : ℕ). 2 ^ n / 2 ^ c % 2) e
-    ∙ ap (λ (n : ℕ). n / 2 ^ c % 2) (pow-add 2 (suc d) c)
-    ∙ ap (λ (n : ℕ). n % 2) (shl-shr (2 ^ suc d) c)
-    ∙ ap (λ (n : ℕ). n % 2) (pow-suc 2 d)
-    ∙ mul-mod_left (2 ^ d) 2
-
-one_bit_other : (b c : ℕ) → (b ≡ c → ⊥) → 2 ^ b / 2 ^ c % 2 ≡ 0
-one_bit_other b c n = by_case (ltb b c) refl
-  where
-    by_case : (t : Bool) → ltb b c ≡ t → 2 ^ b / 2 ^ c % 2 ≡ 0
-    by_case true e = bit_above b c (ltb-true b c e)
-    by_case false e = let l : c ≤ b = ltb-false b c e in bit_below b c (omega arith)
 
 -- what is in the set after an index is put in
 module _ (bits : List ℕ) (at : ℕ) (h : at < 64 * length bits) where

@@ -1,5 +1,4 @@
 -- `layout::refusal::bad_at` meets its contract: the arms that bind by their variant, the rest by what is left.
--- the other variants, by their places in the enum
 use mathlib.Core.Path.{◌≡◌, refl, sym, ap}
 use Rattle.layout.specs.Refusal.{bad_at}
 use Prim.Native.Nat.{ℕ}
@@ -7,6 +6,7 @@ use Rattle.layout.specs.declared.refusal.Refusal.{Refusal}
 use Rattle.layout.specs.declared.refusal.Refusal.TheVariants.{FileTooLong, PointerOutside, Misaligned, TableTooShort, BloomTooLong, BucketsTooLong, ItemsUneven, KeyNotUtf8, FragmentNotUtf8, ParentOutside, ParentsEndless, KeyNotFound, OtherKind, BufferTooShort, PastTheLast, HeaderTooShort, SignatureUnknown, ListBroken, VersionUnknown, KeyTooLong, NotContainer, TooManyItems, ArenaFull, TableUnknown, TableInItself, NestedTooDeep, TooManyTables, SeparatorOutside, MemoryBroken, EmptyKey, ImageTooLong, HeadsTooFew, TooManyFilterWords, ReportTooShort, CheckBroken}
 use Rattle.layout.proofs.refusal.bad_at.Goals as goal
 
+-- neither of the two variants with an offset
 no_offset : (why : Refusal) → ((x : ℕ) → why ≡ KeyNotUtf8 x → ⊥) → ((x : ℕ) → why ≡ FragmentNotUtf8 x → ⊥) → 0 ≡ bad_at why
 no_offset FileTooLong key fragment = refl
 no_offset PointerOutside key fragment = refl

@@ -2,10 +2,15 @@
 use Rattle.text.specs.Utf8.{step_len}
 use Rattle.text.proofs.Utf8Laws.{bad_here, step_room, good_turn, good_end}
 use mathlib.Core.Path.{◌≡◌}
-use Prim.Native.Nat.{◌+◌, ◌≤◌}
+use mathlib.Core.List.{List}
+use Prim.Native.Nat.{ℕ, ◌+◌, ◌≤◌}
 use native.Mathlib.Omega.{arith}
 use lib.ListN.{length, drop}
 use Rattle.text.proofs.utf8.scan.Goals as goal
+
+-- a step stays within the text
+room : (s : List ℕ) (at step : ℕ) → at ≤ length s → step ≡ step_len (drop at s) → at + step ≤ length s
+room s at step inside is = omega (arith, step_room s at inside, is)
 
 pub returns-then-step-eq0 : goal.returns-then-step-eq0
 returns-then-step-eq0 c =
@@ -15,19 +20,16 @@ returns-then-step-eq0 c =
 
 pub overflow_add-at : goal.overflow_add-at
 overflow_add-at c =
-    let room_here : c.loop-at.at + c.step_len-step.result ≤ length c.args.s.now = omega (arith, step_room c.args.s.now c.loop-at.at (omega arith), c.step_len-step.ensures) in
-    omega (arith, room_here)
+    omega (arith, room c.args.s.now c.loop-at.at _ (omega arith) c.step_len-step.ensures)
 
 pub loop-at-smaller : goal.loop-at-smaller
 loop-at-smaller c =
-    let room_here : c.loop-at.at + c.step_len-step.result ≤ length c.args.s.now = omega (arith, step_room c.args.s.now c.loop-at.at (omega arith), c.step_len-step.ensures) in
-    omega (arith, room_here)
+    omega (arith, room c.args.s.now c.loop-at.at _ (omega arith) c.step_len-step.ensures)
 
 pub loop-at-preserved : goal.loop-at-preserved
 loop-at-preserved c =
-    let room_here : c.loop-at.at + c.step_len-step.result ≤ length c.args.s.now = omega (arith, step_room c.args.s.now c.loop-at.at (omega arith), c.step_len-step.ensures) in
     let s = c.args.s.now in
-    omega (arith, room_here, good_turn s c.loop-at.at c.step_len-step.result c.step_len-step.ensures c.if-step-eq0.false)
+    omega (arith, room c.args.s.now c.loop-at.at _ (omega arith) c.step_len-step.ensures, good_turn s c.loop-at.at c.step_len-step.result c.step_len-step.ensures c.if-step-eq0.false)
 
 pub returns : goal.returns
 returns c =

@@ -36,23 +36,19 @@ lay_into-requires c =
 
 pub overflow_mul-chunk-2 : goal.overflow_mul-chunk-2
 overflow_mul-chunk-2 c =
-    let few_here : (c.slot_count.result ≤ most_items) × (c.args.filter ≤ most_filter) = (omega (arith, c.slot_count.ensures, c.requires.numbered_fits.tables c.args.table c.requires.table_lt_most_tables.0), c.requires.table_lt_most_tables.1) in
-    omega (arith, few_here)
+    omega (arith, c.slot_count.ensures, c.requires.numbered_fits.tables c.args.table c.requires.table_lt_most_tables.0)
 
 pub overflow_add-chunk-2 : goal.overflow_add-chunk-2
 overflow_add-chunk-2 c =
-    let few_here : (c.slot_count.result ≤ most_items) × (c.args.filter ≤ most_filter) = (omega (arith, c.slot_count.ensures, c.requires.numbered_fits.tables c.args.table c.requires.table_lt_most_tables.0), c.requires.table_lt_most_tables.1) in
-    omega (arith, few_here)
+    omega (arith, c.slot_count.ensures, c.requires.numbered_fits.tables c.args.table c.requires.table_lt_most_tables.0)
 
 pub overflow_add-end : goal.overflow_add-end
 overflow_add-end c =
-    let few_here : (c.slot_count.result ≤ most_items) × (c.args.filter ≤ most_filter) = (omega (arith, c.slot_count.ensures, c.requires.numbered_fits.tables c.args.table c.requires.table_lt_most_tables.0), c.requires.table_lt_most_tables.1) in
-    omega (arith, few_here)
+    omega (arith, c.slot_count.ensures, c.requires.numbered_fits.tables c.args.table c.requires.table_lt_most_tables.0)
 
 pub overflow_cast-result-2 : goal.overflow_cast-result-2
 overflow_cast-result-2 c =
-    let few_here : (c.slot_count.result ≤ most_items) × (c.args.filter ≤ most_filter) = (omega (arith, c.slot_count.ensures, c.requires.numbered_fits.tables c.args.table c.requires.table_lt_most_tables.0), c.requires.table_lt_most_tables.1) in
-    omega (arith, few_here)
+    omega (arith, c.slot_count.ensures, c.requires.numbered_fits.tables c.args.table c.requires.table_lt_most_tables.0)
 
 pub overflow_cast-result-3 : goal.overflow_cast-result-3
 overflow_cast-result-3 c = let e = end_is _ c.measure.ensures c.in-End.is in omega (arith, e.1)

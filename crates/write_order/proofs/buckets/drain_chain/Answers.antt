@@ -69,28 +69,28 @@ loop-p-init c =
     }
 
 pub offset_bounds-order-end : goal.offset_bounds-order-end
-offset_bounds-order-end c = let t = turn c.loop-p.invariant c.loop-p-test.true in omega (arith, t.linked, t.room, c.before)
+offset_bounds-order-end c = let t = turn c.loop-p.invariant c.loop-p-test.true in omega (arith, t.linked, t.room)
 
 pub bounds-order-end : goal.bounds-order-end
 bounds-order-end c = let t = turn c.loop-p.invariant c.loop-p-test.true in omega (arith, t.room)
 
 pub offset_bounds-links-p : goal.offset_bounds-links-p
-offset_bounds-links-p c = let t = turn c.loop-p.invariant c.loop-p-test.true in omega (arith, t.linked, t.room, c.before)
+offset_bounds-links-p c = let t = turn c.loop-p.invariant c.loop-p-test.true in omega (arith, t.linked, t.room)
 
 pub bounds-links-p : goal.bounds-links-p
 bounds-links-p c = let t = turn c.loop-p.invariant c.loop-p-test.true in omega (arith, t.linked)
 
 pub offset_bounds-links-p-in-loop-p : goal.offset_bounds-links-p-in-loop-p
-offset_bounds-links-p-in-loop-p c = let t = turn c.loop-p.invariant c.loop-p-test.true in omega (arith, t.linked, c.before.before)
+offset_bounds-links-p-in-loop-p c = let t = turn c.loop-p.invariant c.loop-p-test.true in omega (arith, t.linked)
 
 pub bounds-links-p-in-loop-p : goal.bounds-links-p-in-loop-p
 bounds-links-p-in-loop-p c = let t = turn c.loop-p.invariant c.loop-p-test.true in omega (arith, t.linked)
 
 pub overflow_add-end : goal.overflow_add-end
-overflow_add-end c = let t = turn c.loop-p.invariant c.loop-p-test.true in omega (arith, t.room, c.before.before)
+overflow_add-end c = let t = turn c.loop-p.invariant c.loop-p-test.true in omega (arith, t.room)
 
 pub loop-p-smaller : goal.loop-p-smaller
-loop-p-smaller c = let t = turn c.loop-p.invariant c.loop-p-test.true in omega (arith, t.room, c.before.before)
+loop-p-smaller c = let t = turn c.loop-p.invariant c.loop-p-test.true in omega (arith, t.room)
 
 pub loop-p-preserved : goal.loop-p-preserved
 loop-p-preserved c = (turn c.loop-p.invariant c.loop-p-test.true).next

@@ -1,6 +1,5 @@
 -- `write_order::buckets::index_all` meets its contract. The invariant, for all lists that are chained: those before b are in `order` and their links are
 -- cleared, and the chains of the others stand.
--- where each list starts
 use mathlib.Core.Path.{◌≡◌, refl, sym, ◌∙◌}
 use mathlib.Core.Logic.{⊎_elim}
 use mathlib.Core.List.{List}

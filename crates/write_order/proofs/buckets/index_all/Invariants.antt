@@ -1,6 +1,5 @@
 -- `write_order::buckets::index_all` meets its contract. The invariant, for all lists that are chained: those before b are in `order` and their links are
 -- cleared, and the chains of the others stand.
--- where each list starts
 use mathlib.Core.Path.{◌≡◌}
 use mathlib.Core.List.{List}
 use Prim.Native.Nat.{ℕ, ◌-◌, ◌≤◌, ◌<◌}
@@ -13,6 +12,7 @@ use Rattle.write_order.specs.Fall.{joined}
 use Rattle.write_order.specs.Chain.{Chain, Chains}
 use Rattle.write_order.proofs.buckets.index_all.Given as goal
 
+-- where each list starts
 abbrev pub starting : (ℕ → List ℕ) → ℕ → ℕ
 starting lists = λ (d : ℕ). length (joined lists d)
 

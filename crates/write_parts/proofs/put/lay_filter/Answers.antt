@@ -1,12 +1,16 @@
 -- `write_parts::put::lay_filter` meets its contract. The invariant: the filter over the first k items is laid, and the rest is as it was.
 use mathlib.Core.Path.{◌≡◌, refl, ap, ◌∙◌}
-use Prim.Native.Nat.{◌+◌, ◌*◌, ◌/◌, ◌%◌, ◌≤◌, ◌<◌}
+use Prim.Native.Nat.{ℕ, ◌/◌, ◌%◌, ◌<◌}
 use native.Mathlib.Nat.{mod-lt}
 use native.Mathlib.Omega.{arith}
 use lib.ListN.{length}
 use Rattle.words.proofs.StoreLaws.{length-put}
 use Rattle.write_parts.proofs.FilterLaws.{filter_none, filter_start, filter_turn, filter_end}
 use Rattle.write_parts.proofs.put.lay_filter.Goals as goal
+
+-- the word that a hash asks for is one of the filter's
+word_below : (hash filter : ℕ) → (filter ≡ 0 → ⊥) → hash / 32 % filter < filter
+word_below hash filter some = mod-lt (hash / 32) (omega (arith, some))
 
 pub returns-then-filter-eq0 : goal.returns-then-filter-eq0
 returns-then-filter-eq0 c =
@@ -20,24 +24,18 @@ loop-k-init c =
 
 pub overflow_mul-hash : goal.overflow_mul-hash
 overflow_mul-hash c =
-    let falls_here : c.args.at + 4 * (c.slot_word-hash.result / 32 % c.args.filter) + 4 ≤ length c.loop-k.image = let less : c.slot_word-hash.result / 32 % c.args.filter < c.args.filter = mod-lt (c.slot_word-hash.result / 32) (omega (arith, c.if-filter-eq0.false)) in
-    omega (arith, less, c.requires.filter_in_bounds, c.loop-k.invariant.1, c.put_zeros.auto) in
-    omega (arith, falls_here)
+    omega (arith, word_below c.slot_word-hash.result c.args.filter c.if-filter-eq0.false, c.requires.filter_in_bounds, c.loop-k.invariant.1, c.put_zeros.auto)
 
 pub overflow_add-at : goal.overflow_add-at
 overflow_add-at c =
-    let falls_here : c.args.at + 4 * (c.slot_word-hash.result / 32 % c.args.filter) + 4 ≤ length c.loop-k.image = let less : c.slot_word-hash.result / 32 % c.args.filter < c.args.filter = mod-lt (c.slot_word-hash.result / 32) (omega (arith, c.if-filter-eq0.false)) in
-    omega (arith, less, c.requires.filter_in_bounds, c.loop-k.invariant.1, c.put_zeros.auto) in
-    omega (arith, falls_here)
+    omega (arith, word_below c.slot_word-hash.result c.args.filter c.if-filter-eq0.false, c.requires.filter_in_bounds, c.loop-k.invariant.1, c.put_zeros.auto)
 
 pub overflow_cast-hash : goal.overflow_cast-hash
 overflow_cast-hash c = omega (arith, c.requires.by_index c.loop-k.k c.loop-k-test.true, c.slot_word-hash.ensures)
 
 pub add_hash-requires : goal.add_hash-requires
 add_hash-requires c =
-    let falls_here : c.args.at + 4 * (c.slot_word-hash.result / 32 % c.args.filter) + 4 ≤ length c.loop-k.image = let less : c.slot_word-hash.result / 32 % c.args.filter < c.args.filter = mod-lt (c.slot_word-hash.result / 32) (omega (arith, c.if-filter-eq0.false)) in
-    omega (arith, less, c.requires.filter_in_bounds, c.loop-k.invariant.1, c.put_zeros.auto) in
-    falls_here
+    omega (arith, word_below c.slot_word-hash.result c.args.filter c.if-filter-eq0.false, c.requires.filter_in_bounds, c.loop-k.invariant.1, c.put_zeros.auto)
 
 pub loop-k-preserved : goal.loop-k-preserved
 loop-k-preserved c =

@@ -1,22 +1,17 @@
 -- `write_parts::put::lay_key` meets its contract.
-use mathlib.Core.Path.{◌≡◌}
-use Prim.Native.Nat.{◌+◌}
 use native.Mathlib.Omega.{arith}
-use Rattle.write_parts.specs.Numbered.{slot_fragment_size}
 use Rattle.write_parts.proofs.PutLaws.{part_end, put_key_lem}
 use Rattle.write_parts.proofs.put.lay_key.Goals as goal
 
 pub overflow_sub-start : goal.overflow_sub-start
 overflow_sub-start c =
-    let ends_here : c.lay_part-end.result ≡ c.args.at + slot_fragment_size c.args.numbered.now c.args.slot = let args = c.args in
-    part_end args.numbered.now args.arena.now args.image.now args.slot args.at c.slot_word-from.ensures c.slot_word-size.ensures c.requires.slot_in_bounds c.lay_part-end.ensures in
-    omega (arith, ends_here, c.requires.slot_bound)
+    let args = c.args in
+    omega (arith, part_end args.numbered.now args.arena.now args.image.now args.slot args.at c.slot_word-from.ensures c.slot_word-size.ensures c.requires.slot_in_bounds c.lay_part-end.ensures, c.requires.slot_bound)
 
 pub put_zeros-requires : goal.put_zeros-requires
 put_zeros-requires c =
-    let ends_here : c.lay_part-end.result ≡ c.args.at + slot_fragment_size c.args.numbered.now c.args.slot = let args = c.args in
-    part_end args.numbered.now args.arena.now args.image.now args.slot args.at c.slot_word-from.ensures c.slot_word-size.ensures c.requires.slot_in_bounds c.lay_part-end.ensures in
-    omega (arith, ends_here, c.requires.slot_bound, c.lay_part-end.auto)
+    let args = c.args in
+    omega (arith, part_end args.numbered.now args.arena.now args.image.now args.slot args.at c.slot_word-from.ensures c.slot_word-size.ensures c.requires.slot_in_bounds c.lay_part-end.ensures, c.requires.slot_bound, c.lay_part-end.auto)
 
 pub returns : goal.returns
 returns c =
