@@ -8,7 +8,7 @@ use layout::refusal::{Refusal, bad_at, number_of};
 // 0 for a sound table; with 40 the rule broken, 1 to 6, and the item; with rule 1 the number that listing that item ends with, and with 9 where the
 // stored fragment is bad.
 #[repr(C)]
-#[derive(Clone, Copy)]
+#[derive(Clone, Copy, Default)]
 pub struct GvdbCheck {
     pub number: u32,
     pub rule: u32,
@@ -17,38 +17,31 @@ pub struct GvdbCheck {
     pub at: usize,
 }
 
-pub fn checked_of(checked: Checked) -> GvdbCheck
-    ensures { result ≡ checked_answer checked }
-{
-    let broken = number_of(Refusal::CheckBroken);
-    match checked {
-        Checked::Sound => GvdbCheck {
-            number: 0,
-            rule: 0,
-            item: 0,
-            why: 0,
-            at: 0,
-        },
-        Checked::Broken { rule, item } => GvdbCheck {
-            number: broken,
-            rule,
-            item,
-            why: 0,
-            at: 0,
-        },
-        Checked::Unlisted { why, item } => GvdbCheck {
-            number: broken,
-            rule: 1,
-            item,
-            why: number_of(why),
-            at: bad_at(why),
-        },
-        Checked::Refused(why) => GvdbCheck {
-            number: number_of(why),
-            rule: 0,
-            item: 0,
-            why: 0,
-            at: 0,
-        },
+impl From<Checked> for GvdbCheck {
+    ghost from_gives = { λ checked answer. answer ≡ checked_answer checked };
+
+    #[tactic(auto, unfolding(crate::specs::Checking::checked_answer, check_rules::specs::Answer::checked_number, check_rules::specs::Answer::checked_rule, check_rules::specs::Answer::checked_item, check_rules::specs::Answer::checked_why, check_rules::specs::Answer::checked_at))]
+    fn from(checked: Checked) -> Self {
+        let broken = number_of(Refusal::CheckBroken);
+        match checked {
+            Checked::Sound => Self::default(),
+            Checked::Broken { rule, item } => Self {
+                number: broken,
+                rule,
+                item,
+                ..Self::default()
+            },
+            Checked::Unlisted { why, item } => Self {
+                number: broken,
+                rule: 1,
+                item,
+                why: number_of(why),
+                at: bad_at(why),
+            },
+            Checked::Refused(why) => Self {
+                number: number_of(why),
+                ..Self::default()
+            },
+        }
     }
 }

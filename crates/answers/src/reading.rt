@@ -1,19 +1,19 @@
 // What a reader answers, as numbers: opening, lookups, listings.
+// `opened_of` and `source_of` are functions: a trait's method takes no `requires`, and no `From` can stand here between types that other crates declare.
 ghost use Rattle.std.specs.Prelude.{◌≡◌, ◌<◌, ◌^◌};
 ghost use Rattle.read.specs.Answer.{source_number};
 ghost use Rattle.answers.specs.Reading.{opened_count, opened_answer, looked_answer, layered_answer, listed_answer, valued_answer, childed_answer};
 
-use layout::refusal::{bad_at, number_of};
-use layout::table::Opened;
+use layout::pointer::Pointer;
+use layout::refusal::{Refusal, bad_at, number_of};
+use layout::table::Table;
 use read::layered::{Layered, Source};
-use read::lookup::Looked;
-use read_listing::children::Childed;
-use read_listing::listing::{Listed, Valued};
-use words::wide::byte_word;
+use read_listing::children::Child;
+use read_listing::listing::{Valued, WrittenKey};
 
 // What a table opens as.
 #[repr(C)]
-#[derive(Clone, Copy)]
+#[derive(Clone, Copy, Default)]
 pub struct GvdbOpened {
     pub number: u32,
     pub items: u32,
@@ -23,7 +23,7 @@ pub struct GvdbOpened {
 
 // A pointer into the file: to a value, or to a nested table; with 8 where the given key is bad.
 #[repr(C)]
-#[derive(Clone, Copy)]
+#[derive(Clone, Copy, Default)]
 pub struct GvdbPlace {
     pub number: u32,
     pub start: u32,
@@ -45,7 +45,7 @@ pub struct GvdbLayered {
 
 // A key that was written: its length, and the next position; with 9 where the stored fragment is bad.
 #[repr(C)]
-#[derive(Clone, Copy)]
+#[derive(Clone, Copy, Default)]
 pub struct GvdbKey {
     pub number: u32,
     pub length: usize,
@@ -55,7 +55,7 @@ pub struct GvdbKey {
 
 // A value: its pointer, its item, and the next position; item and position are told with 2 and 3 of its pointer too.
 #[repr(C)]
-#[derive(Clone, Copy)]
+#[derive(Clone, Copy, Default)]
 pub struct GvdbValue {
     pub number: u32,
     pub start: u32,
@@ -67,7 +67,7 @@ pub struct GvdbValue {
 // A child of a container: the byte of its kind, the pointer of its fragment, its index, and the next position; with 8 where the given key is bad, with 9 where the
 // fragment is.
 #[repr(C)]
-#[derive(Clone, Copy)]
+#[derive(Clone, Copy, Default)]
 pub struct GvdbChild {
     pub number: u32,
     pub kind: u32,
@@ -78,42 +78,42 @@ pub struct GvdbChild {
     pub at: usize,
 }
 
-pub fn opened_of(opened: Opened) -> GvdbOpened
+#[tactic(auto, unfolding(crate::specs::Reading::opened_answer, crate::specs::Reading::opened_count, layout::specs::Answer::opened_number))]
+pub fn opened_of(opened: Result<Table, Refusal>) -> GvdbOpened
     requires { (opened_count (λ t. t.count) opened < 2 ^ 32) × (opened_count (λ t. t.buckets) opened < 2 ^ 32) × (opened_count (λ t. t.blooms) opened < 2 ^ 32) }
     ensures { result ≡ opened_answer opened }
 {
     match opened {
-        Opened::Table(table) => GvdbOpened {
+        Ok(table) => GvdbOpened {
             number: 0,
             items: table.count as u32,
             buckets: table.buckets as u32,
             blooms: table.blooms as u32,
         },
-        Opened::Refused(why) => GvdbOpened {
+        Err(why) => GvdbOpened {
             number: number_of(why),
-            items: 0,
-            buckets: 0,
-            blooms: 0,
+            ..GvdbOpened::default()
         },
     }
 }
 
-pub fn looked_of(looked: Looked) -> GvdbPlace
-    ensures { result ≡ looked_answer looked }
-{
-    match looked {
-        Looked::Pointer { start, end } => GvdbPlace {
-            number: 0,
-            start,
-            end,
-            at: 0,
-        },
-        Looked::Refused(why) => GvdbPlace {
-            number: number_of(why),
-            start: 0,
-            end: 0,
-            at: bad_at(why),
-        },
+impl From<Result<Pointer, Refusal>> for GvdbPlace {
+    ghost from_gives = { λ looked answer. answer ≡ looked_answer looked };
+
+    #[tactic(auto, unfolding(crate::specs::Reading::looked_answer, read::specs::Answer::looked_number, read::specs::Answer::looked_pointer, read::specs::Answer::looked_at))]
+    fn from(looked: Result<Pointer, Refusal>) -> Self {
+        match looked {
+            Ok(Pointer { start, end }) => Self {
+                start,
+                end,
+                ..Self::default()
+            },
+            Err(why) => Self {
+                number: number_of(why),
+                at: bad_at(why),
+                ..Self::default()
+            },
+        }
     }
 }
 
@@ -126,100 +126,102 @@ fn source_of(from: Source) -> u32
     }
 }
 
-pub fn layered_of(layered: Layered) -> GvdbLayered
-    ensures { result ≡ layered_answer layered }
-{
-    let looked = layered.looked;
-    let from = layered.from;
-    let place = looked_of(looked);
-    GvdbLayered {
-        number: place.number,
-        from: source_of(from),
-        start: place.start,
-        end: place.end,
-        at: place.at,
+impl From<Layered> for GvdbLayered {
+    ghost from_gives = { λ layered answer. answer ≡ layered_answer layered };
+
+    #[tactic(auto, unfolding(crate::specs::Reading::layered_answer, crate::specs::Reading::looked_answer))]
+    fn from(layered: Layered) -> Self {
+        let place = GvdbPlace::from(layered.looked);
+        Self {
+            number: place.number,
+            from: source_of(layered.from),
+            start: place.start,
+            end: place.end,
+            at: place.at,
+        }
     }
 }
 
-pub fn listed_of(listed: Listed) -> GvdbKey
-    ensures { result ≡ listed_answer listed }
-{
-    match listed {
-        Listed::Key { size, next } => GvdbKey {
-            number: 0,
-            length: size,
-            next: next.at,
-            at: 0,
-        },
-        Listed::Refused(why) => GvdbKey {
-            number: number_of(why),
-            length: 0,
-            next: 0,
-            at: bad_at(why),
-        },
+impl From<Result<WrittenKey, Refusal>> for GvdbKey {
+    ghost from_gives = { λ listed answer. answer ≡ listed_answer listed };
+
+    #[tactic(auto, unfolding(crate::specs::Reading::listed_answer, read_listing::specs::Answer::listed_number, read_listing::specs::Answer::listed_key, read_listing::specs::Answer::listed_at))]
+    fn from(listed: Result<WrittenKey, Refusal>) -> Self {
+        match listed {
+            Ok(WrittenKey { size, next }) => Self {
+                length: size,
+                next: next.at,
+                ..Self::default()
+            },
+            Err(why) => Self {
+                number: number_of(why),
+                at: bad_at(why),
+                ..Self::default()
+            },
+        }
     }
 }
 
-pub fn valued_of(valued: Valued) -> GvdbValue
-    ensures { result ≡ valued_answer valued }
-{
-    match valued {
-        Valued::Value {
-            index,
-            start,
-            end,
-            next,
-        } => GvdbValue {
-            number: 0,
-            start,
-            end,
-            index,
-            next: next.at,
-        },
-        Valued::Unopened { why, index, next } => GvdbValue {
-            number: number_of(why),
-            start: 0,
-            end: 0,
-            index,
-            next: next.at,
-        },
-        Valued::Refused(why) => GvdbValue {
-            number: number_of(why),
-            start: 0,
-            end: 0,
-            index: 0,
-            next: 0,
-        },
+impl From<Valued> for GvdbValue {
+    ghost from_gives = { λ valued answer. answer ≡ valued_answer valued };
+
+    #[tactic(auto, unfolding(crate::specs::Reading::valued_answer, read_listing::specs::Answer::valued_number, read_listing::specs::Answer::valued_pointer, read_listing::specs::Answer::valued_item))]
+    fn from(valued: Valued) -> Self {
+        match valued {
+            Valued::Value {
+                index,
+                start,
+                end,
+                next,
+            } => Self {
+                number: 0,
+                start,
+                end,
+                index,
+                next: next.at,
+            },
+            Valued::Unopened { why, index, next } => Self {
+                number: number_of(why),
+                index,
+                next: next.at,
+                ..Self::default()
+            },
+            Valued::Refused(why) => Self {
+                number: number_of(why),
+                ..Self::default()
+            },
+        }
     }
 }
 
-pub fn childed_of(childed: Childed) -> GvdbChild
-    ensures { result ≡ childed_answer childed }
-{
-    match childed {
-        Childed::Child {
-            index,
-            kind,
-            start,
-            end,
-            next,
-        } => GvdbChild {
-            number: 0,
-            kind: byte_word(kind),
-            start,
-            end,
-            index,
-            next: next.at,
-            at: 0,
-        },
-        Childed::Refused(why) => GvdbChild {
-            number: number_of(why),
-            kind: 0,
-            start: 0,
-            end: 0,
-            index: 0,
-            next: 0,
-            at: bad_at(why),
-        },
+impl From<Result<Child, Refusal>> for GvdbChild {
+    ghost from_gives = { λ childed answer. answer ≡ childed_answer childed };
+
+    #[tactic(auto, unfolding(crate::specs::Reading::childed_answer, read_listing::specs::Answer::childed_number, read_listing::specs::Answer::childed_kind, read_listing::specs::Answer::childed_pointer, read_listing::specs::Answer::childed_child, read_listing::specs::Answer::childed_at))]
+    fn from(childed: Result<Child, Refusal>) -> Self {
+        match childed {
+            Ok(
+                Child {
+                    index,
+                    kind,
+                    start,
+                    end,
+                    next,
+                },
+            ) => Self {
+                number: 0,
+                kind: kind.into(),
+                start,
+                end,
+                index,
+                next: next.at,
+                at: 0,
+            },
+            Err(why) => Self {
+                number: number_of(why),
+                at: bad_at(why),
+                ..Self::default()
+            },
+        }
     }
 }

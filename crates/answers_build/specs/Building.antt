@@ -1,7 +1,7 @@
 -- The document's number and values of each answer to a builder call, as they cross to C.
-use Rattle.model.specs.declared.Inserted.{Inserted}
-use Rattle.model.specs.declared.Added.{Added}
-use Rattle.model.specs.declared.Counted.{Counted}
+use Rattle.std.specs.Prelude.{Result, ℕ}
+use Rattle.layout.specs.declared.refusal.Refusal.{Refusal}
+use Rattle.model.specs.Inserted.{Inserted}
 use Rattle.build_memory.specs.Memory.{Outcome, outcome}
 use Rattle.build_tables.specs.Answer.{added_number, added_table, counted_number, counted_items}
 use Rattle.build_values.specs.Answer.{inserted_number, inserted_kind, inserted_at}
@@ -13,11 +13,11 @@ use Rattle.answers_build.specs.declared.building.GvdbCount.{GvdbCount}
 unfoldable pub told : {A B : Type 0} → (A → B) → Outcome A → Outcome B
 told answer o = outcome (answer o.answer) o.after
 
-unfoldable pub added_answer : Added → GvdbTable
+unfoldable pub added_answer : Result ℕ Refusal → GvdbTable
 added_answer numbered = record { number = added_number numbered; table = added_table numbered }
 
 unfoldable pub inserted_answer : Inserted → GvdbInserted
 inserted_answer inserted = record { number = inserted_number inserted; replaced = inserted_kind inserted; at = inserted_at inserted }
 
-unfoldable pub counted_answer : Counted → GvdbCount
+unfoldable pub counted_answer : Result ℕ Refusal → GvdbCount
 counted_answer counted = record { number = counted_number counted; count = counted_items counted }

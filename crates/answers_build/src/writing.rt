@@ -2,12 +2,12 @@
 ghost use Rattle.std.specs.Prelude.{◌≡◌};
 ghost use Rattle.answers_build.specs.Writing.{written_answer};
 
-use layout::refusal::number_of;
-use write::Written;
+use layout::refusal::{Refusal, number_of};
+use write::Image;
 
 // The root pointer, and the image's length.
 #[repr(C)]
-#[derive(Clone, Copy)]
+#[derive(Clone, Copy, Default)]
 pub struct GvdbImage {
     pub number: u32,
     pub start: u32,
@@ -15,21 +15,22 @@ pub struct GvdbImage {
     pub length: u32,
 }
 
-pub fn written_of(written: Written) -> GvdbImage
-    ensures { result ≡ written_answer written }
-{
-    match written {
-        Written::Image { start, end, length } => GvdbImage {
-            number: 0,
-            start,
-            end,
-            length,
-        },
-        Written::Refused(why) => GvdbImage {
-            number: number_of(why),
-            start: 0,
-            end: 0,
-            length: 0,
-        },
+impl From<Result<Image, Refusal>> for GvdbImage {
+    ghost from_gives = { λ written answer. answer ≡ written_answer written };
+
+    #[tactic(auto, unfolding(crate::specs::Writing::written_answer, crate::specs::Writing::written_image, write::specs::Write::written_number))]
+    fn from(written: Result<Image, Refusal>) -> Self {
+        match written {
+            Ok(Image { start, end, length }) => Self {
+                number: 0,
+                start,
+                end,
+                length,
+            },
+            Err(why) => Self {
+                number: number_of(why),
+                ..Self::default()
+            },
+        }
     }
 }

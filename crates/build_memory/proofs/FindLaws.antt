@@ -5,13 +5,11 @@ use native.Mathlib.Omega.{arith}
 use mathlib.Core.Path.{◌≡◌, refl, sym, ap, ◌∙◌}
 use mathlib.Core.Bool.{Bool, true, false}
 use mathlib.Core.List.{List}
-use borrow.Author.Tests.{eqb-true, eqb-false, eq-eqb, ne_eqb}
+use borrow.Author.Tests.{eqb-true, eqb-false, ne_eqb}
 use lib.Dec.{eqb}
-use lib.ListN.{length}
 use Rattle.words.specs.Choice.{pick}
 use Rattle.key_hash.specs.Hash.{hash_of}
-use Rattle.key_order.specs.Compare.{same_bytes}
-use Rattle.build_memory.specs.Memory.{word, buckets, head_at, item_total, item_table, item_hash, item_older, key_size, key_of}
+use Rattle.build_memory.specs.Memory.{word, buckets, head_at, item_total, item_older}
 use Rattle.build_memory.specs.Find.{is_item, seek, find_key}
 
 -- ---- a chain
@@ -41,29 +39,6 @@ module _ (test : ℕ → Bool) (older : ℕ → ℕ) (none : ℕ) where
   pub seek_step : (n i : ℕ) → i < n → test i ≡ false → seek test older none n i ≡ seek test older none i (older i)
   unfolding pick
   seek_step n i h e = seek_at n i h ∙ simp e
-
--- ---- the test of an item, field by field
-
-module _ (ws ar : List ℕ) (t h : ℕ) (key : List ℕ) (i : ℕ) where
-  pub item_table_lem : (item_table ws i ≡ t → ⊥) → false ≡ is_item ws ar t h key i
-  unfolding is_item
-  item_table_lem e = simp (ne_eqb _ _ e)
-
-  module _ (e0 : item_table ws i ≡ t) where
-    pub item_hash_lem : (item_hash ws i ≡ h → ⊥) → false ≡ is_item ws ar t h key i
-    unfolding is_item
-    item_hash_lem e = simp (eq-eqb _ _ e0, ne_eqb _ _ e)
-
-    module _ (e1 : item_hash ws i ≡ h) where
-      pub item_size_lem : (key_size ws i ≡ length key → ⊥) → false ≡ is_item ws ar t h key i
-      unfolding is_item
-      item_size_lem e = simp (eq-eqb _ _ e0, eq-eqb _ _ e1, ne_eqb _ _ e)
-
-      pub item_bytes_lem : key_size ws i ≡ length key → same_bytes (key_of ws ar i) key ≡ is_item ws ar t h key i
-      unfolding is_item
-      item_bytes_lem e = simp (eq-eqb _ _ e0, eq-eqb _ _ e1, eq-eqb _ _ e)
-
--- ---- the search, from its start to its ends
 
 module _ (ws ar : List ℕ) (t : ℕ) (key : List ℕ) where
   abbrev pub chain_from : ℕ → ℕ → ℕ

@@ -1,4 +1,4 @@
--- The laws of the memory's layout, of total reads, of the rules that every call judges, and of the fresh start.
+-- The laws of the memory's layout, of total reads, of and the rules that every call judges.
 use Prim.Native.Nat.{ℕ, ◌+◌, ◌-◌, ◌≤◌, ◌<◌}
 use native.Mathlib.Nat.{add-sub_cancel_left}
 use native.Mathlib.Omega.{arith}
@@ -9,14 +9,10 @@ use borrow.Author.Tests.{eqb-true, leb-true, le-leb, lt-leb, eq-eqb, ne_eqb}
 use lib.Dec.{leb}
 use lib.ListN.{length, take, drop, length-drop, drop_of_length-le}
 use lib.Seq.{take_all, take-nil}
-use Rattle.words.specs.Choice.{pick}
-use Rattle.words.specs.Store.{part, put_at, copies}
+use Rattle.words.specs.Store.{part}
 use Rattle.words.proofs.ChoiceLaws.{both}
-use Rattle.layout.specs.declared.refusal.Refusal.TheVariants.{MemoryBroken}
 use Rattle.layout.specs.Limits.{most_items, most_tables}
-use Rattle.build_memory.specs.declared.fresh.Started.{Started}
-use Rattle.layout.specs.Item.{no_item}
-use Rattle.build_memory.specs.Memory.{heads_from, buckets, links_from, links, least_words, word, table_total, item_total, room_used, all, rules, valid, Valid, memory, outcome, fresh_words, fresh_start}
+use Rattle.build_memory.specs.Memory.{least_words, word, table_total, item_total, room_used, all, rules, valid, Valid}
 
 -- ---- a total read
 
@@ -86,16 +82,3 @@ module _ (ws : List ℕ) (arena : ℕ) where
           regroup true true false = refl
           regroup true false r = refl
           regroup false q r = refl
-
--- ---- the fresh start
-
-module _ (ws ar : List ℕ) where
-  pub fresh-refused : length ws < least_words → outcome (Started.Refused MemoryBroken) (memory ws ar) ≡ fresh_start ws ar
-  unfolding fresh_start pick
-  fresh-refused h = simp (lt-leb _ _ h)
-
-  pub fresh_ready : least_words ≤ length ws → (w1 w2 w3 : List ℕ) → w1 ≡ put_at ws 0 (length ws ∷ length ar ∷ 0 ∷ 0 ∷ 0 ∷ [])
-      → w2 ≡ put_at w1 heads_from (copies buckets no_item) → w3 ≡ put_at w2 links_from (copies links no_item)
-      → outcome Started.Ready (memory w3 ar) ≡ fresh_start ws ar
-  unfolding fresh_start fresh_words pick
-  fresh_ready h w1 w2 w3 e1 e2 e3 = simp (le-leb _ _ h) (cc)

@@ -22,13 +22,13 @@
 --          0 | key of item 0 | its value | key of item 1 | its value | .. | room used: all behind it is free
 --
 -- A word that is not named is unused. A value that replaces another is stored behind all that is there.
-use Rattle.std.specs.Prelude.{ℕ, ◌+◌, ◌*◌, ◌≤◌, ◌≡◌, Bool, true, ◌&&◌, List, [], ◌∷◌, length, get_or, leb, eqb}
+use Rattle.std.specs.Prelude.{ℕ, ◌+◌, ◌*◌, ◌≤◌, ◌≡◌, Bool, true, ◌&&◌, List, [], ◌∷◌, length, get_or, leb, eqb, Result, Ok, Err}
+use Rattle.layout.specs.declared.refusal.Refusal.{Refusal}
 use Rattle.words.specs.Choice.{pick}
 use Rattle.words.specs.Store.{part, put_at, copies}
 use Rattle.layout.specs.Item.{no_item}
 use Rattle.layout.specs.declared.refusal.Refusal.TheVariants.{MemoryBroken}
 use Rattle.layout.specs.Limits.{most_items, most_tables}
-use Rattle.build_memory.specs.declared.fresh.Started.{Started}
 
 -- ---- where each word stands
 
@@ -184,7 +184,7 @@ fresh_words ws room =
     put_at (put_at (put_at ws 0 (length ws ∷ room ∷ 0 ∷ 0 ∷ 0 ∷ [])) heads_from (copies buckets no_item)) links_from (copies links no_item)
 
 -- 29 where the words are too short, else an empty builder, whatever the memory held
-unfoldable pub fresh_start : List ℕ → List ℕ → Outcome Started
+unfoldable pub fresh_start : List ℕ → List ℕ → Outcome (Result (Unit {0}) Refusal)
 fresh_start ws ar =
-    pick (leb least_words (length ws)) (outcome Started.Ready (memory (fresh_words ws (length ar)) ar))
-    (outcome (Started.Refused MemoryBroken) (memory ws ar))
+    pick (leb least_words (length ws)) (outcome (Ok tt) (memory (fresh_words ws (length ar)) ar))
+    (outcome (Err MemoryBroken) (memory ws ar))

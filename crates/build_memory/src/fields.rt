@@ -73,7 +73,7 @@ pub const LINKS: usize = MOST_ITEMS;
 // Words that are fewer are too short.
 pub const LEAST_WORDS: usize = LINKS_FROM + LINKS;
 
-// A word of table t.
+// A word of table t, and below of item i: with the two constants as parameters a call would be longer than the index.
 pub fn table_word(words: &[usize], t: usize, field: usize) -> usize
     requires { (least_words ≤ length words.now) × (t < most_tables) × (field < table_size) }
     ensures { result ≡ word words.now (table_at t + field) }
@@ -103,6 +103,7 @@ pub fn part_of(arena: &[u8], at: usize, size: usize) -> &[u8]
 }
 
 // The key of item i, as a part of the arena.
+#[tactic(auto, unfolding(crate::specs::Memory::key_of))]
 pub fn key_of<'a>(words: &[usize], arena: &'a [u8], i: usize) -> &'a [u8]
     requires { (least_words ≤ length words.now) × (i < most_items) }
     ensures { result.now ≡ key_of words.now arena.now i }

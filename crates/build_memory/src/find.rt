@@ -18,6 +18,7 @@ pub fn hash_word(key: &[u8]) -> usize
 }
 
 // Whether item i is of the table and has the key, whose hash is given.
+#[tactic(auto, unfolding(crate::specs::Find::is_item))]
 fn is_item(words: &[usize], arena: &[u8], table: usize, hash: usize, key: &[u8], i: usize) -> bool
     requires { (least_words ≤ length words.now) × (i < most_items) }
     ensures { result ≡ is_item words.now arena.now table hash key.now i }
@@ -36,6 +37,7 @@ fn is_item(words: &[usize], arena: &[u8], table: usize, hash: usize, key: &[u8],
 
 // gvdb-rs: SimpleHashTable::get, get_from_bucket; HashTableBuilder has a map for it.
 // The index of the table's item with the key, whose hash is given, or the count of all items where there is none.
+// No `Option`: the definition `find_key` answers the count, and theorems go by it.
 pub fn find_hashed(words: &[usize], arena: &[u8], table: usize, key: &[u8], hash: usize) -> usize
     requires least_words_in_bounds { (least_words ≤ length words.now) × (item_total words.now ≤ most_items) }
     requires hash_value { hash ≡ hash_of key.now }
@@ -46,6 +48,7 @@ pub fn find_hashed(words: &[usize], arena: &[u8], table: usize, key: &[u8], hash
     let bucket = hash % BUCKETS;
     let mut limit = n;
     let mut i = words[HEADS_FROM + bucket];
+    // A `while`: i goes from item to older item, and the chain's end is known only when it is met.
     while i < limit {
         if is_item(words, arena, table, hash, key, i) {
             return i;

@@ -5,13 +5,7 @@ ghost use Rattle.build_memory.specs.Memory.{least_words, memory, outcome, fresh_
 
 use crate::fields::{BUCKETS, EMPTY, HEADS_FROM, LEAST_WORDS, LENGTH, LINKS, LINKS_FROM};
 use layout::refusal::Refusal;
-use words::store::{fill_words, put_words};
-
-#[derive(Clone, Copy)]
-pub enum Started {
-    Ready,
-    Refused(Refusal),
-}
+use words::store::{fill, put};
 
 // The least length of the words.
 pub fn memory_words() -> usize
@@ -26,18 +20,19 @@ fn put_header(words: &mut [usize], room: usize)
     ensures { words.new ≡ put_at words.old 0 (length words.old ∷ room ∷ 0 ∷ 0 ∷ 0 ∷ []) }
 {
     let row = [words.len(), room, 0, 0, 0];
-    put_words(words, LENGTH, &row);
+    put(words, LENGTH, &row);
 }
 
 // An empty builder, whatever the memory held: 29 where the words are too short.
-pub fn fresh(words: &mut [usize], arena: &[u8]) -> Started
+#[tactic(auto, unfolding(crate::specs::Memory::fresh_start, crate::specs::Memory::fresh_words, words::specs::Choice::pick))]
+pub fn fresh(words: &mut [usize], arena: &[u8]) -> Result<(), Refusal>
     ensures { outcome result (memory words.new arena.now) ≡ fresh_start words.old arena.now }
 {
     if words.len() < LEAST_WORDS {
-        return Started::Refused(Refusal::MemoryBroken);
+        return Err(Refusal::MemoryBroken);
     }
     put_header(words, arena.len());
-    fill_words(words, HEADS_FROM, BUCKETS, EMPTY);
-    fill_words(words, LINKS_FROM, LINKS, EMPTY);
-    Started::Ready
+    fill(words, HEADS_FROM, BUCKETS, EMPTY);
+    fill(words, LINKS_FROM, LINKS, EMPTY);
+    Ok(())
 }

@@ -8,9 +8,10 @@ ghost use Rattle.build_memory.specs.Item.{stored, kind_of, make_item, replace_it
 
 use crate::fields::{BUCKETS, HEADS_FROM, ITEM_SIZE, ITEMS, ITEMS_FROM, KIND, USED};
 use layout::kind::{Kind, TABLE_KIND, VALUE_KIND};
-use words::store::{put_bytes, put_words};
+use words::store::put;
 
-// The kind that a word of a record says.
+// The kind that a word of a record says. No `TryFrom`: the definition `kind_of` takes every other word for a container.
+#[tactic(auto, unfolding(crate::specs::Item::kind_of, words::specs::Choice::pick))]
 pub fn kind_of(word: usize) -> Kind
     ensures { result ≡ kind_of word }
 {
@@ -48,7 +49,7 @@ fn put_spot(words: &mut [usize], i: usize, spot: Spot)
         spot.size,
         spot.parent,
     ];
-    put_words(words, at, &row);
+    put(words, at, &row);
 }
 
 // Writes what item i holds: its kind, its value's start and length, the table it holds.
@@ -58,10 +59,11 @@ fn put_held(words: &mut [usize], i: usize, kind: usize, start: usize, size: usiz
 {
     let at = ITEMS_FROM + ITEM_SIZE * i + KIND;
     let row = [kind, start, size, guest];
-    put_words(words, at, &row);
+    put(words, at, &row);
 }
 
 // Writes the head of a bucket.
+#[tactic(auto, unfolding(words::specs::Store::put_at))]
 fn put_head(words: &mut [usize], bucket: usize, i: usize)
     requires { (least_words ≤ length words.old) × (bucket < buckets) }
     ensures { words.new ≡ put_at words.old (head_at bucket) (i ∷ []) }
@@ -75,10 +77,11 @@ fn put_counts(words: &mut [usize], items: usize, used: usize)
     ensures { words.new ≡ put_at words.old 3 (items ∷ used ∷ []) }
 {
     let row = [items, used];
-    put_words(words, ITEMS, &row);
+    put(words, ITEMS, &row);
 }
 
 // What is told of a new item besides its key and value: its table, its parent's index plus 1 (0: none), its kind, the table it holds.
+// The kind is a record's word, as the definition `stored` has it.
 #[derive(Clone, Copy)]
 pub struct NewItem {
     pub table: usize,
@@ -107,8 +110,8 @@ pub fn make_item(
     let bucket = hash % BUCKETS;
     let older = words[HEADS_FROM + bucket];
     let from = room + key.len();
-    put_bytes(arena, room, key);
-    put_bytes(arena, from, value);
+    put(arena, room, key);
+    put(arena, from, value);
     put_spot(
         words,
         n,
@@ -141,7 +144,7 @@ pub fn replace_item(
 {
     let n = words[ITEMS];
     let room = words[USED];
-    put_bytes(arena, room, value);
+    put(arena, room, value);
     put_held(words, i, kind, room, value.len(), guest);
     put_counts(words, n, room + value.len());
 }

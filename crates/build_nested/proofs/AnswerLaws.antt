@@ -1,5 +1,7 @@
 -- The order of refusals in the document's words: for each number, what was passed before it and what it is given for; and that a refusal
 -- leaves the memory as it was.
+use Rattle.std.specs.Prelude.{Ok, Err, Some, None}
+use Rattle.model.specs.Inserted.{Inserted}
 use Prim.Native.Nat.{ℕ, ◌+◌, ◌≤◌, ◌<◌}
 use mathlib.Core.Path.{◌≡◌}
 use mathlib.Core.Bool.{true, false}
@@ -10,7 +12,6 @@ use borrow.Author.Tests.{lt-ltb, le-ltb, eq-eqb, ne_eqb}
 use Rattle.words.specs.Choice.{pick}
 use Rattle.text.specs.Utf8.{is_utf8}
 use Rattle.layout.specs.declared.refusal.Refusal.TheVariants.{MemoryBroken, TableUnknown, TableInItself}
-use Rattle.model.specs.declared.Inserted.{Inserted}
 use Rattle.layout.specs.Limits.{longest_key, deepest}
 use Rattle.layout.specs.Kind.{table_kind}
 use Rattle.build_memory.specs.Memory.{valid, Memory, outcome}
@@ -64,9 +65,9 @@ module _ (ws ar : List ℕ) (t : ℕ) (key : List ℕ) (guest : ℕ) where
 module _ (ws ar : List ℕ) (t : ℕ) (key : List ℕ) where
   settled_still : (guest height : ℕ) (r : Inserted) (m : Memory) → Still ws ar (outcome r m) → Still ws ar (settled guest height (outcome r m))
   unfolding settled when_accepted
-  settled_still guest height Inserted.New m s = new_still ws ar _
-  settled_still guest height (Inserted.Replaced kind) m s = old_still ws ar kind _
-  settled_still guest height (Inserted.Refused why) m s = s
+  settled_still guest height (Ok None) m s = new_still ws ar _
+  settled_still guest height (Ok (Some kind)) m s = old_still ws ar kind _
+  settled_still guest height (Err why) m s = s
 
   pub table_still : (guest : ℕ) → Still ws ar (insert_table ws ar t key guest)
   unfolding insert_table nest_at_key nested

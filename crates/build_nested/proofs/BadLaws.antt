@@ -1,4 +1,6 @@
 -- 8 comes with the offset at which the given key is bad.
+use Rattle.std.specs.Prelude.{Err}
+use Rattle.model.specs.Inserted.{Inserted}
 use Prim.Native.Nat.{ℕ, ◌+◌}
 use mathlib.Core.Path.{◌≡◌}
 use mathlib.Core.List.{List, []}
@@ -13,7 +15,6 @@ use Rattle.text.specs.Bad.{BadText}
 use Rattle.layout.specs.Kind.{table_kind}
 use Rattle.layout.specs.Limits.{deepest}
 use Rattle.layout.specs.declared.refusal.Refusal.TheVariants.{MemoryBroken, TableUnknown, TableInItself, KeyNotUtf8}
-use Rattle.model.specs.declared.Inserted.{Inserted}
 use Rattle.build_memory.specs.Memory.{valid, Outcome}
 use Rattle.build_memory.specs.Item.{stored}
 use Rattle.build_tables.specs.Table.{free_standing}
@@ -29,10 +30,10 @@ module _ (ws ar : List ℕ) (at : ℕ) (t : ℕ) (key : List ℕ) (guest : ℕ) 
   abbrev Asked : Type 0
   Asked = (valid ws (length ar) ≡ true) × (free_standing ws t ≡ true) × (free_standing ws guest ≡ true) × (t ≡ guest → ⊥) × BadText key at
 
-  table_bad : (insert_table ws ar t key guest).answer ≡ Inserted.Refused (KeyNotUtf8 at) → Asked
+  table_bad : (insert_table ws ar t key guest).answer ≡ Err (KeyNotUtf8 at) → Asked
   unfolding insert_table nest_at_key
   table_bad =
-      let P : Outcome Inserted → Type 0 = λ o. o.answer ≡ Inserted.Refused (KeyNotUtf8 at) → Asked in
+      let P : Outcome Inserted → Type 0 = λ o. o.answer ≡ Err (KeyNotUtf8 at) → Asked in
       pick_with P _ _ _
       (λ ok. pick_with P _ _ _
       (λ free. pick_with P _ _ _
@@ -42,7 +43,7 @@ module _ (ws ar : List ℕ) (at : ℕ) (t : ℕ) (key : List ℕ) (guest : ℕ) 
       (λ _ e. absurd ((refused_other ws ar at TableUnknown (λ f. omega arith)).no e)))
       (λ _ e. absurd ((refused_other ws ar at MemoryBroken (λ f. omega arith)).no e))
 
-  bad_table : Asked → (insert_table ws ar t key guest).answer ≡ Inserted.Refused (KeyNotUtf8 at)
+  bad_table : Asked → (insert_table ws ar t key guest).answer ≡ Err (KeyNotUtf8 at)
   unfolding insert_table nest_at_key pick
   bad_table (ok, free, loose, two, bad) = rw (ok, free, loose, ne_eqb t guest two) (eight_keyed ws ar at key _ bad)
 

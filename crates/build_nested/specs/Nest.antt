@@ -1,9 +1,9 @@
 -- The insert of a table into another: 29, 24 for the receiver, 24 for the guest, 25, 8, 20, 21, 26, 22, 23.
-use Rattle.std.specs.Prelude.{ℕ, ◌+◌, ◌&&◌, List, [], ◌∷◌, length, ltb, eqb}
+use Rattle.std.specs.Prelude.{ℕ, ◌+◌, ◌&&◌, List, [], ◌∷◌, length, ltb, eqb, Ok, Err, Some, None}
+use Rattle.model.specs.Inserted.{Inserted}
 use Rattle.words.specs.Choice.{pick}
 use Rattle.words.specs.Store.{put_at}
 use Rattle.layout.specs.declared.refusal.Refusal.TheVariants.{MemoryBroken, TableUnknown, TableInItself}
-use Rattle.model.specs.declared.Inserted.{Inserted}
 use Rattle.layout.specs.Limits.{most_tables, deepest}
 use Rattle.model.specs.Builder.{most}
 use Rattle.layout.specs.Kind.{table_kind}
@@ -27,9 +27,8 @@ place_table ws t height = put_at ws (table_at t + 1) (1 ∷ height ∷ [])
 
 -- the guest is placed where its insert is accepted
 unfoldable pub when_accepted : Inserted → List ℕ → List ℕ → List ℕ
-when_accepted Inserted.New accepted refused = accepted
-when_accepted (Inserted.Replaced kind) accepted refused = accepted
-when_accepted (Inserted.Refused why) accepted refused = refused
+when_accepted (Ok _) accepted refused = accepted
+when_accepted (Err why) accepted refused = refused
 
 unfoldable pub settled : ℕ → ℕ → Outcome Inserted → Outcome Inserted
 settled guest height o =

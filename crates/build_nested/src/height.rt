@@ -1,6 +1,5 @@
 // The height of a table: one more than the greatest height that it holds.
-ghost use Rattle.std.specs.Prelude.{◌≡◌, ◌≤◌, ◌<◌, length, ltb};
-ghost use Rattle.words.specs.Choice.{pick};
+ghost use Rattle.std.specs.Prelude.{◌≡◌, ◌≤◌, ◌<◌, length};
 ghost use Rattle.layout.specs.Limits.{most_items};
 ghost use Rattle.build_memory.specs.Memory.{least_words, item_total};
 ghost use Rattle.build_nested.specs.Nest.{held_at, held_height};
@@ -10,6 +9,7 @@ use layout::kind::TABLE_KIND;
 use layout::limits::MOST_TABLES;
 
 // The height of the table that item i holds, where it is an item of the table that holds one; else 0.
+#[tactic(auto, unfolding(crate::specs::Nest::held_at, words::specs::Choice::pick))]
 fn held_at(words: &[usize], table: usize, i: usize) -> usize
     requires { (least_words ≤ length words.now) × (i < most_items) }
     ensures { result ≡ held_at words.now table i }
@@ -27,28 +27,15 @@ fn held_at(words: &[usize], table: usize, i: usize) -> usize
     table_word(words, guest, HEIGHT)
 }
 
-// The larger of two.
-fn larger(a: usize, b: usize) -> usize
-    ensures { result ≡ pick (ltb a b) b a }
-{
-    if a < b {
-        return b;
-    }
-    a
-}
-
 // The greatest height of the tables that a table holds, or 0.
+#[tactic(auto, unfolding(crate::specs::Nest::held_height, model::specs::Builder::most, words::specs::Choice::pick))]
 pub fn held_height(words: &[usize], table: usize) -> usize
     requires { (least_words ≤ length words.now) × (item_total words.now ≤ most_items) }
     ensures { result ≡ held_height words.now table }
 {
-    let n = words[ITEMS];
     let mut most = 0;
-    let mut i = 0;
-    while i < n {
-        let h = held_at(words, table, i);
-        most = larger(most, h);
-        i += 1;
+    for i in 0..words[ITEMS] {
+        most = most.max(held_at(words, table, i));
     }
     most
 }

@@ -1,107 +1,32 @@
 -- The laws of the rules that a write judges: for the code that judges them, and for those who are told that they hold.
-use Prim.Native.Nat.{ℕ, ◌+◌, ◌-◌, ◌≤◌, ◌<◌}
+use Prim.Native.Nat.{ℕ, zero, suc, ◌+◌, ◌≤◌, ◌<◌}
 use native.Mathlib.Numerals.{add-one}
 use native.Mathlib.Omega.{arith}
-use mathlib.Core.Path.{◌≡◌, refl, sym, ap, ◌∙◌}
+use mathlib.Core.Path.{◌≡◌, refl, sym, ap, ap₂, ◌∙◌}
 use mathlib.Core.Bool.{Bool, true, false, ◌&&◌, ◌||◌, not}
 use mathlib.Core.List.{List}
-use borrow.Author.Tests.{eqb-true, eqb-false, eq-eqb, ne_eqb, lt-ltb, le-ltb, ltb-true, leb-true, le-leb, lt-leb, leb-false}
-use lib.Dec.{eqb, ltb, leb}
-use lib.ListN.{length, get_or, take, set, replicate, get_or-replicate}
-use lib.Seq.{get_or-set_same, get_or-set_other}
+use borrow.Author.Tests.{eqb-true, eqb-false, eq-eqb, ne_eqb, ltb-true}
+use lib.Dec.{eqb, ltb}
+use lib.ListN.{length, get_or, take, drop, length-drop, set, replicate, get_or-replicate}
+use lib.Seq.{get_or-drop, get_or-set_same, get_or-set_other}
+use Rattle.std.specs.List.{list_all}
+use Rattle.std.proofs.lemmas.List.Folds.{list_all_more}
 use Rattle.words.specs.Choice.{pick}
 use Rattle.words.specs.Below.{all_below, some_below}
-use Rattle.key_hash.specs.Hash.{hash_of}
 use Rattle.words.proofs.ChoiceLaws.{both, or_one}
 use Rattle.words.proofs.BelowLaws.{all_below_lem}
-use Rattle.key_order.specs.Compare.{same_bytes}
-use Rattle.text.specs.Utf8.{is_utf8}
-use Rattle.layout.specs.Limits.{longest_key, most_tables, deepest}
-use Rattle.layout.specs.Kind.{value_kind, table_kind, container_kind}
-use Rattle.build_memory.specs.Memory.{links, table_total, item_total, room_used, table_placed, table_height, item_table, item_hash, key_start, key_size, item_parent, item_kind, value_start, value_size, item_guest, key_of, valid}
-use Rattle.build_memory.specs.Find.{find_key}
-use Rattle.build_rules.specs.Valid.{table_known, key_within, key_short, kind_valid, value_within, ranges_valid, key_utf8, hash_valid, key_found, key_valid, begun_by, parent_valid, height_limit, guest_placed, guest_valid, holds_table, held_once, item_valid, link_empty, fully_valid, GuestsFew}
-
--- ---- stretches
-
-leb_same : (a b c d : ℕ) → (a ≤ b → c ≤ d) → (c ≤ d → a ≤ b) → leb a b ≡ leb c d
-leb_same a b c d there back = by_test (leb a b) refl
-  where
-    by_test : (q : Bool) → leb a b ≡ q → leb a b ≡ leb c d
-    by_test true e = e ∙ sym (le-leb c d (there (leb-true a b e)))
-    by_test false e = let h = leb-false a b e in e ∙ sym (other (leb c d) refl h)
-      where
-        other : (q : Bool) → leb c d ≡ q → b < a → leb c d ≡ false
-        other true f l = let z = back (leb-true c d f) in absurd (omega arith)
-        other false f l = f
-
-module _ (start size used : ℕ) where
-  pub ends_before : used < start → false ≡ leb (start + size) used
-  ends_before h = sym (lt-leb (start + size) used (omega arith))
-
-  pub ends_after : start ≤ used → leb size (used - start) ≡ leb (start + size) used
-  ends_after h = leb_same size (used - start) (start + size) used (λ l. omega arith) (λ l. omega arith)
+use Rattle.layout.specs.Limits.{most_tables, deepest}
+use Rattle.layout.specs.Item.{no_item}
+use Rattle.layout.specs.Kind.{table_kind}
+use Rattle.build_memory.specs.Memory.{links_from, table_total, item_total, table_placed, table_height, item_table, item_kind, item_guest}
+use Rattle.build_rules.specs.Valid.{table_known, ranges_valid, key_valid, parent_valid, height_limit, guest_placed, guest_valid, holds_table, held_once, item_valid, link_empty, GuestsFew}
 
 -- ---- an item's ranges
 
 module _ (ws : List ℕ) (i : ℕ) where
-  pub value_none : (item_kind ws i ≡ value_kind → ⊥) → true ≡ value_within ws i
-  unfolding value_within
-  value_none e = simp (ne_eqb _ _ e)
-
-  pub value-one : (kind start size : ℕ) → kind ≡ item_kind ws i → kind ≡ value_kind → start ≡ value_start ws i → size ≡ value_size ws i
-      → leb (start + size) (room_used ws) ≡ value_within ws i
-  unfolding value_within
-  value-one kind start size ek e es ez = simp (eq-eqb _ _ (sym ek ∙ e), es, ez)
-
-  pub ranges_is : (t size start kind : ℕ) (placed value : Bool) → t ≡ item_table ws i → size ≡ key_size ws i → start ≡ key_start ws i
-      → placed ≡ leb (start + size) (room_used ws) → kind ≡ item_kind ws i → value ≡ value_within ws i
-      → (ltb t (table_total ws) && (placed && (leb size longest_key && ((eqb kind value_kind || (eqb kind table_kind || eqb kind container_kind)) && value))))
-      ≡ ranges_valid ws i
-  unfolding ranges_valid table_known key_within key_short kind_valid
-  ranges_is t size start kind placed value et ez es ep ek ev = cc
-
   pub ranges_table : ranges_valid ws i ≡ true → item_table ws i < table_total ws
   unfolding ranges_valid table_known
   ranges_table e = ltb-true _ _ (both (ltb (item_table ws i) (table_total ws)) _ e).0
-
--- ---- its key
-
-module _ (ws ar : List ℕ) (i : ℕ) where
-  pub key_is : (key : List ℕ) (hash own t at : ℕ) (text : Bool) → key ≡ key_of ws ar i → text ≡ is_utf8 key → hash ≡ item_hash ws i → own ≡ hash_of key
-      → t ≡ item_table ws i → at ≡ find_key ws ar t key → (text && (eqb hash own && eqb at i)) ≡ key_valid ws ar i
-  unfolding key_valid key_utf8 hash_valid key_found
-  key_is key hash own t at text ek ex eh eo et ea = cc
-
--- ---- its parent
-
-module _ (short key : List ℕ) where
-  pub begun_long : length key ≤ length short → false ≡ begun_by short key
-  unfolding begun_by
-  begun_long h = simp (le-ltb _ _ h)
-
-  pub begun_short : length short < length key → same_bytes short (take (length short) key) ≡ begun_by short key
-  unfolding begun_by
-  begun_short h = simp (lt-ltb _ _ h)
-
-module _ (ws ar : List ℕ) (i : ℕ) where
-  pub parent_none : item_parent ws i ≡ 0 → true ≡ parent_valid ws ar i
-  unfolding parent_valid
-  parent_none e = simp (eq-eqb _ _ e)
-
-  module _ (parent : ℕ) (is : parent ≡ item_parent ws i) (some : parent ≡ 0 → ⊥) where
-    pub parent_late : i < parent → false ≡ parent_valid ws ar i
-    unfolding parent_valid
-    parent_late h = simp (← is, ne_eqb _ _ some, lt-leb _ _ h)
-
-    module _ (early : parent ≤ i) (t own : ℕ) (et : t ≡ item_table ws (parent - 1)) (eo : own ≡ item_table ws i) where
-      pub parent_else : (t ≡ own → ⊥) → false ≡ parent_valid ws ar i
-      unfolding parent_valid
-      parent_else ne = simp (← is, ne_eqb _ _ some, le-leb _ _ early, ← et, ← eo, ne_eqb _ _ ne)
-
-      pub parent_begins : t ≡ own → (short key : List ℕ) → short ≡ key_of ws ar (parent - 1) → key ≡ key_of ws ar i → begun_by short key ≡ parent_valid ws ar i
-      unfolding parent_valid
-      parent_begins e short key es ek = simp (← is, ne_eqb _ _ some, le-leb _ _ early, ← et, ← eo, eq-eqb _ _ e, es, ek)
 
 -- ---- what it holds
 
@@ -114,25 +39,7 @@ module _ (ws : List ℕ) (t : ℕ) where
   unfolding height_limit pick
   limit_placed e = simp (ne_eqb _ _ e)
 
-  pub guest_unknown : (guest : ℕ) → table_total ws ≤ guest → false ≡ guest_placed ws t guest
-  unfolding guest_placed
-  guest_unknown guest h = simp (le-ltb _ _ h)
-
-  pub guest_known : (guest placed height limit : ℕ) → guest < table_total ws → placed ≡ table_placed ws guest → height ≡ table_height ws guest
-      → limit ≡ height_limit ws t → (not (eqb placed 0) && (leb 1 height && ltb height limit)) ≡ guest_placed ws t guest
-  unfolding guest_placed
-  guest_known guest placed height limit h ep eh el = simp (lt-ltb _ _ h, ep, eh, el)
-
 module _ (ws : List ℕ) (i : ℕ) where
-  pub guest_none : (item_kind ws i ≡ table_kind → ⊥) → true ≡ guest_valid ws i
-  unfolding guest_valid
-  guest_none e = simp (ne_eqb _ _ e)
-
-  pub guest_one : (kind t guest : ℕ) → kind ≡ item_kind ws i → kind ≡ table_kind → t ≡ item_table ws i → guest ≡ item_guest ws i
-      → guest_placed ws t guest ≡ guest_valid ws i
-  unfolding guest_valid
-  guest_one kind t guest ek e et eg = simp (eq-eqb _ _ (sym ek ∙ e), et, eg)
-
   -- an item that holds a table holds one that is known
   pub valid_guest : guest_valid ws i ≡ true → item_kind ws i ≡ table_kind → item_guest ws i < table_total ws
   unfolding guest_valid guest_placed
@@ -143,15 +50,6 @@ module _ (ws : List ℕ) (i : ℕ) where
 -- ---- an item, and all
 
 module _ (ws ar : List ℕ) (i : ℕ) where
-  pub item_out_of_range : ranges_valid ws i ≡ false → false ≡ item_valid ws ar i
-  unfolding item_valid
-  item_out_of_range e = simp e
-
-  pub item_is : ranges_valid ws i ≡ true → (key parent guest : Bool) → key ≡ key_valid ws ar i → parent ≡ parent_valid ws ar i → guest ≡ guest_valid ws i
-      → (key && (parent && guest)) ≡ item_valid ws ar i
-  unfolding item_valid
-  item_is e key parent guest ek ep eg = simp (e, ek, ep, eg)
-
   pub item_guest_lem : item_valid ws ar i ≡ true → guest_valid ws i ≡ true
   unfolding item_valid
   item_guest_lem e =
@@ -229,23 +127,20 @@ module _ (ws : List ℕ) where
           by_ranges false e =
               get_or-set_other met guest t true false (λ (f : t ≡ guest). eqb-false guest t e (sym f)) ∙ inv t h ∙ sym (met_same t i (holds_other t (eqb-false guest t e)))
 
+-- ---- the links
+
+-- the first n links, as a row of words
+module _ (ws : List ℕ) where
+  link_word : (k : ℕ) → eqb (get_or (drop links_from ws) k 0) no_item ≡ link_empty ws k
+  unfolding link_empty
+  link_word k = ap (λ (w : ℕ). eqb w no_item) (get_or-drop links_from ws k 0)
+
+  pub links_row : (n : ℕ) → links_from + n ≤ length ws → list_all (λ w. eqb w no_item) (take n (drop links_from ws)) ≡ all_below (link_empty ws) n
+  unfolding all_below
+  links_row zero h = refl
+  links_row (suc n) h =
+      ap (λ (k : ℕ). list_all (λ w. eqb w no_item) (take k (drop links_from ws))) (sym (add-one n))
+      ∙ list_all_more (λ w. eqb w no_item) (drop links_from ws) n 0 (omega (arith, length-drop links_from ws))
+      ∙ ap₂ (λ a b. a && b) (links_row n (omega arith)) (link_word n)
+
 -- ---- the judgement
-
-module _ (ws ar : List ℕ) where
-  pub whole_invalid : valid ws (length ar) ≡ false → false ≡ fully_valid ws ar
-  unfolding fully_valid
-  whole_invalid e = simp e
-
-  module _ (ok : valid ws (length ar) ≡ true) where
-    pub whole_items : all_below (item_valid ws ar) (item_total ws) ≡ false → false ≡ fully_valid ws ar
-    unfolding fully_valid
-    whole_items e = simp (ok, e)
-
-    module _ (valid : all_below (item_valid ws ar) (item_total ws) ≡ true) where
-      pub whole_twice : all_below (held_once ws) (item_total ws) ≡ false → false ≡ fully_valid ws ar
-      unfolding fully_valid
-      whole_twice e = simp (ok, valid, e)
-
-      pub whole_links : all_below (held_once ws) (item_total ws) ≡ true → all_below (link_empty ws) links ≡ fully_valid ws ar
-      unfolding fully_valid
-      whole_links e = simp (ok, valid, e)

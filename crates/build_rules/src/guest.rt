@@ -12,6 +12,7 @@ use layout::kind::TABLE_KIND;
 use layout::limits::{DEEPEST, MOST_TABLES};
 
 // The height that no table held by table t may reach.
+#[tactic(auto, unfolding(crate::specs::Valid::height_limit, words::specs::Choice::pick))]
 fn height_limit(words: &[usize], t: usize) -> usize
     requires { (least_words ≤ length words.now) × (t < most_tables) }
     ensures { result ≡ height_limit words.now t }
@@ -23,6 +24,7 @@ fn height_limit(words: &[usize], t: usize) -> usize
 }
 
 // Whether the guest of table t is known, placed and lower than it.
+#[tactic(auto, unfolding(crate::specs::Valid::guest_placed))]
 fn guest_placed(words: &[usize], t: usize, guest: usize) -> bool
     requires { (least_words ≤ length words.now) × (t < most_tables) × (table_total words.now ≤ most_tables) }
     ensures { result ≡ guest_placed words.now t guest }
@@ -36,6 +38,7 @@ fn guest_placed(words: &[usize], t: usize, guest: usize) -> bool
 }
 
 // Whether item i, of a table that is known, holds no table, or one as it should be.
+#[tactic(auto, unfolding(crate::specs::Valid::guest_valid))]
 pub fn guest_valid(words: &[usize], i: usize) -> bool
     requires least_words_in_bounds { (least_words ≤ length words.now) × (i < most_items) × (table_total words.now ≤ most_tables) }
     requires i_bound { item_table words.now i < table_total words.now }
@@ -56,20 +59,15 @@ pub fn held_once(words: &[usize]) -> bool
     requires { (least_words ≤ length words.now) × (item_total words.now ≤ most_items) × GuestsFew words.now }
     ensures { result ≡ all_below (held_once words.now) (item_total words.now) }
 {
-    let n = words[ITEMS];
     let mut met = [false; MOST_TABLES];
-    let mut i = 0;
-    while i < n {
-        if item_word(words, i, KIND) != TABLE_KIND {
-            i += 1;
-            continue;
+    for i in 0..words[ITEMS] {
+        if item_word(words, i, KIND) == TABLE_KIND {
+            let guest = item_word(words, i, GUEST);
+            if met[guest] {
+                return false;
+            }
+            met[guest] = true;
         }
-        let guest = item_word(words, i, GUEST);
-        if met[guest] {
-            return false;
-        }
-        met[guest] = true;
-        i += 1;
     }
     true
 }

@@ -24,6 +24,7 @@ fn ends_within(start: usize, size: usize, used: usize) -> bool
 }
 
 // Whether item i's value, if it is one, lies within the room used.
+#[tactic(auto, unfolding(crate::specs::Valid::value_within))]
 fn value_within(words: &[usize], i: usize) -> bool
     requires { (least_words ≤ length words.now) × (i < most_items) }
     ensures { result ≡ value_within words.now i }
@@ -39,6 +40,7 @@ fn value_within(words: &[usize], i: usize) -> bool
 }
 
 // Whether item i's table, key, kind and value are in their ranges.
+#[tactic(auto, unfolding(crate::specs::Valid::ranges_valid, crate::specs::Valid::table_known, crate::specs::Valid::key_within, crate::specs::Valid::key_short, crate::specs::Valid::kind_valid))]
 pub fn ranges_valid(words: &[usize], i: usize) -> bool
     requires { (least_words ≤ length words.now) × (i < most_items) }
     ensures { result ≡ ranges_valid words.now i }
@@ -52,6 +54,7 @@ pub fn ranges_valid(words: &[usize], i: usize) -> bool
 }
 
 // Whether item i's key is UTF-8, has the hash that is written, and is found as this item.
+#[tactic(auto, unfolding(crate::specs::Valid::key_valid, crate::specs::Valid::key_utf8, crate::specs::Valid::hash_valid, crate::specs::Valid::key_found))]
 pub fn key_valid(words: &[usize], arena: &[u8], i: usize) -> bool
     requires { Valid words.now (length arena.now) × (i < item_total words.now) }
     ensures { result ≡ key_valid words.now arena.now i }
@@ -66,6 +69,7 @@ pub fn key_valid(words: &[usize], arena: &[u8], i: usize) -> bool
 }
 
 // Whether a key starts with a shorter one.
+#[tactic(auto, unfolding(crate::specs::Valid::begun_by))]
 fn begun_by(short: &[u8], key: &[u8]) -> bool
     ensures { result ≡ begun_by short.now key.now }
 {
@@ -77,6 +81,7 @@ fn begun_by(short: &[u8], key: &[u8]) -> bool
 }
 
 // Whether item i has no parent, or one that was made before it, in its table, and whose key its key starts with.
+#[tactic(auto, unfolding(crate::specs::Valid::parent_valid))]
 pub fn parent_valid(words: &[usize], arena: &[u8], i: usize) -> bool
     requires { (least_words ≤ length words.now) × (i < most_items) }
     ensures { result ≡ parent_valid words.now arena.now i }

@@ -1,4 +1,5 @@
 -- The order of refusals in the document's words: for each number, what was passed before it and what it is given for.
+use Rattle.std.specs.Prelude.{Ok}
 use Prim.Native.Nat.{ℕ, ◌≤◌, ◌<◌}
 use mathlib.Core.Path.{◌≡◌}
 use mathlib.Core.Bool.{true, false}
@@ -7,7 +8,6 @@ use lib.ListN.{length}
 use borrow.Author.Tests.{lt-ltb, le-ltb, lt-leb, le-leb, eq-eqb, ne_eqb}
 use Rattle.words.specs.Choice.{pick}
 use Rattle.layout.specs.Limits.{most_tables}
-use Rattle.model.specs.declared.Added.{Added}
 use Rattle.model.specs.Builder.{separator_of}
 use Rattle.build_memory.specs.Memory.{item_total, table_total, valid}
 use Rattle.build_tables.specs.Table.{add_table, new_table, count_of, item_count}
@@ -30,7 +30,7 @@ module _ (ws ar separator : List ℕ) where
       unfolding new_table add_table added_number pick
       new_27 h = simp (ok, ne_eqb _ _ inside, le-leb _ _ h)
 
-      pub new_0 : table_total ws < most_tables → (new_table ws ar separator).answer ≡ Added.Table (table_total ws)
+      pub new_0 : table_total ws < most_tables → (new_table ws ar separator).answer ≡ Ok (table_total ws)
       unfolding new_table add_table pick
       new_0 h = simp (ok, ne_eqb _ _ inside, lt-leb _ _ h)
 

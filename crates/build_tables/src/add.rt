@@ -10,8 +10,7 @@ use build_memory::fields::{
 use build_memory::rules::judge;
 use layout::limits::MOST_TABLES;
 use layout::refusal::Refusal;
-use model::Added;
-use words::store::put_words;
+use words::store::put;
 use words::wide::byte_size;
 
 // A number that fits the answers' width.
@@ -22,7 +21,8 @@ pub fn narrow(n: usize) -> u32
     n as u32
 }
 
-// A separator as its word: 0 for one outside the domain.
+// A separator as its word: 0 for one outside the domain. No `Option`: the definition `separator_of` answers 0.
+#[tactic(auto, unfolding(model::specs::Builder::separator_of, words::specs::Choice::pick))]
 fn separator_word(separator: &[u8]) -> usize
     ensures { result ≡ separator_of separator.now }
 {
@@ -40,6 +40,7 @@ fn separator_word(separator: &[u8]) -> usize
 }
 
 // Whether a table is free-standing: known and not placed.
+#[tactic(auto, unfolding(crate::specs::Table::free_standing))]
 pub fn is_free_standing(words: &[usize], arena: &[u8], table: usize) -> bool
     requires { Valid words.now (length arena.now) }
     ensures { result ≡ free_standing words.now table }
@@ -51,33 +52,35 @@ pub fn is_free_standing(words: &[usize], arena: &[u8], table: usize) -> bool
 }
 
 // The next table, with a separator's word.
-fn add_table(words: &mut [usize], arena: &[u8], separator: usize) -> Added
+#[tactic(auto, unfolding(crate::specs::Table::add_table, words::specs::Choice::pick))]
+fn add_table(words: &mut [usize], arena: &[u8], separator: usize) -> Result<u32, Refusal>
     requires { Valid words.old (length arena.now) }
     ensures { outcome result (memory words.new arena.now) ≡ add_table words.old arena.now separator }
 {
     let t = words[TABLES];
     if MOST_TABLES <= t {
-        return Added::Refused(Refusal::TooManyTables);
+        return Err(Refusal::TooManyTables);
     }
     let at = TABLES_FROM + TABLE_SIZE * t;
     let row = [separator, 0, 0];
-    put_words(words, at, &row);
+    put(words, at, &row);
     let count = [t + 1];
-    put_words(words, TABLES, &count);
-    Added::Table(narrow(t))
+    put(words, TABLES, &count);
+    Ok(narrow(t))
 }
 
 // gvdb-rs: HashTableBuilder::new, with_path_separator.
 // A new, empty table with the separator: 29, 28, 27.
-pub fn new_table(words: &mut [usize], arena: &[u8], separator: &[u8]) -> Added
+#[tactic(auto, using(build_memory::proofs::MemoryLaws::valid_facts), unfolding(crate::specs::Table::new_table, words::specs::Choice::pick))]
+pub fn new_table(words: &mut [usize], arena: &[u8], separator: &[u8]) -> Result<u32, Refusal>
     ensures { outcome result (memory words.new arena.now) ≡ new_table words.old arena.now separator.now }
 {
     if !judge(words, arena) {
-        return Added::Refused(Refusal::MemoryBroken);
+        return Err(Refusal::MemoryBroken);
     }
     let byte = separator_word(separator);
     if byte == 0 {
-        return Added::Refused(Refusal::SeparatorOutside);
+        return Err(Refusal::SeparatorOutside);
     }
     add_table(words, arena, byte)
 }

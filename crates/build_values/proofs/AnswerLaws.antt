@@ -1,5 +1,7 @@
 -- The order of refusals in the document's words: for each number, what was passed before it and what it is given for; and that a refusal
 -- leaves the memory as it was.
+use Rattle.std.specs.Prelude.{Ok, Err, Some, None}
+use Rattle.model.specs.Inserted.{Inserted}
 use Prim.Native.Nat.{ℕ, ◌+◌, ◌≤◌, ◌<◌}
 use mathlib.Core.Path.{◌≡◌, refl}
 use native.Mathlib.Omega.{arith}
@@ -14,7 +16,6 @@ use Rattle.key_order.specs.Prefix.{ends_past}
 use Rattle.layout.specs.declared.kind.Kind.{Kind}
 use Rattle.layout.specs.declared.refusal.Refusal.{Refusal}
 use Rattle.layout.specs.declared.refusal.Refusal.TheVariants.{MemoryBroken, TableUnknown, KeyNotUtf8, KeyTooLong, NotContainer, TooManyItems, ArenaFull, NestedTooDeep}
-use Rattle.model.specs.declared.Inserted.{Inserted}
 use Rattle.layout.specs.Limits.{longest_key, most_items}
 use Rattle.layout.specs.Kind.{value_kind}
 use Rattle.build_memory.specs.Memory.{item_total, room_used, table_separator, item_kind, valid, Memory, memory, Outcome, outcome}
@@ -54,7 +55,7 @@ module _ (ws ar : List ℕ) (t : ℕ) (key : List ℕ) (c : Stored) (deep : Bool
           unfolding insert_below_path insert_or_replace insert_new inserted_number pick
           walked_23 h = simp (clear, shallow, le-ltb _ _ missing, le-ltb _ _ few, lt-ltb _ _ h)
 
-          pub walked_new : room_used ws + sum ends + length c.value ≤ length ar → (insert_below_path ws ar t key c deep).answer ≡ Inserted.New
+          pub walked_new : room_used ws + sum ends + length c.value ≤ length ar → (insert_below_path ws ar t key c deep).answer ≡ Ok None
           unfolding insert_below_path insert_or_replace insert_new pick
           walked_new h = simp (clear, shallow, le-ltb _ _ missing, le-ltb _ _ few, le-ltb _ _ h)
 
@@ -64,7 +65,7 @@ module _ (ws ar : List ℕ) (t : ℕ) (key : List ℕ) (c : Stored) (deep : Bool
         walked_23_old h = simp (clear, shallow, lt-ltb _ _ there, lt-ltb _ _ h)
 
         pub walked_old : room_used ws + length c.value ≤ length ar
-            → (insert_below_path ws ar t key c deep).answer ≡ Inserted.Replaced (kind_of (item_kind ws (find_key ws ar t key)))
+            → (insert_below_path ws ar t key c deep).answer ≡ Ok (Some (kind_of (item_kind ws (find_key ws ar t key))))
         unfolding insert_below_path insert_or_replace overwrite pick
         walked_old h = simp (clear, shallow, lt-ltb _ _ there, le-ltb _ _ h)
 
@@ -96,19 +97,19 @@ module _ (ws ar : List ℕ) (t : ℕ) (key value : List ℕ) where
 
 module _ (ws ar : List ℕ) where
   pub record Still (o : Outcome Inserted) : Type 0 where
-    pub same : (why : Refusal) → o.answer ≡ Inserted.Refused why → o.after ≡ memory ws ar
+    pub same : (why : Refusal) → o.answer ≡ Err why → o.after ≡ memory ws ar
 
   pub refused_still : (why : Refusal) → Still (refused why ws ar)
   refused_still why = record { same = λ w e. refl }
 
-  accepted_still : (o : Outcome Inserted) → ((why : Refusal) → o.answer ≡ Inserted.Refused why → ⊥) → Still o
+  accepted_still : (o : Outcome Inserted) → ((why : Refusal) → o.answer ≡ Err why → ⊥) → Still o
   accepted_still o never = record { same = λ why e. absurd (never why e) }
 
-  pub new_still : (m : Memory) → Still (outcome Inserted.New m)
-  new_still m = accepted_still (outcome Inserted.New m) (λ why e. let z : ◌≡◌ {A = ℕ} 0 1 = cc in omega arith)
+  pub new_still : (m : Memory) → Still (outcome (Ok None) m)
+  new_still m = accepted_still (outcome (Ok None) m) (λ why e. let z : ◌≡◌ {A = ℕ} 0 1 = cc in omega arith)
 
-  pub old_still : (kind : Kind) (m : Memory) → Still (outcome (Inserted.Replaced kind) m)
-  old_still kind m = accepted_still (outcome (Inserted.Replaced kind) m) (λ why e. let z : ◌≡◌ {A = ℕ} 0 1 = cc in omega arith)
+  pub old_still : (kind : Kind) (m : Memory) → Still (outcome (Ok (Some kind)) m)
+  old_still kind m = accepted_still (outcome (Ok (Some kind)) m) (λ why e. let z : ◌≡◌ {A = ℕ} 0 1 = cc in omega arith)
 
   pub still : (b : Bool) (o o' : Outcome Inserted) → Still o → Still o' → Still (pick b o o')
   still b o o' s s' = pick_with Still b o o' (λ e. s) (λ e. s')

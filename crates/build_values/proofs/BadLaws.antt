@@ -1,4 +1,6 @@
 -- 8 comes with the offset at which the given key is bad.
+use Rattle.std.specs.Prelude.{Err}
+use Rattle.model.specs.Inserted.{Inserted}
 use Prim.Native.Nat.{ℕ}
 use mathlib.Core.Path.{◌≡◌, sym, ap, subst}
 use mathlib.Core.List.{List}
@@ -13,7 +15,6 @@ use Rattle.layout.specs.Kind.{value_kind}
 use Rattle.layout.specs.Refusal.{number}
 use Rattle.layout.specs.declared.refusal.Refusal.{Refusal}
 use Rattle.layout.specs.declared.refusal.Refusal.TheVariants.{MemoryBroken, TableUnknown, KeyNotUtf8, KeyTooLong, NotContainer, TooManyItems, ArenaFull, NestedTooDeep}
-use Rattle.model.specs.declared.Inserted.{Inserted}
 use Rattle.build_memory.specs.Memory.{valid, Outcome}
 use Rattle.build_memory.specs.Item.{Stored, stored}
 use Rattle.build_tables.specs.Table.{free_standing}
@@ -23,7 +24,7 @@ use Rattle.build_values.specs.Bad.{EightAt}
 module _ (ws ar : List ℕ) (at : ℕ) where
   -- an answer that is not 8
   pub record Other (o : Outcome Inserted) : Type 0 where
-    pub no : o.answer ≡ Inserted.Refused (KeyNotUtf8 at) → ⊥
+    pub no : o.answer ≡ Err (KeyNotUtf8 at) → ⊥
 
   pub refused_other : (why : Refusal) → (number why ≡ 8 → ⊥) → Other (refused why ws ar)
   refused_other why n = record { no = λ e. let is : why ≡ KeyNotUtf8 at = cc in n (ap number is) }
@@ -42,27 +43,27 @@ module _ (ws ar : List ℕ) (at : ℕ) where
       (refused_other NotContainer (λ e. omega arith))
 
   module _ (key : List ℕ) where
-    pub keyed_eight : (next : Outcome Inserted) → Other next → (keyed ws ar key next).answer ≡ Inserted.Refused (KeyNotUtf8 at) → BadText key at
+    pub keyed_eight : (next : Outcome Inserted) → Other next → (keyed ws ar key next).answer ≡ Err (KeyNotUtf8 at) → BadText key at
     unfolding keyed
     keyed_eight next x =
-        let P : Outcome Inserted → Type 0 = λ o. o.answer ≡ Inserted.Refused (KeyNotUtf8 at) → BadText key at in
+        let P : Outcome Inserted → Type 0 = λ o. o.answer ≡ Err (KeyNotUtf8 at) → BadText key at in
         pick_with P _ _ _ (λ _ e. absurd ((pick_other _ _ _ (refused_other KeyTooLong (λ f. omega arith)) x).no e)) (λ bad e. subst (BadText key) (cc) (bad_text key bad))
 
-    pub eight_keyed : (next : Outcome Inserted) → BadText key at → (keyed ws ar key next).answer ≡ Inserted.Refused (KeyNotUtf8 at)
+    pub eight_keyed : (next : Outcome Inserted) → BadText key at → (keyed ws ar key next).answer ≡ Err (KeyNotUtf8 at)
     unfolding keyed pick
-    eight_keyed next bad = rw (bad_no_utf8 key bad) (ap (λ (n : ℕ). Inserted.Refused (KeyNotUtf8 n)) (sym bad.is))
+    eight_keyed next bad = rw (bad_no_utf8 key bad) (ap (λ (n : ℕ). Err (KeyNotUtf8 n)) (sym bad.is))
 
-    value_bad : (t : ℕ) (value : List ℕ) → (insert_value ws ar t key value).answer ≡ Inserted.Refused (KeyNotUtf8 at)
+    value_bad : (t : ℕ) (value : List ℕ) → (insert_value ws ar t key value).answer ≡ Err (KeyNotUtf8 at)
         → (valid ws (length ar) ≡ true) × (free_standing ws t ≡ true) × BadText key at
     unfolding insert_value insert_at_key
     value_bad t value =
-        let P : Outcome Inserted → Type 0 = λ o. o.answer ≡ Inserted.Refused (KeyNotUtf8 at) → (valid ws (length ar) ≡ true) × (free_standing ws t ≡ true) × BadText key at in
+        let P : Outcome Inserted → Type 0 = λ o. o.answer ≡ Err (KeyNotUtf8 at) → (valid ws (length ar) ≡ true) × (free_standing ws t ≡ true) × BadText key at in
         pick_with P _ _ _
         (λ ok. pick_with P _ _ _ (λ free e. (ok, free, keyed_eight _ (path_other t key (stored value_kind value 0) false) e)) (λ _ e. absurd ((refused_other TableUnknown (λ f. omega arith)).no e)))
         (λ _ e. absurd ((refused_other MemoryBroken (λ f. omega arith)).no e))
 
     bad_value : (t : ℕ) (value : List ℕ) → ((valid ws (length ar) ≡ true) × (free_standing ws t ≡ true) × BadText key at)
-        → (insert_value ws ar t key value).answer ≡ Inserted.Refused (KeyNotUtf8 at)
+        → (insert_value ws ar t key value).answer ≡ Err (KeyNotUtf8 at)
     unfolding insert_value insert_at_key pick
     bad_value t value (ok, free, bad) = rw (ok, free) (eight_keyed _ bad)
 

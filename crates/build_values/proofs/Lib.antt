@@ -1,4 +1,3 @@
 pub mod WalkLaws
-pub mod InsertLaws
 pub mod AnswerLaws
 pub mod BadLaws

@@ -1,12 +1,12 @@
 -- The insert of a value: 29, 24, 8, 20, 21, 22, 23; 26, which comes after 21, is for the insert of a table. A refusal leaves the memory as
 -- it was.
-use Rattle.std.specs.Prelude.{ℕ, ◌+◌, ◌≤◌, ◌<◌, Bool, false, List, [], ◌∷◌, length, take, ltb}
+use Rattle.std.specs.Prelude.{ℕ, ◌+◌, ◌≤◌, ◌<◌, Bool, false, List, [], ◌∷◌, length, take, ltb, Ok, Err, Some, None}
+use Rattle.model.specs.Inserted.{Inserted}
 use Rattle.words.specs.Choice.{pick}
 use Rattle.text.specs.Utf8.{first_bad, is_utf8}
 use Rattle.key_order.specs.Prefix.{ends_past}
 use Rattle.layout.specs.declared.refusal.Refusal.{Refusal}
 use Rattle.layout.specs.declared.refusal.Refusal.TheVariants.{MemoryBroken, TableUnknown, KeyNotUtf8, KeyTooLong, NotContainer, TooManyItems, ArenaFull, NestedTooDeep}
-use Rattle.model.specs.declared.Inserted.{Inserted}
 use Rattle.layout.specs.Limits.{longest_key, most_items}
 use Rattle.layout.specs.Kind.{value_kind, container_kind}
 use Rattle.build_memory.specs.Memory.{table_total, item_total, room_used, table_separator, item_kind, valid, Valid, Memory, memory, Outcome, outcome}
@@ -16,7 +16,7 @@ use Rattle.build_tables.specs.Table.{free_standing}
 use Rattle.build_values.specs.Walk.{way_of, sum}
 
 abbrev pub refused : Refusal → List ℕ → List ℕ → Outcome Inserted
-refused why ws ar = outcome (Inserted.Refused why) (memory ws ar)
+refused why ws ar = outcome (Err why) (memory ws ar)
 
 -- memory after the missing containers are made, and the index of the last container plus 1 (0: none)
 pub record Extended : Type 0 where
@@ -48,13 +48,13 @@ insert_new ws ar t key c from parent =
     let ends = ends_past (table_separator ws t) key from in
     pick (ltb most_items (item_total ws + length ends)) (refused TooManyItems ws ar)
     (pick (ltb (length ar) (room_used ws + sum ends + length c.value)) (refused ArenaFull ws ar)
-    (outcome Inserted.New (added (containers t key ends (memory ws ar) parent) t key c)))
+    (outcome (Ok None) (added (containers t key ends (memory ws ar) parent) t key c)))
 
 -- an item that is there: only its value needs room; 23
 unfoldable pub overwrite : List ℕ → List ℕ → ℕ → Stored → Outcome Inserted
 overwrite ws ar i c =
     pick (ltb (length ar) (room_used ws + length c.value)) (refused ArenaFull ws ar)
-    (outcome (Inserted.Replaced (kind_of (item_kind ws i))) (replace_item (memory ws ar) i c))
+    (outcome (Ok (Some (kind_of (item_kind ws i)))) (replace_item (memory ws ar) i c))
 
 unfoldable pub insert_or_replace : List ℕ → List ℕ → ℕ → List ℕ → Stored → ℕ → ℕ → Outcome Inserted
 insert_or_replace ws ar t key c from parent =

@@ -16,14 +16,13 @@ use build_memory::rules::judge;
 use build_tables::add::is_free_standing;
 use key_hash::hash::{Form, hash_on};
 use key_order::prefix::next_end;
-use layout::kind::{CONTAINER_KIND, VALUE_KIND};
+use layout::kind::{CONTAINER_KIND, Kind, VALUE_KIND};
 use layout::limits::{LONGEST_KEY, MOST_ITEMS};
 use layout::refusal::Refusal;
-use model::Inserted;
 use text::utf8::{first_bad, is_utf8};
 use words::wide::word_size;
 
-// What an insert is told besides key and value: the table, the kind of the item, the table it will hold.
+// What an insert is told besides key and value: the table, the kind of the item, the table it will hold. The kind is a record's word, as the definition `stored` has it.
 #[derive(Clone, Copy)]
 pub struct Job {
     pub table: usize,
@@ -51,6 +50,7 @@ fn make_containers(
     let mut at = way.from;
     let mut above = way.parent;
     let mut hash = walked.hash;
+    // A `loop`: `at` goes from one prefix's end to the next, by separators.
     loop {
         let e = next_end(key, at, sep);
         if key.len() <= e {
@@ -74,6 +74,7 @@ fn make_containers(
 }
 
 // Makes what is missing past the walk, last the item of the key itself, whose hash is given.
+#[tactic(auto, unfolding(crate::specs::Insert::added))]
 fn build_new(
     words: &mut [usize],
     arena: &mut [u8],
@@ -89,21 +90,19 @@ fn build_new(
     requires value_in_bounds { room_used words.old + sum (ends_past (table_separator words.old job.table) key.now walked.way.from) + length value.now ≤ length arena.old }
     ensures { memory words.new arena.new ≡ added (containers job.table key.now (ends_past (table_separator words.old job.table) key.now walked.way.from) (memory words.old arena.old) walked.way.parent) job.table key.now (stored job.kind value.now job.guest) }
 {
-    let table = job.table;
-    let kind = job.kind;
-    let guest = job.guest;
-    let sep = table_word(words, table, SEPARATOR);
-    let above = make_containers(words, arena, table, key, sep, walked);
+    let sep = table_word(words, job.table, SEPARATOR);
+    let above = make_containers(words, arena, job.table, key, sep, walked);
     let new = NewItem {
-        table,
+        table: job.table,
         parent: above,
-        kind,
-        guest,
+        kind: job.kind,
+        guest: job.guest,
     };
     make_item(words, arena, new, key, hash, value);
 }
 
 // A new item: counts what is missing, refuses where there is no room (22, 23), and makes it.
+#[tactic(auto, unfolding(crate::specs::Insert::insert_new, words::specs::Choice::pick))]
 fn insert_new(
     words: &mut [usize],
     arena: &mut [u8],
@@ -112,53 +111,51 @@ fn insert_new(
     value: &[u8],
     walked: Walked,
     hash: usize,
-) -> Inserted
+) -> Result<Option<Kind>, Refusal>
     requires ready { Ready words.old arena.old job.table key.now }
     requires from_in_bounds { (walked.way.from ≤ length key.now) × (walked.hash ≡ hash_of (take walked.way.from key.now)) × (hash ≡ hash_of key.now) }
     ensures { outcome result (memory words.new arena.new) ≡ insert_new words.old arena.old job.table key.now (stored job.kind value.now job.guest) walked.way.from walked.way.parent }
 {
-    let table = job.table;
-    let sep = table_word(words, table, SEPARATOR);
-    let way = walked.way;
-    let cost = cost_of(key, way.from, sep);
+    let sep = table_word(words, job.table, SEPARATOR);
+    let cost = cost_of(key, walked.way.from, sep);
     if MOST_ITEMS - words[ITEMS] < cost.items {
-        return Inserted::Refused(Refusal::TooManyItems);
+        return Err(Refusal::TooManyItems);
     }
     let left = arena.len() - words[USED];
     if left < cost.room {
-        return Inserted::Refused(Refusal::ArenaFull);
+        return Err(Refusal::ArenaFull);
     }
     if left - cost.room < value.len() {
-        return Inserted::Refused(Refusal::ArenaFull);
+        return Err(Refusal::ArenaFull);
     }
     build_new(words, arena, job, key, value, walked, hash);
-    Inserted::New
+    Ok(None)
 }
 
 // Item i with other content: refuses where there is no room for the value (23), and writes it.
+#[tactic(auto, unfolding(crate::specs::Insert::overwrite, words::specs::Choice::pick))]
 fn overwrite_item(
     words: &mut [usize],
     arena: &mut [u8],
     i: usize,
     job: Job,
     value: &[u8],
-) -> Inserted
+) -> Result<Option<Kind>, Refusal>
     requires valid { Valid words.old (length arena.old) }
     requires i_bound { i < item_total words.old }
     ensures { outcome result (memory words.new arena.new) ≡ overwrite words.old arena.old i (stored job.kind value.now job.guest) }
 {
     let left = arena.len() - words[USED];
     if left < value.len() {
-        return Inserted::Refused(Refusal::ArenaFull);
+        return Err(Refusal::ArenaFull);
     }
-    let kind = job.kind;
-    let guest = job.guest;
     let old = kind_of(item_word(words, i, KIND));
-    replace_item(words, arena, i, kind, guest, value);
-    Inserted::Replaced(old)
+    replace_item(words, arena, i, job.kind, job.guest, value);
+    Ok(Some(old))
 }
 
 // Writes the key's item anew where it is there, else makes it.
+#[tactic(auto, unfolding(crate::specs::Insert::insert_or_replace, words::specs::Choice::pick))]
 fn insert_or_replace(
     words: &mut [usize],
     arena: &mut [u8],
@@ -166,16 +163,13 @@ fn insert_or_replace(
     key: &[u8],
     value: &[u8],
     walked: Walked,
-) -> Inserted
+) -> Result<Option<Kind>, Refusal>
     requires ready { Ready words.old arena.old job.table key.now }
     requires from_in_bounds { (walked.way.from ≤ length key.now) × (walked.hash ≡ hash_of (take walked.way.from key.now)) }
     ensures { outcome result (memory words.new arena.new) ≡ insert_or_replace words.old arena.old job.table key.now (stored job.kind value.now job.guest) walked.way.from walked.way.parent }
 {
-    let table = job.table;
-    let way = walked.way;
-    let from = way.from;
-    let hash = word_size(hash_on(walked.hash, &key[from..], Form::Plain));
-    let i = find_hashed(words, arena, table, key, hash);
+    let hash = word_size(hash_on(walked.hash, &key[walked.way.from..], Form::Plain));
+    let i = find_hashed(words, arena, job.table, key, hash);
     if i < words[ITEMS] {
         return overwrite_item(words, arena, i, job, value);
     }
@@ -184,6 +178,7 @@ fn insert_or_replace(
 
 // gvdb-rs: insert_item_value.
 // Walks down the containers that are there (21), refuses what is too deep (26), and inserts.
+#[tactic(auto, unfolding(crate::specs::Insert::insert_below_path, crate::specs::Walk::way_of, words::specs::Choice::pick))]
 pub fn insert_below_path(
     words: &mut [usize],
     arena: &mut [u8],
@@ -191,43 +186,41 @@ pub fn insert_below_path(
     key: &[u8],
     value: &[u8],
     deep: bool,
-) -> Inserted
+) -> Result<Option<Kind>, Refusal>
     requires { Ready words.old arena.old job.table key.now }
     ensures { outcome result (memory words.new arena.new) ≡ insert_below_path words.old arena.old job.table key.now (stored job.kind value.now job.guest) deep }
 {
-    let table = job.table;
-    let sep = table_word(words, table, SEPARATOR);
-    let walked = descend_to(words, arena, table, key, sep);
-    let way = walked.way;
-    let clear = way.clear;
-    if !clear {
-        return Inserted::Refused(Refusal::NotContainer);
+    let sep = table_word(words, job.table, SEPARATOR);
+    let walked = descend_to(words, arena, job.table, key, sep);
+    if !walked.way.clear {
+        return Err(Refusal::NotContainer);
     }
     if deep {
-        return Inserted::Refused(Refusal::NestedTooDeep);
+        return Err(Refusal::NestedTooDeep);
     }
     insert_or_replace(words, arena, job, key, value, walked)
 }
 
 // Inserts, unless the table is not free-standing (24) or the key is not UTF-8 or too long (8, 20).
+#[tactic(auto, unfolding(crate::specs::Insert::insert_at_key, crate::specs::Insert::keyed, words::specs::Choice::pick))]
 fn insert_at_key(
     words: &mut [usize],
     arena: &mut [u8],
     table: usize,
     key: &[u8],
     value: &[u8],
-) -> Inserted
+) -> Result<Option<Kind>, Refusal>
     requires { Valid words.old (length arena.old) }
     ensures { outcome result (memory words.new arena.new) ≡ insert_at_key words.old arena.old table key.now value.now }
 {
     if !is_free_standing(words, arena, table) {
-        return Inserted::Refused(Refusal::TableUnknown);
+        return Err(Refusal::TableUnknown);
     }
     if !is_utf8(key) {
-        return Inserted::Refused(Refusal::KeyNotUtf8(first_bad(key)));
+        return Err(Refusal::KeyNotUtf8(first_bad(key)));
     }
     if LONGEST_KEY < key.len() {
-        return Inserted::Refused(Refusal::KeyTooLong);
+        return Err(Refusal::KeyTooLong);
     }
     let job = Job {
         table,
@@ -239,17 +232,18 @@ fn insert_at_key(
 
 // gvdb-rs: HashTableBuilder::insert_value; its insert, insert_string, insert_bytes and insert_gvariant encode the value first.
 // Inserts a value under a key: 29, 24, 8, 20, 21, 22, 23, or the news.
+#[tactic(auto, using(build_memory::proofs::MemoryLaws::valid_facts), unfolding(crate::specs::Insert::insert_value, words::specs::Choice::pick))]
 pub fn insert_value(
     words: &mut [usize],
     arena: &mut [u8],
     table: u32,
     key: &[u8],
     value: &[u8],
-) -> Inserted
+) -> Result<Option<Kind>, Refusal>
     ensures { outcome result (memory words.new arena.new) ≡ insert_value words.old arena.old table key.now value.now }
 {
     if !judge(words, arena) {
-        return Inserted::Refused(Refusal::MemoryBroken);
+        return Err(Refusal::MemoryBroken);
     }
     let t = word_size(table);
     insert_at_key(words, arena, t, key, value)

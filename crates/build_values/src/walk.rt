@@ -61,6 +61,7 @@ pub fn descend_to(words: &[usize], arena: &[u8], table: usize, key: &[u8], sep: 
     let mut from = 0;
     let mut parent = 0;
     let mut hash = HASH_START;
+    // A `loop`: `from` goes from one prefix's end to the next, by separators.
     loop {
         let e = next_end(key, from, sep);
         if key.len() <= e {
@@ -88,6 +89,7 @@ pub fn cost_of(key: &[u8], from: usize, sep: usize) -> Cost
     let mut at = from;
     let mut items = 0;
     let mut room = 0;
+    // A `loop`: `at` goes from one prefix's end to the next, by separators.
     loop {
         let e = next_end(key, at, sep);
         items += 1;

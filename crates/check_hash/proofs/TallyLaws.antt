@@ -1,9 +1,12 @@
 -- The hash from the back is the hash, for every rule for a byte.
-use Rattle.std.proofs.Common.{◌≡◌, ℕ, suc, ◌+◌, ◌-◌, ◌*◌, ◌/◌, ◌%◌, ◌^◌, ◌<◌, ◌≤◌, List, [], ◌∷◌, ◌++◌, length, get_or, take, drop, sym, refl, ap, ◌∙◌, add-zero, add_assoc, mod-lt, mod-eq_of_lt, mul_assoc, mul_comm, add-mul, mul-one, arith, take-append-drop, drop-cons}
+use Rattle.std.proofs.Common.{◌≡◌, ℕ, suc, ◌+◌, ◌-◌, ◌*◌, ◌/◌, ◌%◌, ◌^◌, ◌<◌, List, [], ◌∷◌, ◌++◌, length, get_or, take, drop, reverse, sym, refl, ap, ◌∙◌, add-zero, add_assoc, mod-lt, mod-eq_of_lt, mul_assoc, mul_comm, add-mul, mul-one, arith, take-append-drop, drop-cons}
 use native.Mathlib.Nat.{mod-add-div, add-mul-mod_self_left, add-mod-mod, mod-add-mod}
+use native.Mathlib.Nat.{sub-zero}
 use lib.Seq.{drop-length}
-use Rattle.key_hash.specs.declared.hash.Form.{Form}
-use Rattle.key_hash.specs.Hash.{hash_step, hash_from, hash_by, plain, rule_of}
+use Rattle.std.proofs.lemmas.List.{get_or-reverse, get_or_default, get_or-drop, length-reverse}
+use Rattle.std.specs.Simd.{first_chunks}
+use Rattle.words.proofs.StoreLaws.{chunk_get}
+use Rattle.key_hash.specs.Hash.{hash_step, hash_from, hash_by, plain}
 use Rattle.check_hash.specs.declared.tally.Tally.{Tally}
 use Rattle.check_hash.specs.Tally.{before, prepend, finish, none}
 
@@ -20,6 +23,13 @@ mul_mod_add m a b c = rw (mul_comm a (b % m), mul_comm a b) (mod_mul_add m b a c
 
 ring : (h x w t : ℕ) → (h * 33 + x) * w + t ≡ h * (33 * w) + (x * w + t)
 ring h x w t = rw (add-mul (h * 33) x w, mul_assoc h 33 w) (add_assoc _ _ _)
+
+-- an item of a list from its back
+item_back : {X : Type 0} (xs : List X) (n : ℕ) {x : X} → (n < length (reverse xs)) × (x ≡ get_or (reverse xs) n x) → (d : X)
+    → (n < length xs) × (x ≡ get_or xs (length xs - 1 - n) d)
+item_back xs n {x} (less, is) d =
+    let below : n < length xs = omega (arith, length-reverse xs) in
+    (below, is ∙ get_or-reverse xs n x below ∙ get_or_default xs (length xs - 1 - n) x d (omega arith))
 
 module _ (rule : ℕ → ℕ) where
   hash_affine : (s : List ℕ) (h : ℕ) → h < 2 ^ 32 → hash_from rule h s ≡ (h * (prepend rule s none).weight + (prepend rule s none).sum) % 2 ^ 32
@@ -43,17 +53,23 @@ module _ (rule : ℕ → ℕ) where
   prepend-append (x ∷ k) f s = ap (before rule x) (prepend-append k f s)
 
   -- a turn of the loop over a slice, from its back, and its start
-  pub prepend_turn : (bytes : List ℕ) (i : ℕ) (s : Tally) → 0 < i → i ≤ length bytes
-      → before rule (get_or bytes (i - 1) 0) (prepend rule (drop i bytes) s) ≡ prepend rule (drop (i - 1) bytes) s
+  pub prepend_turn : (bytes : List ℕ) (n : ℕ) {byte : ℕ} (s : Tally) → (n < length (reverse bytes)) × (byte ≡ get_or (reverse bytes) n byte)
+      → before rule byte (prepend rule (drop (length bytes - n) bytes) s) ≡ prepend rule (drop (length bytes - (n + 1)) bytes) s
   unfolding prepend
-  prepend_turn bytes i s h l =
-      let j : i - 1 < length bytes = omega arith in
-      let next : suc (i - 1) ≡ i = omega arith in
-      sym (ap (λ (z : List ℕ). prepend rule z s) (drop-cons bytes (i - 1) 0 j) ∙ ap (λ (n : ℕ). before rule (get_or bytes (i - 1) 0) (prepend rule (drop n bytes) s)) next)
+  prepend_turn bytes n s at =
+      let (below, is) = item_back bytes n at 0 in
+      let i : ℕ = length bytes - 1 - n in
+      let inside : i < length bytes = omega arith in
+      let next : length bytes - n ≡ suc i = omega arith in
+      let same : i ≡ length bytes - (n + 1) = omega arith in
+      ap (λ (b : ℕ). before rule b (prepend rule (drop (length bytes - n) bytes) s)) is
+      ∙ ap (λ (m : ℕ). before rule (get_or bytes i 0) (prepend rule (drop m bytes) s)) next
+      ∙ sym (ap (λ (z : List ℕ). prepend rule z s) (drop-cons bytes i 0 inside))
+      ∙ ap (λ (m : ℕ). prepend rule (drop m bytes) s) same
 
-  pub prepend-start : (bytes : List ℕ) (s : Tally) → s ≡ prepend rule (drop (length bytes) bytes) s
+  pub prepend_start : (bytes : List ℕ) (s : Tally) → s ≡ prepend rule (drop (length bytes - 0) bytes) s
   unfolding prepend
-  prepend-start bytes s = rw (drop-length bytes)
+  prepend_start bytes s = rw (sub-zero (length bytes), drop-length bytes)
 
 -- ---- four bytes at a time
 
@@ -101,18 +117,37 @@ turn_by rule bytes i n s {a} e below next =
     ∙ before_by rule (get_or bytes i 0) (prepend rule (drop (suc i) bytes) s) e
     ∙ sym (ap (λ (z : List ℕ). prepend rule z s) (drop-cons bytes i 0 below))
 
--- a turn of the loop that takes four bytes, by what they count
-pub prepend_stride : (rule : ℕ → ℕ) (bytes : List ℕ) (i n : ℕ) (s : Tally) {a b c d : ℕ} {v r : Tally} → n ≡ i + 4 → n ≤ length bytes
-    → a ≡ rule (get_or bytes i 0) → b ≡ rule (get_or bytes (i + 1) 0) → c ≡ rule (get_or bytes (i + 2) 0) → d ≡ rule (get_or bytes (i + 3) 0)
-    → v ≡ prepend rule (drop n bytes) s → r ≡ prepend plain (a ∷ b ∷ c ∷ d ∷ []) v → r ≡ prepend rule (drop i bytes) s
+-- a byte of a stride, of which there are so many behind it
+stride_at : (bytes : List ℕ) {strides : List (List ℕ)} → strides ≡ first_chunks 4 (length bytes / 4) (drop (length bytes % 4) bytes)
+    → (k : ℕ) {stride : List ℕ} → k < length bytes / 4 → stride ≡ get_or strides k [] → (j : ℕ) {at : ℕ} → j < 4 → length bytes % 4 + (k * 4 + j) ≡ at
+    → get_or stride j 0 ≡ get_or bytes at 0
+stride_at bytes {strides} back k fits is j less e =
+    ap (λ (l : List ℕ). get_or l j 0) is
+    ∙ ap (λ (l : List (List ℕ)). get_or (get_or l k []) j 0) back
+    ∙ chunk_get 4 (length bytes / 4) (drop (length bytes % 4) bytes) k j fits less
+    ∙ get_or-drop (length bytes % 4) bytes (k * 4 + j) 0
+    ∙ ap (λ (m : ℕ). get_or bytes m 0) e
+
+-- a turn of the loop that takes four bytes from the back, by what they count
+pub prepend_stride : (rule : ℕ → ℕ) (bytes : List ℕ) {strides : List (List ℕ)} → strides ≡ first_chunks 4 (length bytes / 4) (drop (length bytes % 4) bytes) → length strides ≡ length bytes / 4
+    → (n : ℕ) {stride : List ℕ} → (n < length (reverse strides)) × (stride ≡ get_or (reverse strides) n stride) → (s : Tally) {a b c d : ℕ} {v r : Tally}
+    → a ≡ rule (get_or stride 0 0) → b ≡ rule (get_or stride 1 0) → c ≡ rule (get_or stride 2 0) → d ≡ rule (get_or stride 3 0)
+    → v ≡ prepend rule (drop (length bytes - 4 * n) bytes) s → r ≡ prepend plain (a ∷ b ∷ c ∷ d ∷ []) v → r ≡ prepend rule (drop (length bytes - 4 * (n + 1)) bytes) s
 unfolding prepend
-prepend_stride rule bytes i n s {a} {b} {c} {d} next fits ea eb ec ed behind told =
+prepend_stride rule bytes {strides} back long n {stride} at s {a} {b} {c} {d} ea eb ec ed behind told =
+    let (below, is) = item_back strides n at [] in
+    let k : ℕ = length strides - 1 - n in
+    let fits : k < length bytes / 4 = omega arith in
+    let i : ℕ = length bytes - 4 * (n + 1) in
+    let start : length bytes % 4 + (k * 4 + 0) ≡ i = omega arith in
+    let end : length bytes - 4 * n ≡ i + 4 = omega arith in
+    let byte : (j p : ℕ) → j < 4 → length bytes % 4 + (k * 4 + j) ≡ p → get_or stride j 0 ≡ get_or bytes p 0 = λ j p less e. stride_at bytes back k fits is j less e in
     told
     ∙ ap (λ (z : Tally). before plain a (before plain b (before plain c (before plain d z)))) behind
-    ∙ ap (λ (z : Tally). before plain a (before plain b (before plain c z))) (turn_by rule bytes (i + 3) n s ed (omega arith) (omega arith))
-    ∙ ap (λ (z : Tally). before plain a (before plain b z)) (turn_by rule bytes (i + 2) (i + 3) s ec (omega arith) (omega arith))
-    ∙ ap (before plain a) (turn_by rule bytes (i + 1) (i + 2) s eb (omega arith) (omega arith))
-    ∙ turn_by rule bytes i (i + 1) s ea (omega arith) (omega arith)
+    ∙ ap (λ (z : Tally). before plain a (before plain b (before plain c z))) (turn_by rule bytes (i + 3) (length bytes - 4 * n) s (ed ∙ ap rule (byte 3 (i + 3) (omega arith) (omega arith))) (omega arith) (omega arith))
+    ∙ ap (λ (z : Tally). before plain a (before plain b z)) (turn_by rule bytes (i + 2) (i + 3) s (ec ∙ ap rule (byte 2 (i + 2) (omega arith) (omega arith))) (omega arith) (omega arith))
+    ∙ ap (before plain a) (turn_by rule bytes (i + 1) (i + 2) s (eb ∙ ap rule (byte 1 (i + 1) (omega arith) (omega arith))) (omega arith) (omega arith))
+    ∙ turn_by rule bytes i (i + 1) s (ea ∙ ap rule (byte 0 i (omega arith) start)) (omega arith) (omega arith)
 
 -- what is left in front
 pub prepend_front : (rule : ℕ → ℕ) (bytes : List ℕ) (i : ℕ) (s : Tally) {v r : Tally} → v ≡ prepend rule (drop i bytes) s → r ≡ prepend rule (take i bytes) v
@@ -128,33 +163,34 @@ pub sum_mod : (a b : ℕ) → (a % 2 ^ 32 + b) % 2 ^ 32 ≡ (a + b) % 2 ^ 32
 sum_mod a b = mod-add-mod a (2 ^ 32) b
 
 -- a byte in front and the end, as the code computes them
-pub before_is : (rule : ℕ → ℕ) (s : Tally) {byte wide product weight sum : ℕ} → weight ≡ (33 * s.weight) % 2 ^ 32 → wide ≡ rule byte
-    → product ≡ (wide * s.weight) % 2 ^ 32 → sum ≡ (product + s.sum) % 2 ^ 32 → ◌≡◌ {A = Tally} (record { weight = weight; sum = sum }) (before rule byte s)
+pub before_is : (rule : ℕ → ℕ) (s : Tally) {byte wide : ℕ} → wide ≡ rule byte
+    → ◌≡◌ {A = Tally} (record { weight = s.weight * 33 % 2 ^ 32; sum = (wide * s.weight % 2 ^ 32 + s.sum) % 2 ^ 32 }) (before rule byte s)
 unfolding before
-before_is rule s {byte} {wide} {product} {weight} {sum} w b p e =
-    let total : sum ≡ (wide * s.weight + s.sum) % 2 ^ 32 = e ∙ ap (λ (n : ℕ). (n + s.sum) % 2 ^ 32) p ∙ sum_mod (wide * s.weight) s.sum in
-    cc
+before_is rule s {byte} {wide} e =
+    let turned : s.weight * 33 ≡ 33 * s.weight = omega arith in
+    cc (turned, e, sum_mod (wide * s.weight) s.sum)
 
 -- the same of four bytes
 sum_four : (a b c d : ℕ) → ((a % 2 ^ 32 + b % 2 ^ 32) % 2 ^ 32 + (c % 2 ^ 32 + d) % 2 ^ 32) % 2 ^ 32 ≡ (a + b + (c + d)) % 2 ^ 32
 sum_four a b c d = simp (mod-add-mod, add-mod-mod)
 
-pub four_is : (a b c d : ℕ) (s : Tally) {pa pb ab pc cd all product weight sum : ℕ} → pa ≡ (a * 35937) % 2 ^ 32 → pb ≡ (b * 1089) % 2 ^ 32 → ab ≡ (pa + pb) % 2 ^ 32
-    → pc ≡ (c * 33) % 2 ^ 32 → cd ≡ (pc + d) % 2 ^ 32 → all ≡ (ab + cd) % 2 ^ 32 → product ≡ (all * s.weight) % 2 ^ 32 → weight ≡ (1185921 * s.weight) % 2 ^ 32
-    → sum ≡ (product + s.sum) % 2 ^ 32 → ◌≡◌ {A = Tally} (record { weight = weight; sum = sum }) (prepend plain (a ∷ b ∷ c ∷ d ∷ []) s)
-four_is a b c d s {pa} {pb} {ab} {pc} {cd} {all} {product} {weight} {sum} ea eb eab ec ecd eall p w e =
+abbrev four : ℕ → ℕ → ℕ → ℕ → ℕ
+four a b c d = ((a * 35937 % 2 ^ 32 + b * 1089 % 2 ^ 32) % 2 ^ 32 + (c * 33 % 2 ^ 32 + d) % 2 ^ 32) % 2 ^ 32
+
+pub four_is : (a b c d : ℕ) (s : Tally)
+    → ◌≡◌ {A = Tally} (record { weight = s.weight * 1185921 % 2 ^ 32; sum = (four a b c d * s.weight % 2 ^ 32 + s.sum) % 2 ^ 32 }) (prepend plain (a ∷ b ∷ c ∷ d ∷ []) s)
+four_is a b c d s =
     let counts : ℕ = a * 35937 + b * 1089 + (c * 33 + d) in
-    let whole : all ≡ (a * 35937 + b * 1089 + (c * 33 + d)) % 2 ^ 32 = cc (sum_four (a * 35937) (b * 1089) (c * 33) d) in
-    let total : sum ≡ (counts * s.weight + s.sum) % 2 ^ 32 =
-    e ∙ ap (λ (n : ℕ). (n + s.sum) % 2 ^ 32) p ∙ sum_mod (all * s.weight) s.sum ∙ ap (λ (n : ℕ). (n * s.weight + s.sum) % 2 ^ 32) whole
-    ∙ mod_mul_add (2 ^ 32) counts s.weight s.sum in
-    let are : ◌≡◌ {A = Tally} (record { weight = weight; sum = sum }) (record { weight = (1185921 * s.weight) % 2 ^ 32; sum = (counts * s.weight + s.sum) % 2 ^ 32 }) = cc in
+    let all = four a b c d in
+    let turned : s.weight * 1185921 ≡ 1185921 * s.weight = omega arith in
+    let whole : all ≡ (a * 35937 + b * 1089 + (c * 33 + d)) % 2 ^ 32 = sum_four (a * 35937) (b * 1089) (c * 33) d in
+    let total : (all * s.weight % 2 ^ 32 + s.sum) % 2 ^ 32 ≡ (counts * s.weight + s.sum) % 2 ^ 32 =
+    sum_mod (all * s.weight) s.sum ∙ ap (λ (n : ℕ). (n * s.weight + s.sum) % 2 ^ 32) whole ∙ mod_mul_add (2 ^ 32) counts s.weight s.sum in
+    let are : ◌≡◌ {A = Tally} (record { weight = s.weight * 1185921 % 2 ^ 32; sum = (all * s.weight % 2 ^ 32 + s.sum) % 2 ^ 32 }) (record { weight = (1185921 * s.weight) % 2 ^ 32; sum = (counts * s.weight + s.sum) % 2 ^ 32 }) = cc in
     are ∙ sym (four_before a b c d s)
 
-pub finish_is : (s : Tally) {front hash : ℕ} → front ≡ (5381 * s.weight) % 2 ^ 32 → hash ≡ (front + s.sum) % 2 ^ 32 → hash ≡ finish s
+pub finish_is : (s : Tally) → (s.weight * 5381 % 2 ^ 32 + s.sum) % 2 ^ 32 ≡ finish s
 unfolding finish
-finish_is s f e = e ∙ ap (λ (n : ℕ). (n + s.sum) % 2 ^ 32) f ∙ sum_mod (5381 * s.weight) s.sum
-
--- a form that is known is that form
-pub form_named : {form known : Form} (bytes : List ℕ) (tally : Tally) {r : Tally} → form ≡ known → r ≡ prepend (rule_of known) bytes tally → r ≡ prepend (rule_of form) bytes tally
-form_named bytes tally is e = rw is e
+finish_is s =
+    let turned : s.weight * 5381 ≡ 5381 * s.weight = omega arith in
+    sum_mod (s.weight * 5381) s.sum ∙ ap (λ (n : ℕ). (n + s.sum) % 2 ^ 32) turned

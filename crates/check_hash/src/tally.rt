@@ -6,10 +6,10 @@ ghost use Rattle.read_chain.specs.Chain.{key_of};
 ghost use Rattle.check_hash.specs.Tally.{before, prepend, finish};
 ghost use Rattle.check_hash.specs.Key.{joined_key};
 
-use key_hash::hash::{Form, byte_counts, wrapping_mul};
+use key_hash::hash::{Form, byte_counts};
 use layout::item::item_at;
 use layout::table::Table;
-use read_chain::chain::{Step, climb};
+use read_chain::chain::climb;
 use words::wide::{half_size, word_size};
 
 // What the end of a key does to a hash: of a key whose front has the hash h, the hash is h * weight + sum, modulo 2^32.
@@ -21,20 +21,21 @@ pub struct Tally {
 
 // The hash and the length of a joined key, or that it does not read.
 #[derive(Clone, Copy)]
-pub enum JoinedKey {
-    Key { hash: u32, size: usize },
-    Broken,
+pub struct JoinedKey {
+    pub hash: u32,
+    pub size: usize,
 }
 
 // The tally with one byte more in front.
+#[tactic(auto, using(crate::proofs::TallyLaws::before_is))]
 fn prepend_byte(byte: u8, tally: Tally, form: Form) -> Tally
     ensures { result ≡ before (rule_of form) byte tally }
 {
     let weight = tally.weight;
-    let counted = wrapping_mul(byte_counts(byte, form), weight);
+    let counted = byte_counts(byte, form).wrapping_mul(weight);
     Tally {
-        weight: wrapping_mul(33, weight),
-        sum: std::num::wrapping_add_u32(counted, tally.sum),
+        weight: weight.wrapping_mul(33),
+        sum: counted.wrapping_add(tally.sum),
     }
 }
 
@@ -43,25 +44,24 @@ fn prepend_each(bytes: &[u8], tally: Tally, form: Form) -> Tally
     ensures { result ≡ prepend (rule_of form) bytes.now tally }
 {
     let mut state = tally;
-    let mut i = bytes.len();
-    while 0 < i {
-        i -= 1;
-        state = prepend_byte(bytes[i], state, form);
+    for &byte in bytes.iter().rev() {
+        state = prepend_byte(byte, state, form);
     }
     state
 }
 
 // The tally with four bytes more in front, by what they count.
+#[tactic(auto, using(crate::proofs::TallyLaws::four_is))]
 fn prepend_four(a: u32, b: u32, c: u32, d: u32, tally: Tally) -> Tally
     ensures { result ≡ prepend plain (a ∷ b ∷ c ∷ d ∷ []) tally }
 {
     let weight = tally.weight;
-    let ab = std::num::wrapping_add_u32(wrapping_mul(a, 35_937), wrapping_mul(b, 1_089));
-    let cd = std::num::wrapping_add_u32(wrapping_mul(c, 33), d);
-    let counted = wrapping_mul(std::num::wrapping_add_u32(ab, cd), weight);
+    let ab = a.wrapping_mul(35_937).wrapping_add(b.wrapping_mul(1_089));
+    let cd = c.wrapping_mul(33).wrapping_add(d);
+    let counted = ab.wrapping_add(cd).wrapping_mul(weight);
     Tally {
-        weight: wrapping_mul(1_185_921, weight),
-        sum: std::num::wrapping_add_u32(counted, tally.sum),
+        weight: weight.wrapping_mul(1_185_921),
+        sum: counted.wrapping_add(tally.sum),
     }
 }
 
@@ -69,17 +69,16 @@ fn prepend_four(a: u32, b: u32, c: u32, d: u32, tally: Tally) -> Tally
 fn prepend_strides(bytes: &[u8], tally: Tally, form: Form) -> Tally
     ensures { result ≡ prepend (rule_of form) bytes.now tally }
 {
+    let (front, strides) = bytes.as_rchunks::<4>();
     let mut state = tally;
-    let mut i = bytes.len();
-    while 4 <= i {
-        i -= 4;
-        let a = byte_counts(bytes[i], form);
-        let b = byte_counts(bytes[i + 1], form);
-        let c = byte_counts(bytes[i + 2], form);
-        let d = byte_counts(bytes[i + 3], form);
+    for &[a, b, c, d] in strides.iter().rev() {
+        let a = byte_counts(a, form);
+        let b = byte_counts(b, form);
+        let c = byte_counts(c, form);
+        let d = byte_counts(d, form);
         state = prepend_four(a, b, c, d, state);
     }
-    prepend_each(&bytes[..i], state, form)
+    prepend_each(front, state, form)
 }
 
 // The same: the form is chosen once for all bytes, and not at each of them.
@@ -93,45 +92,35 @@ fn prepend_all(bytes: &[u8], tally: Tally, form: Form) -> Tally
 }
 
 // The hash of a whole key: the front before it is empty, and has the hash 5381.
+#[tactic(auto, using(crate::proofs::TallyLaws::finish_is))]
 fn finished(tally: Tally) -> u32
     ensures { result ≡ finish tally }
 {
-    let front = wrapping_mul(5381, tally.weight);
-    std::num::wrapping_add_u32(front, tally.sum)
+    tally.weight.wrapping_mul(5381).wrapping_add(tally.sum)
 }
 
 // The hash and the length of the joined key of the item at an index.
-pub fn joined_key(file: &[u8], table: Table, index: usize, form: Form) -> JoinedKey
+pub fn joined_key(file: &[u8], table: Table, index: usize, form: Form) -> Option<JoinedKey>
     requires { InFile file.now table × (index < table.count) }
     ensures { result ≡ joined_key (rule_of form) (key_of file.now table table.count index) }
 {
-    let count = table.count;
     let mut at = index;
     let mut total: usize = 0;
     let mut tally = Tally { weight: 1, sum: 0 };
-    let mut left = count;
-    while 0 < left {
+    for _ in 0..table.count {
         let item = item_at(file, table, at);
+        let step = climb(file, table.count, item).ok()?;
         let start = word_size(item.key);
         let part = half_size(item.size);
-        let stop = start + part;
+        tally = prepend_all(&file[start..start + part], tally, form);
         total += part;
-        match climb(file, count, item) {
-            Step::Refused(_) => {
-                return JoinedKey::Broken;
-            }
-            Step::Root => {
-                return JoinedKey::Key {
-                    hash: finished(prepend_all(&file[start..stop], tally, form)),
-                    size: total,
-                };
-            }
-            Step::Up(parent) => {
-                tally = prepend_all(&file[start..stop], tally, form);
-                at = parent;
-            }
-        }
-        left -= 1;
+        let Some(parent) = step else {
+            return Some(JoinedKey {
+                hash: finished(tally),
+                size: total,
+            });
+        };
+        at = parent;
     }
-    JoinedKey::Broken
+    None
 }

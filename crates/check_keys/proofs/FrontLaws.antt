@@ -1,4 +1,5 @@
 -- A front of a key that reads: its bytes in the item's fragment, and the same front further up.
+use Rattle.std.specs.Prelude.{Result, Ok, Err, Option, Some, None}
 use Prim.Native.Nat.{ℕ, ◌+◌, ◌-◌, ◌≤◌, ◌<◌}
 use mathlib.Core.Path.{◌≡◌, refl, sym, ap, ◌∙◌, subst}
 use mathlib.Core.List.{List, ◌++◌}
@@ -15,8 +16,6 @@ use Rattle.key_order.specs.Compare.{same_bytes}
 use Rattle.layout.specs.declared.refusal.Refusal.{Refusal}
 use Rattle.layout.specs.declared.table.Table.{Table}
 use Rattle.layout.specs.Item.{item_at}
-use Rattle.read_chain.specs.declared.chain.Step.{Step}
-use Rattle.read_listing.specs.declared.listing.Measured.{Measured}
 use Rattle.read_chain.specs.Chain.{Joined, append, join_step, key_of, climb_from, parent_of, fragment_of}
 use Rattle.read_listing.specs.Listing.{measure}
 use Rattle.read_chain.proofs.ChainLaws.{Climbs, climb_or, StepFits, climb_fits, key_turn, key_over, fragment_size}
@@ -29,12 +28,12 @@ use Rattle.check_keys.proofs.PartLaws.{part-tail}
 
 -- ---- a parent that is an item
 
-unfoldable UpBelow : ℕ → Step → Type 0
-UpBelow count Step.Root = Unit
-UpBelow count (Step.Up parent) = parent < count
-UpBelow count (Step.Refused why) = Unit
+unfoldable UpBelow : ℕ → Result (Option ℕ) Refusal → Type 0
+UpBelow count (Ok None) = Unit
+UpBelow count (Ok (Some parent)) = parent < count
+UpBelow count (Err why) = Unit
 
-pub parent_below : (count parent : ℕ) {p : ℕ} → parent_of count parent ≡ Step.Up p → p < count
+pub parent_below : (count parent : ℕ) {p : ℕ} → parent_of count parent ≡ Ok (Some p) → p < count
 unfolding parent_of UpBelow
 parent_below count parent e =
     subst (UpBelow count) e (pick_with (UpBelow count) _ _ _ (λ _. tt) (λ _. pick_with (UpBelow count) _ _ _ (λ h. ltb-true _ _ h) (λ _. tt)))
@@ -44,18 +43,18 @@ parent_below count parent e =
 record Split (j : Joined) (f : List ℕ) (n : ℕ) : Type 0 where
   pub bytes : bytes_of (append j f) ≡ bytes_of j ++ f
   pub fits : length f ≤ n
-  pub sized : measure j ≡ Measured.Size (n - length f)
+  pub sized : measure j ≡ Ok (n - length f)
 
-split : (j : Joined) (f : List ℕ) (n : ℕ) → measure (append j f) ≡ Measured.Size n → Split j f n
+split : (j : Joined) (f : List ℕ) (n : ℕ) → measure (append j f) ≡ Ok n → Split j f n
 unfolding measure append bytes_of
 split (Joined.broken why) f n e = let z : ◌≡◌ {A = ℕ} 0 1 = cc in absurd (omega arith)
 split (Joined.joined k) f n e =
     let all : length (k ++ f) ≡ n = size_is _ _ e in
     let sum : length k + length f ≡ n = sym (length-append k f) ∙ all in
     let m : length k ≡ n - length f = omega arith in
-    record { bytes = refl; fits = omega arith; sized = ap Measured.Size m }
+    record { bytes = refl; fits = omega arith; sized = ap Ok m }
 
-module _ (file : List ℕ) (t : Table) (left at n : ℕ) (sized : measure (key_of file t left at) ≡ Measured.Size n) where
+module _ (file : List ℕ) (t : Table) (left at n : ℕ) (sized : measure (key_of file t left at) ≡ Ok n) where
   some_left : 0 < left
   unfolding measure
   some_left = by_test (ltb 0 left) refl
@@ -63,14 +62,14 @@ module _ (file : List ℕ) (t : Table) (left at n : ℕ) (sized : measure (key_o
       by_test : (q : Bool) → ltb 0 left ≡ q → 0 < left
       by_test true e = ltb-true 0 left e
       by_test false e =
-          let z : Measured.Refused _ ≡ Measured.Size n = sym (ap measure (key_over file t left at (ltb-false 0 left e))) ∙ sized in
+          let z : Err _ ≡ Ok n = sym (ap measure (key_over file t left at (ltb-false 0 left e))) ∙ sized in
           let y : ◌≡◌ {A = ℕ} 0 1 = cc in
           absurd (omega arith)
 
   climbs : Climbs file t.count (item_at file t at) (climb_from file t.count (item_at file t at))
   unfolding measure join_step
   climbs = climb_or file t.count (item_at file t at) (λ why e.
-      let z : Measured.Refused why ≡ Measured.Size n = sym (ap measure (key_turn file t left at (item_at file t at) _ some_left refl e)) ∙ sized in
+      let z : Err why ≡ Ok n = sym (ap measure (key_turn file t left at (item_at file t at) _ some_left refl e)) ∙ sized in
       let y : ◌≡◌ {A = ℕ} 0 1 = cc in
       omega arith)
 
@@ -101,10 +100,10 @@ module _ (file : List ℕ) (t : Table) {p : Front} (fitting : FrontFits file t p
   joined_long : length (fragment_of file (item_at file t p.at)) ≡ (item_at file t p.at).size
   joined_long = fragment_long file t p.left p.at whole fitting.sized
 
-  above_sized : measure (above_at file t p.left p.at whole fitting.sized) ≡ Measured.Size (p.size - p.rest)
+  above_sized : measure (above_at file t p.left p.at whole fitting.sized) ≡ Ok (p.size - p.rest)
   above_sized =
       let e : whole - length (fragment_of file (item_at file t p.at)) ≡ p.size - p.rest = omega (arith, joined_long, fitting.short) in
-      key_parts.sized ∙ ap Measured.Size e
+      key_parts.sized ∙ ap Ok e
 
   front_is : front_bytes file t p ≡ take p.size (bytes_of (above_at file t p.left p.at whole fitting.sized) ++ fragment_of file (item_at file t p.at))
   unfolding front_bytes
@@ -150,25 +149,25 @@ module _ (file : List ℕ) (t : Table) {p : Front} (fitting : FrontFits file t p
 
   -- the same front further up
   module _ (used : p.rest ≡ 0) where
-    above_all : measure (above_at file t p.left p.at whole fitting.sized) ≡ Measured.Size p.size
-    above_all = let e : p.size - p.rest ≡ p.size = omega arith in above_sized ∙ ap Measured.Size e
+    above_all : measure (above_at file t p.left p.at whole fitting.sized) ≡ Ok p.size
+    above_all = let e : p.size - p.rest ≡ p.size = omega arith in above_sized ∙ ap Ok e
 
-    pub raise_root : 0 < p.size → parent_of t.count (item_at file t p.at).parent ≡ Step.Root → ⊥
+    pub raise_root : 0 < p.size → parent_of t.count (item_at file t p.at).parent ≡ Ok None → ⊥
     unfolding above measure
     raise_root some e =
-        let z : Measured.Size 0 ≡ Measured.Size p.size = rw e at above_all in
+        let z : Ok 0 ≡ Ok p.size = rw e at above_all in
         let y : 0 ≡ p.size = size_is _ _ z in
         omega arith
 
-    pub raise_refused : {why : Refusal} → parent_of t.count (item_at file t p.at).parent ≡ Step.Refused why → ⊥
+    pub raise_refused : {why : Refusal} → parent_of t.count (item_at file t p.at).parent ≡ Err why → ⊥
     unfolding above measure
     raise_refused {why} e =
-        let z : Measured.Refused why ≡ Measured.Size p.size = rw e at above_all in
+        let z : Err why ≡ Ok p.size = rw e at above_all in
         let y : ◌≡◌ {A = ℕ} 0 1 = cc in
         omega arith
 
-    module _ {parent : ℕ} (e : parent_of t.count (item_at file t p.at).parent ≡ Step.Up parent) where
-      parent_sized : measure (key_of file t (p.left - 1) parent) ≡ Measured.Size p.size
+    module _ {parent : ℕ} (e : parent_of t.count (item_at file t p.at).parent ≡ Ok (Some parent)) where
+      parent_sized : measure (key_of file t (p.left - 1) parent) ≡ Ok p.size
       unfolding above
       parent_sized = rw e at above_all
 
@@ -178,7 +177,7 @@ module _ (file : List ℕ) (t : Table) {p : Front} (fitting : FrontFits file t p
           let a = bytes_of (above_at file t p.left p.at whole fitting.sized) in
           let long : length a ≡ p.size = sized_bytes _ above_all in
           front_is ∙ take-append-le p.size a _ (omega arith)
-          ∙ ap (λ (s : Step). take p.size (bytes_of (above s (λ q. key_of file t (p.left - 1) q)))) e
+          ∙ ap (λ (s : Result (Option ℕ) Refusal). take p.size (bytes_of (above s (λ q. key_of file t (p.left - 1) q)))) e
 
       pub raise_up : {q : Front} → q ≡ front_at file t parent p.size (p.left - 1) → Raised file t p q
       unfolding front_at front_bytes StepFits
@@ -188,7 +187,7 @@ module _ (file : List ℕ) (t : Table) {p : Front} (fitting : FrontFits file t p
           let z : Raised file t p (front_at file t parent p.size (p.left - 1)) = record {
             fitting = record {
               below = below;
-              sized = parent_sized ∙ ap Measured.Size (sym none-gone);
+              sized = parent_sized ∙ ap Ok (sym none-gone);
               short = omega arith;
               within = size_within file t (p.left - 1) parent p.size parent_sized;
             };
@@ -198,6 +197,11 @@ module _ (file : List ℕ) (t : Table) {p : Front} (fitting : FrontFits file t p
           } in
           subst (Raised file t p) (sym is) z
 
+-- what `same_stretch` and `raise` need
+pub ruleset stretch_says = (stretch_inside, stretch_same)
+
+pub ruleset raise_says = (left_some, parent_below, raise_root, raise_refused)
+
 -- the front that is an item's whole joined key
 pub fitting_start : (file : List ℕ) (t : Table) {index size : ℕ} → Keyed file t index size → FrontFits file t (front_at file t index size t.count)
 unfolding front_at
@@ -205,7 +209,7 @@ fitting_start file t {index} {size} k =
     let none-gone : size + ((item_at file t index).size - (item_at file t index).size) ≡ size = omega arith in
     record {
       below = k.below;
-      sized = k.sized ∙ ap Measured.Size (sym none-gone);
+      sized = k.sized ∙ ap Ok (sym none-gone);
       short = omega arith;
       within = size_within file t t.count index size k.sized;
     }

@@ -1,38 +1,26 @@
 -- Passing over a stretch of the file: one turn, the loop, and what it says of the front.
+use Rattle.std.specs.Prelude.{Ok, Some, None}
 use Prim.Native.Nat.{ℕ, ◌+◌, ◌-◌, ◌≤◌, ◌<◌}
-use mathlib.Core.Path.{◌≡◌, refl, sym, ap, ◌∙◌, subst}
+use mathlib.Core.Path.{◌≡◌, refl, sym, ap, ◌∙◌}
 use mathlib.Core.List.{List, ◌++◌}
 use mathlib.Core.Bool.{Bool, true, false}
 use native.Mathlib.Omega.{arith}
 use lib.ListN.{length, take}
 use lib.Seq.{take-take}
-use borrow.Author.Tests.{ltb-true, ltb-false}
 use Rattle.words.specs.Store.{part}
-use Rattle.words.proofs.ChoiceLaws.{pick_with}
 use Rattle.words.proofs.StoreLaws.{length_part, part-part}
 use Rattle.key_order.specs.Compare.{same_bytes, ends_at}
 use Rattle.key_order.proofs.CompareLaws.{same_equal, ends_short}
 use Rattle.layout.specs.declared.table.Table.{Table}
 use Rattle.layout.specs.Item.{item_at}
-use Rattle.read_listing.specs.declared.listing.Measured.{Measured}
 use Rattle.check_keys.specs.declared.front.Front.{Front}
-use Rattle.check_keys.specs.declared.front.Passed.{Passed}
-use Rattle.check_keys.specs.Front.{smaller, front_bytes, FrontFits, Raised, StretchPassed, BackPassed}
+use Rattle.check_keys.specs.Front.{front_bytes, FrontFits, Raised, StretchPassed, BackPassed}
 use Rattle.check_keys.proofs.PartLaws.{part_front, part_join, ends_part, ends_differs}
 
 -- ---- one turn
 
--- the shorter of two stretches
-pub smaller_fits : {n : ℕ} (a b : ℕ) → n ≡ smaller a b → (n ≤ a) × (n ≤ b) × (0 < a → 0 < b → 0 < n)
-unfolding smaller
-smaller_fits {n} a b is =
-    let P : ℕ → Type 0 = λ m. (m ≤ a) × (m ≤ b) × (0 < a → 0 < b → 0 < m) in
-    subst P (sym is) (pick_with P _ _ _
-    (λ less. let l : a < b = ltb-true _ _ less in (omega arith, omega arith, λ some _. some))
-    (λ more. let l : b ≤ a = ltb-false _ _ more in (omega arith, omega arith, λ _ some. some)))
-
 module _ (file : List ℕ) (t : Table) {p : Front} (from end : ℕ) where
-  pub some_raised : {q : Front} → Raised file t p q → StretchPassed file t p from end (Passed.Over q)
+  pub some_raised : {q : Front} → Raised file t p q → StretchPassed file t p from end (Some q)
   unfolding StretchPassed front_bytes
   some_raised {q} r =
       let none : p.size - q.size ≡ 0 = omega (arith, r.level) in (
@@ -56,13 +44,13 @@ module _ (file : List ℕ) (t : Table) {p : Front} (from end : ℕ) where
         let e : p.size + ((item_at file t p.at).size - p.rest) ≡ p.size - n + ((item_at file t p.at).size - (p.rest - n)) = omega (arith, fitting.short, fitting.within) in
         record {
           below = fitting.below;
-          sized = fitting.sized ∙ ap Measured.Size e;
+          sized = fitting.sized ∙ ap Ok e;
           short = omega (arith, fitting.short);
           within = omega (arith, fitting.within);
         }
 
     module _ {told : Bool} (is : told ≡ same_bytes (part (front_bytes file t p) (p.size - n) n) (part file (end - n) n)) (room : n ≤ end - from) where
-      pub some_passed : 0 < n → told ≡ true → StretchPassed file t p from end (Passed.Over back)
+      pub some_passed : 0 < n → told ≡ true → StretchPassed file t p from end (Some back)
       unfolding StretchPassed front_bytes
       some_passed some e =
           let passed : p.size - (p.size - n) ≡ n = omega (arith, fitting.within) in (
@@ -76,9 +64,12 @@ module _ (file : List ℕ) (t : Table) {p : Front} (from end : ℕ) where
             omega (arith, passed),
           )
 
-      pub some_differs : told ≡ false → StretchPassed file t p from end Passed.Differs
+      pub some_differs : told ≡ false → StretchPassed file t p from end None
       unfolding StretchPassed
       some_differs e = (n, room, sym is ∙ e)
+
+-- what `pass_some` needs
+pub ruleset turn_says = (some_raised, some_passed, some_differs)
 
 -- the counts of a turn: the front has d bytes fewer, and so has what is left of the stretch
 low_turn : (d from end : ℕ) → d ≤ end - from → from ≤ end → (d ≤ end) × (from ≤ end - d)
@@ -117,7 +108,7 @@ module _ (file : List ℕ) (t : Table) (p : Front) (from to : ℕ) where
         same = rw (none, nothing);
       }
 
-  pub pass_short : to ≤ length file → p.size < to - from → BackPassed file t p (part file from (to - from)) Passed.Differs
+  pub pass_short : to ≤ length file → p.size < to - from → BackPassed file t p (part file from (to - from)) None
   unfolding BackPassed
   pass_short inside short = by_order (omega arith)
     where
@@ -128,7 +119,7 @@ module _ (file : List ℕ) (t : Table) (p : Front) (from to : ℕ) where
     pub pass_room : end - from ≤ here.size
     pass_room = omega (arith, i.even, i.low, i.high, i.enough)
 
-    pub pass_turn : {next : Front} → StretchPassed file t here from end (Passed.Over next)
+    pub pass_turn : {next : Front} → StretchPassed file t here from end (Some next)
         → Passing file t p from to next (end - (here.size - next.size))
     unfolding StretchPassed
     pass_turn {next} (m, room) =
@@ -159,7 +150,7 @@ module _ (file : List ℕ) (t : Table) (p : Front) (from to : ℕ) where
         }
 
     -- the bytes passed over are there, and fewer steps or bytes are left
-    pub pass_less : (next : Front) → StretchPassed file t here from end (Passed.Over next)
+    pub pass_less : (next : Front) → StretchPassed file t here from end (Some next)
         → (next.size ≤ here.size) × (here.size - next.size ≤ end) × (next.left + next.size < here.left + here.size)
     unfolding StretchPassed
     pass_less next (m, room) = (m.fewer, omega (arith, room, i.low), m.nearer)
@@ -168,7 +159,7 @@ module _ (file : List ℕ) (t : Table) (p : Front) (from to : ℕ) where
       frag_long : length (part file from (to - from)) ≡ to - from
       frag_long = length_part file from (to - from) (omega (arith, inside, i.low, i.high))
 
-      pub pass_over : end ≤ from → BackPassed file t p (part file from (to - from)) (Passed.Over here)
+      pub pass_over : end ≤ from → BackPassed file t p (part file from (to - from)) (Some here)
       unfolding BackPassed
       pass_over done =
           let last : end ≡ from = omega (arith, i.low) in
@@ -180,7 +171,7 @@ module _ (file : List ℕ) (t : Table) (p : Front) (from to : ℕ) where
           ∙ i.same ∙ ap (λ (k : ℕ). part file k (to - k)) last in
           (i.fitting, size, i.front, ends_part _ _ _ (omega (arith, frag_long, i.enough)) same)
 
-      pub pass_differs : StretchPassed file t here from end Passed.Differs → BackPassed file t p (part file from (to - from)) Passed.Differs
+      pub pass_differs : StretchPassed file t here from end None → BackPassed file t p (part file from (to - from)) None
       unfolding StretchPassed BackPassed
       pass_differs (n, few, other) =
           let f = part file from (to - from) in
@@ -195,3 +186,6 @@ module _ (file : List ℕ) (t : Table) (p : Front) (from to : ℕ) where
           ap (λ (k : ℕ). part file k n) front ∙ sym (part-part file from (to - from) at n (omega (arith, i.low, i.high))) in
           ends_differs (front_bytes file t p) p.size f at n (omega (arith, frag_long, i.enough)) (omega (arith, frag_long, i.low, i.high))
           (rw (mine, yours) at other)
+
+-- what `pass_back` needs
+pub ruleset loop_says = (pass_start, pass_short, pass_room, pass_less, pass_over, pass_differs)

@@ -7,15 +7,15 @@ ghost use Rattle.read_find.specs.Find.{manner_of, item_matches, first_of, find_i
 ghost use Rattle.check_hash.specs.Key.{bytes_of, Keyed};
 ghost use Rattle.check_keys.specs.Front.{FrontFits, ItemCompared};
 
-use crate::front::{Front, Passed, front_at, pass_back};
+use crate::front::{Front, front_at, pass_back};
 use layout::item::item_at;
 use layout::table::Table;
-use read_chain::chain::{Step, climb};
-use read_find::find::{Found, Run, bloom_passes, run_of};
+use read_chain::chain::climb;
+use read_find::find::{Run, bloom_passes, first_in, run_of};
 use read_find::manner::Manner;
 use words::wide::{half_size, word_size};
 
-// What an item says of a front: yes or no, or that its parent has to name what is left of it.
+// What an item says of a front: yes or no, or that its parent has to name what is left of it. An enum: neither is a failure or an absence.
 #[derive(Clone, Copy)]
 pub enum Compared {
     Ended(bool),
@@ -23,6 +23,7 @@ pub enum Compared {
 }
 
 // What item `at` says of a front. Bytes are compared first, so an item that differs costs no more than that.
+#[tactic(auto, using(crate::proofs::SameLaws::item_says))]
 fn compare_item(file: &[u8], table: Table, at: usize, front: Front) -> Compared
     requires { InFile file.now table × FrontFits file.now table front × (at < table.count) }
     ensures { ItemCompared file.now table at front result }
@@ -33,29 +34,28 @@ fn compare_item(file: &[u8], table: Table, at: usize, front: Front) -> Compared
     if file.len() < end {
         return Compared::Ended(false);
     }
-    match pass_back(file, table, front, start, end) {
-        Passed::Differs => Compared::Ended(false),
-        Passed::Over(next) => match climb(file, table.count, item) {
-            Step::Refused(_) => Compared::Ended(false),
-            Step::Root => Compared::Ended(next.size == 0),
-            Step::Up(parent) => Compared::Rest {
-                parent,
-                front: next,
-            },
+    let Some(next) = pass_back(file, table, front, start, end) else {
+        return Compared::Ended(false);
+    };
+    match climb(file, table.count, item) {
+        Ok(Some(parent)) => Compared::Rest {
+            parent,
+            front: next,
         },
+        Ok(None) => Compared::Ended(next.size == 0),
+        Err(_) => Compared::Ended(false),
     }
 }
 
 // Whether the chain of item `at` names the joined key of item `index`, which has `size` bytes. The two are compared from the back.
+#[tactic(auto, using(crate::proofs::SameLaws::same_over))]
 fn same_key(file: &[u8], table: Table, at: usize, index: usize, size: usize) -> bool
     requires { Keyed file.now table index size × (at < table.count) }
     ensures { result ≡ names (key_of file.now table table.count at) (bytes_of (key_of file.now table table.count index)) }
 {
-    let count = table.count;
-    let mut here = front_at(file, table, index, size, count);
+    let mut here = front_at(file, table, index, size, table.count);
     let mut now_at = at;
-    let mut left = count;
-    while 0 < left {
+    for _ in 0..table.count {
         match compare_item(file, table, now_at, here) {
             Compared::Ended(answer) => {
                 return answer;
@@ -65,12 +65,12 @@ fn same_key(file: &[u8], table: Table, at: usize, index: usize, size: usize) -> 
                 here = front;
             }
         }
-        left -= 1;
     }
     false
 }
 
 // Whether item `at` has the hash, and its chain names the joined key of item `index`.
+#[tactic(auto, using(check_hash::proofs::KeyLaws::names_at), unfolding(read_find::specs::Find::item_matches, words::specs::Choice::pick))]
 fn joined_matches(
     file: &[u8],
     table: Table,
@@ -84,13 +84,7 @@ fn joined_matches(
     ensures { result ≡ item_matches (manner_of manner) file.now table (bytes_of (key_of file.now table table.count index)) at }
 {
     let item = item_at(file, table, at);
-    if item.hash != hash {
-        return false;
-    }
-    if at == index {
-        return true;
-    }
-    same_key(file, table, at, index, size)
+    item.hash == hash && (at == index || same_key(file, table, at, index, size))
 }
 
 // The first item of a run that matches.
@@ -102,26 +96,19 @@ fn first_same(
     hash: u32,
     run: Run,
     manner: Manner,
-) -> Found
+) -> Option<usize>
     requires { Keyed file.now table index size × (hash ≡ hash_by (rule_of manner.form) (bytes_of (key_of file.now table table.count index))) }
     ensures { result ≡ first_of (manner_of manner) file.now table (bytes_of (key_of file.now table table.count index)) run }
 {
-    let last = run.last;
-    let count = table.count;
-    let mut at = run.first;
-    while at < last {
-        if count <= at {
-            return Found::Nothing;
-        }
-        if joined_matches(file, table, index, size, hash, at, manner) {
-            return Found::At(at);
-        }
-        at += 1;
-    }
-    Found::Nothing
+    first_in(
+        run,
+        table.count,
+        |at| joined_matches(file, table, index, size, hash, at, manner),
+    )
 }
 
 // The item that the joined key of item `index` names; the key's length and hash are known.
+#[tactic(auto, unfolding(read_find::specs::Find::find_item, words::specs::Choice::pick))]
 pub fn find_joined(
     file: &[u8],
     table: Table,
@@ -129,19 +116,13 @@ pub fn find_joined(
     size: usize,
     hash: u32,
     manner: Manner,
-) -> Found
+) -> Option<usize>
     requires { Keyed file.now table index size × (hash ≡ hash_by (rule_of manner.form) (bytes_of (key_of file.now table table.count index))) }
     ensures { result ≡ find_item (manner_of manner) file.now table (bytes_of (key_of file.now table table.count index)) }
 {
-    let buckets = table.buckets;
-    if buckets == 0 {
-        return Found::Nothing;
+    if table.buckets == 0 || !bloom_passes(file, table, hash, manner.lookup) {
+        return None;
     }
-    let lookup = manner.lookup;
-    if bloom_passes(file, table, hash, lookup) {
-        let run = run_of(file, table, word_size(hash) % buckets);
-        first_same(file, table, index, size, hash, run, manner)
-    } else {
-        Found::Nothing
-    }
+    let run = run_of(file, table, word_size(hash) % table.buckets);
+    first_same(file, table, index, size, hash, run, manner)
 }

@@ -1,5 +1,5 @@
 -- Surveying a container's children: one child, the loop over its list, and what it leaves.
-use Prim.Native.Nat.{ℕ, ◌+◌, ◌*◌, ◌≤◌, ◌<◌}
+use Prim.Native.Nat.{ℕ, ◌+◌, ◌*◌, ◌<◌}
 use mathlib.Core.Path.{◌≡◌, refl, sym, ap, ◌∙◌, subst}
 use mathlib.Core.List.{List}
 use mathlib.Core.Bool.{Bool, true, false, not, ◌&&◌, ◌||◌}
@@ -7,7 +7,7 @@ use native.Mathlib.Numerals.{add-one}
 use native.Mathlib.Omega.{arith}
 use lib.ListN.{length}
 use lib.Dec.{eqb, ltb}
-use borrow.Author.Tests.{eq-eqb, ne_eqb, lt-ltb, le-ltb, eqb-true, eqb-false, ltb-true}
+use borrow.Author.Tests.{eq-eqb, ne_eqb, eqb-true, eqb-false, ltb-true}
 use Rattle.words.specs.Choice.{pick}
 use Rattle.words.specs.Below.{all_below, some_below}
 use Rattle.words.proofs.ChoiceLaws.{both, pick_true, pick-false}
@@ -20,21 +20,6 @@ use Rattle.read_listing.specs.Children.{child_at}
 use Rattle.check_rules.specs.Rules.{among, child_good, value_opens, children_good, lists_it}
 use Rattle.check_rules.specs.Survey.{fresh_child, after_child, five_or_shut, Fresh, Surveying}
 use Rattle.check_rules.proofs.BitsLaws.{bit_same, bit_other, length_bit}
-
--- one test of a child
-module _ (file : List ℕ) (t : Table) (index : ℕ) (bits : List ℕ) (child : ℕ) where
-  pub fresh_outside : t.count ≤ child → false ≡ fresh_child file t index bits child
-  unfolding fresh_child
-  fresh_outside h = rw (le-ltb _ _ h)
-
-  module _ (below : child < t.count) {item : Item} (is : item ≡ item_at file t child) where
-    pub fresh_strange : (item.parent ≡ index → ⊥) → false ≡ fresh_child file t index bits child
-    unfolding fresh_child
-    fresh_strange n = rw (lt-ltb _ _ below, ← is, ne_eqb _ _ n)
-
-    pub fresh-joined : item.parent ≡ index → {m : Bool} → has_bit bits child ≡ m → not m ≡ fresh_child file t index bits child
-    unfolding fresh_child
-    fresh-joined e same = rw (lt-ltb _ _ below, ← is, eq-eqb _ _ e, same)
 
 pub three : (s t u : Bool) → (s && (t && u)) ≡ true → (s ≡ true) × (t ≡ true) × (u ≡ true)
 three s t u e =

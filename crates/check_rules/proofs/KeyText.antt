@@ -1,4 +1,5 @@
 -- A joined key is UTF-8, since its fragments are: so lookup of it never answers 8.
+use Rattle.std.specs.Prelude.{Result, Ok, Err, Option, Some, None}
 use Prim.Native.Nat.{ℕ, zero, suc}
 use mathlib.Core.Path.{◌≡◌}
 use mathlib.Core.List.{List}
@@ -10,7 +11,6 @@ use Rattle.text.proofs.Utf8Parts.{utf8_append}
 use Rattle.layout.specs.declared.refusal.Refusal.{Refusal}
 use Rattle.layout.specs.declared.table.Table.{Table}
 use Rattle.layout.specs.Item.{item_at}
-use Rattle.read_chain.specs.declared.chain.Step.{Step}
 use Rattle.read_chain.specs.Chain.{fragment_of, climb_from, Joined, append, join_step, key_of}
 use Rattle.read_find.specs.Find.{Manner, find_item}
 use Rattle.read_chain.proofs.ChainLaws.{climb_or}
@@ -27,12 +27,12 @@ append_text (Joined.joined k) fragment text more = utf8_append k fragment text m
 append_text (Joined.broken why) fragment text more = tt
 
 -- a step that is not refused stands on a fragment that is UTF-8
-join_text : (s : Step) (fragment : List ℕ) (key_at : ℕ → Joined) → (((why : Refusal) → s ≡ Step.Refused why → ⊥) → is_utf8 fragment ≡ true)
+join_text : (s : Result (Option ℕ) Refusal) (fragment : List ℕ) (key_at : ℕ → Joined) → (((why : Refusal) → s ≡ Err why → ⊥) → is_utf8 fragment ≡ true)
     → ((parent : ℕ) → KeyText (key_at parent)) → KeyText (join_step s fragment key_at)
 unfolding KeyText join_step
-join_text Step.Root fragment key_at text above = text (λ why e. let z : ◌≡◌ {A = ℕ} 0 1 = cc in omega arith)
-join_text (Step.Up parent) fragment key_at text above = append_text (key_at parent) fragment (above parent) (text (λ why e. let z : ◌≡◌ {A = ℕ} 0 1 = cc in omega arith))
-join_text (Step.Refused why) fragment key_at text above = tt
+join_text (Ok None) fragment key_at text above = text (λ why e. let z : ◌≡◌ {A = ℕ} 0 1 = cc in omega arith)
+join_text (Ok (Some parent)) fragment key_at text above = append_text (key_at parent) fragment (above parent) (text (λ why e. let z : ◌≡◌ {A = ℕ} 0 1 = cc in omega arith))
+join_text (Err why) fragment key_at text above = tt
 
 key_text : (file : List ℕ) (t : Table) (steps index : ℕ) → KeyText (key_of file t steps index)
 unfolding KeyText key_of

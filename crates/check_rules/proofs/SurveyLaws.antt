@@ -1,4 +1,6 @@
 -- The walk over all containers, and what its bits tell of rules 5 and 6.
+use Rattle.std.specs.Prelude.{Result, Ok, Err, Option, Some, None}
+use Rattle.layout.specs.declared.refusal.Refusal.{Refusal}
 use Prim.Native.Nat.{ℕ, ◌+◌, ◌*◌, ◌≤◌, ◌<◌}
 use mathlib.Core.Path.{◌≡◌, refl, sym, ap, ◌∙◌, subst}
 use mathlib.Core.List.{List}
@@ -13,7 +15,6 @@ use Rattle.layout.specs.declared.table.Table.{Table}
 use Rattle.layout.specs.declared.item.Item.{Item}
 use Rattle.layout.specs.Table.{InFile}
 use Rattle.layout.specs.Item.{item_at}
-use Rattle.read_chain.specs.declared.chain.Step.{Step}
 use Rattle.read_chain.specs.Chain.{parent_of}
 use Rattle.check_rules.specs.Bits.{has_bit}
 use Rattle.check_rules.specs.Rules.{value_opens, children_good, lists_it, parent_keeps, parent_good, broken_rule}
@@ -24,12 +25,12 @@ use Rattle.read_find.specs.Find.{Manner}
 use Rattle.check_rules.proofs.KeepLaws.{breaks_none_keeps}
 
 -- a step up goes to the parent named
-unfoldable UpIs : ℕ → Step → Type 0
-UpIs parent Step.Root = Unit
-UpIs parent (Step.Up p) = parent ≡ p
-UpIs parent (Step.Refused why) = Unit
+unfoldable UpIs : ℕ → Result (Option ℕ) Refusal → Type 0
+UpIs parent (Ok None) = Unit
+UpIs parent (Ok (Some p)) = parent ≡ p
+UpIs parent (Err why) = Unit
 
-up_parent : (count parent : ℕ) {p : ℕ} → parent_of count parent ≡ Step.Up p → parent ≡ p
+up_parent : (count parent : ℕ) {p : ℕ} → parent_of count parent ≡ Ok (Some p) → parent ≡ p
 unfolding parent_of UpIs
 up_parent count parent e = subst (UpIs parent) e (pick_with (UpIs parent) _ _ _ (λ _. tt) (λ _. pick_with (UpIs parent) _ _ _ (λ _. refl) (λ _. tt)))
 
@@ -90,7 +91,7 @@ module _ (file : List ℕ) (t : Table) where
     pub five_holds : index ≤ stop → (index ≡ stop → ⊥) → value_opens file item ≡ true → children_good file t index item ≡ true
     five_holds l n four = five_open file t index item four ∙ ap (five_or_shut file t index) is ∙ s.sound index (omega arith)
 
-    pub six_bit_set : {parent : ℕ} → parent_of t.count item.parent ≡ Step.Up parent → parent < stop → has_bit bits index ≡ parent_good file t index item
+    pub six_bit_set : {parent : ℕ} → parent_of t.count item.parent ≡ Ok (Some parent) → parent < stop → has_bit bits index ≡ parent_good file t index item
     unfolding parent_good parent_keeps
     six_bit_set {parent} up l =
         let named : (item_at file t index).parent ≡ parent = ap (λ (i : Item). i.parent) (sym is) ∙ up_parent t.count item.parent up in

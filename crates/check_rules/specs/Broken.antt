@@ -1,13 +1,11 @@
 -- What is answered with 40: the first item that does not keep every rule, and the first rule that it breaks; for rule 1 with what listing that
 -- item refuses.
-use Rattle.std.specs.Prelude.{ℕ, ◌<◌, ◌≡◌, ◌↔◌, List, true, false}
+use Rattle.std.specs.Prelude.{ℕ, ◌<◌, ◌≡◌, ◌↔◌, List, true, false, Ok, Err}
 use Rattle.layout.specs.declared.refusal.Refusal.{Refusal}
-use Rattle.layout.specs.declared.table.Opened.{Opened}
 use Rattle.layout.specs.declared.table.Table.{Table}
 use Rattle.layout.specs.Kind.{kind_known}
 use Rattle.layout.specs.Table.{open_table}
 use Rattle.layout.specs.Item.{item_at}
-use Rattle.read_listing.specs.declared.listing.Listed.{Listed}
 use Rattle.read_chain.specs.Chain.{Joined}
 use Rattle.read_listing.specs.Listing.{key_at, listed}
 use Rattle.check_rules.specs.declared.checked.Checked.{Checked}
@@ -39,7 +37,7 @@ module _ (manner : Manner) (file : List ℕ) (t : Table) (i : ℕ) where
 -- the table opens, the items before this one keep every rule, and this one breaks this rule first
 pub record BrokenAt (manner : Manner) (file : List ℕ) (start end broken item : ℕ) : Type 0 where
   pub table : Table
-  pub opens : open_table file start end ≡ Opened.Table table
+  pub opens : open_table file start end ≡ Ok table
   pub below : item < table.count
   pub before : (k : ℕ) → k < item → Keeps manner file table k
   pub breaks : Breaks manner file table item broken
@@ -55,4 +53,4 @@ NamesTheFirst =
 abbrev pub UnlistedWhy : Type 0
 UnlistedWhy =
     (manner : Manner) (file : List ℕ) (start end item room : ℕ) (why : Refusal)
-    → check_table manner file start end ≡ Checked.Unlisted why item → listed (key_at file start end item) room item ≡ Listed.Refused why
+    → check_table manner file start end ≡ Checked.Unlisted why item → listed (key_at file start end item) room item ≡ Err why

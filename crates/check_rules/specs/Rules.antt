@@ -1,21 +1,18 @@
 -- The table check, from document 01, 'The check's six rules': each rule is a test of an item, and the check answers the first item that
 -- breaks one, with the first rule that it breaks, and for rule 1 with what listing that item refuses. The rule for a byte of the hash is a
 -- parameter.
-use Rattle.std.specs.Prelude.{ℕ, zero, suc, ◌+◌, ◌-◌, ◌%◌, List, Bool, true, false, not, ◌&&◌, length, ltb, eqb}
+use Rattle.std.specs.Prelude.{ℕ, zero, suc, ◌+◌, ◌-◌, ◌%◌, List, Bool, true, false, not, ◌&&◌, length, ltb, eqb, Result, Ok, Err, Option, Some, None}
+use Rattle.layout.specs.declared.refusal.Refusal.{Refusal}
 use Rattle.words.specs.Choice.{pick}
 use Rattle.words.specs.Below.{all_below, some_below}
 use Rattle.text.specs.Utf8.{is_utf8}
 use Rattle.layout.specs.declared.kind.Kind.{Kind}
-use Rattle.layout.specs.declared.pointer.Pointed.{Pointed}
-use Rattle.layout.specs.declared.table.Opened.{Opened}
 use Rattle.layout.specs.declared.table.Table.{Table}
 use Rattle.layout.specs.declared.item.Item.{Item}
 use Rattle.layout.specs.Kind.{kind_byte, kind_known}
 use Rattle.layout.specs.Pointer.{open_pointer}
 use Rattle.layout.specs.Table.{open_table}
 use Rattle.layout.specs.Item.{item_at}
-use Rattle.read_chain.specs.declared.chain.Step.{Step}
-use Rattle.read_find.specs.declared.find.Found.{Found}
 use Rattle.read_chain.specs.Chain.{Joined, key_of, parent_of}
 use Rattle.read_find.specs.Find.{Manner, find_item}
 use Rattle.read_listing.specs.Children.{child_at, child_count}
@@ -30,16 +27,16 @@ unfoldable pub key_lists : List ℕ → Table → ℕ → Bool
 key_lists file t index = is_joined (key_of file t t.count index)
 
 -- (2) lookup of that key, taken before 13 and what follows it (so: 8, then 12), answers this index
-unfoldable pub index_of : Manner → List ℕ → Table → List ℕ → Found
-index_of manner file t key = pick (is_utf8 key) (find_item manner file t key) Found.Nothing
+unfoldable pub index_of : Manner → List ℕ → Table → List ℕ → Option ℕ
+index_of manner file t key = pick (is_utf8 key) (find_item manner file t key) None
 
-unfoldable pub sought_at : Manner → List ℕ → Table → Joined → Found
+unfoldable pub sought_at : Manner → List ℕ → Table → Joined → Option ℕ
 sought_at manner file t (Joined.joined k) = index_of manner file t k
-sought_at manner file t (Joined.broken why) = Found.Nothing
+sought_at manner file t (Joined.broken why) = None
 
-unfoldable pub is_at : ℕ → Found → Bool
-is_at index (Found.At found) = eqb found index
-is_at index Found.Nothing = false
+unfoldable pub is_at : ℕ → Option ℕ → Bool
+is_at index (Some found) = eqb found index
+is_at index None = false
 
 unfoldable pub key_finds : Manner → List ℕ → Table → ℕ → Bool
 key_finds manner file t index = is_at index (sought_at manner file t (key_of file t t.count index))
@@ -47,13 +44,13 @@ key_finds manner file t index = is_at index (sought_at manner file t (key_of fil
 -- (3) the kind is known: `kind_known` of the layout
 
 -- (4) the value pointer opens, for 'H' opens as a table, for 'L' has a length divisible by 4
-unfoldable pub is_inside : Pointed → Bool
-is_inside Pointed.Inside = true
-is_inside (Pointed.Refused why) = false
+unfoldable pub is_inside : Result (Unit {0}) Refusal → Bool
+is_inside (Ok _) = true
+is_inside (Err why) = false
 
-unfoldable pub is_table : Opened → Bool
-is_table (Opened.Table t) = true
-is_table (Opened.Refused why) = false
+unfoldable pub is_table : Result Table Refusal → Bool
+is_table (Ok t) = true
+is_table (Err why) = false
 
 unfoldable pub list_opens : List ℕ → Item → Bool
 list_opens file item =
@@ -85,10 +82,10 @@ lists_it file index parent =
     eqb parent.kind (kind_byte Kind.Container)
     && (value_opens file parent && among file parent.from (child_count parent) index)
 
-unfoldable pub parent_keeps : List ℕ → Table → ℕ → Step → Bool
-parent_keeps file t index Step.Root = true
-parent_keeps file t index (Step.Up parent) = lists_it file index (item_at file t parent)
-parent_keeps file t index (Step.Refused why) = false
+unfoldable pub parent_keeps : List ℕ → Table → ℕ → Result (Option ℕ) Refusal → Bool
+parent_keeps file t index (Ok None) = true
+parent_keeps file t index (Ok (Some parent)) = lists_it file index (item_at file t parent)
+parent_keeps file t index (Err why) = false
 
 unfoldable pub parent_good : List ℕ → Table → ℕ → Item → Bool
 parent_good file t index item = parent_keeps file t index (parent_of t.count item.parent)
@@ -125,9 +122,9 @@ explained file t (Checked.Refused why) = Checked.Refused why
 unfoldable pub check_in : Manner → List ℕ → Table → Checked
 check_in manner file t = explained file t (first_broken (broken_rule manner file t) t.count 0)
 
-unfoldable pub check_opened : Manner → List ℕ → Opened → Checked
-check_opened manner file (Opened.Table t) = check_in manner file t
-check_opened manner file (Opened.Refused why) = Checked.Refused why
+unfoldable pub check_opened : Manner → List ℕ → Result Table Refusal → Checked
+check_opened manner file (Ok t) = check_in manner file t
+check_opened manner file (Err why) = Checked.Refused why
 
 -- opening, then 40 for the first item and its first broken rule
 unfoldable pub check_table : Manner → List ℕ → ℕ → ℕ → Checked

@@ -3,6 +3,7 @@ ghost use Rattle.std.specs.Prelude.{◌≡◌, ◌*◌, ◌<◌, length};
 ghost use Rattle.check_rules.specs.Bits.{has_bit, with_bit};
 
 // Whether an index is in the set.
+#[tactic(auto, unfolding(crate::specs::Bits::has_bit))]
 pub fn has_bit(bits: &[usize], at: usize) -> bool
     requires { at < 64 * length bits.now }
     ensures { result ≡ has_bit bits.now at }
@@ -11,6 +12,7 @@ pub fn has_bit(bits: &[usize], at: usize) -> bool
 }
 
 // Puts an index into the set.
+#[tactic(auto, unfolding(crate::specs::Bits::with_bit))]
 pub fn set_bit(bits: &mut [usize], at: usize)
     requires { at < 64 * length bits.old }
     ensures { bits.new ≡ with_bit bits.old at }

@@ -11,9 +11,8 @@ use check_hash::tally::{JoinedKey, joined_key};
 use check_keys::search::find_joined;
 use layout::item::{Item, open_value};
 use layout::kind::{CONTAINER_BYTE, TABLE_BYTE, VALUE_BYTE};
-use layout::pointer::{Pointed, open_pointer};
-use layout::table::{Opened, Table, open_table};
-use read_find::find::Found;
+use layout::pointer::open_pointer;
+use layout::table::{Table, open_table};
 use read_find::manner::Manner;
 use read_listing::children::child_count;
 use words::align::Alignment;
@@ -21,53 +20,49 @@ use words::field::word_at;
 use words::wide::word_size;
 
 // Which of rules 1 and 2 the item's key breaks first; 0 for neither.
+// No `Option`: the definition `key_rule` and the theorems speak of the rules' numbers, as document 01 numbers them.
 pub fn key_rule(file: &[u8], table: Table, index: usize, manner: Manner) -> u32
     requires { InFile file.now table × (index < table.count) }
     ensures { result ≡ key_rule (manner_of manner) file.now table index }
 {
-    let form = manner.form;
-    match joined_key(file, table, index, form) {
-        JoinedKey::Broken => 1,
-        JoinedKey::Key { hash, size } => match find_joined(file, table, index, size, hash, manner) {
-            Found::Nothing => 2,
-            Found::At(found) => { if found == index { 0 } else { 2 } }
-        },
+    let Some(JoinedKey { hash, size }) = joined_key(file, table, index, manner.form) else {
+        return 1;
+    };
+    if find_joined(file, table, index, size, hash, manner) == Some(index) {
+        0
+    } else {
+        2
     }
 }
 
 // Rule 4 of a value: its pointer opens at alignment 8.
+#[tactic(auto, using(crate::proofs::RuleLaws::inside_ok))]
 fn value_inside(file: &[u8], item: Item) -> bool
     ensures { result ≡ is_inside (open_pointer (length file.now) item.from item.to 8) }
 {
-    match open_value(file, item, Alignment::Value) {
-        Pointed::Refused(_) => false,
-        Pointed::Inside => true,
-    }
+    open_value(file, item, Alignment::Value).is_ok()
 }
 
 // Rule 4 of a nested table: it opens.
+#[tactic(auto, using(crate::proofs::RuleLaws::table_ok))]
 fn nested_opens(file: &[u8], item: Item) -> bool
     ensures { result ≡ is_table (open_table file.now item.from item.to) }
 {
-    match open_table(file, item.from, item.to) {
-        Opened::Refused(_) => false,
-        Opened::Table(_) => true,
-    }
+    open_table(file, item.from, item.to).is_ok()
 }
 
 // Rule 4 of a container: its list opens, and has a length divisible by 4.
+#[tactic(auto, using(crate::proofs::RuleLaws::inside_ok, layout::proofs::OpenLaws::pointer_inside), unfolding(crate::specs::Rules::list_opens))]
 fn list_opens(file: &[u8], item: Item) -> bool
     ensures { result ≡ list_opens file.now item }
 {
     let from = word_size(item.from);
     let to = word_size(item.to);
-    match open_pointer(file.len(), from, to, Alignment::Table) {
-        Pointed::Refused(_) => false,
-        Pointed::Inside => (to - from) % 4 == 0,
-    }
+    open_pointer(file.len(), from, to, Alignment::Table).is_ok() && (to - from) % 4 == 0
 }
 
 // Rule 4: the value pointer opens, as its kind asks.
+#[tactic(auto, unfolding(crate::specs::Rules::value_opens, words::specs::Choice::pick))]
 pub fn value_opens(file: &[u8], item: Item) -> bool
     ensures { result ≡ value_opens file.now item }
 {
@@ -89,17 +84,11 @@ fn is_among(file: &[u8], from: usize, n: usize, index: usize) -> bool
     requires { from + 4 * n ≤ length file.now }
     ensures { result ≡ among file.now from n index }
 {
-    let mut k = 0;
-    while k < n {
-        if word_size(word_at(file, from + 4 * k)) == index {
-            return true;
-        }
-        k += 1;
-    }
-    false
+    (0..n).any(|k| word_size(word_at(file, from + 4 * k)) == index)
 }
 
 // Whether an item is a container that keeps rule 4 and lists an index.
+#[tactic(auto, using(crate::proofs::RuleLaws::list_room), unfolding(crate::specs::Rules::lists_it))]
 pub fn lists_it(file: &[u8], index: usize, parent: Item) -> bool
     ensures { result ≡ lists_it file.now index parent }
 {

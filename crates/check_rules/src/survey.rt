@@ -15,6 +15,7 @@ use words::field::word_at;
 use words::wide::word_size;
 
 // Sets the bit of a child that is an item, names the container as its parent, and has no bit yet. Answers whether it is such a child.
+#[tactic(auto, unfolding(crate::specs::Survey::fresh_child, crate::specs::Survey::after_child, words::specs::Choice::pick))]
 fn survey_child(file: &[u8], table: Table, index: usize, child: usize, bits: &mut [usize]) -> bool
     requires { InFile file.now table × (table.count ≤ 64 * length bits.old) }
     ensures said { result ≡ fresh_child file.now table index bits.old child }
@@ -48,13 +49,11 @@ fn survey_children(
     ensures said { result ≡ all_below (child_good file.now table index from) n }
     ensures wrote { Surveying file.now table index (among file.now from n) bits.old bits.new result }
 {
-    let mut k = 0;
-    while k < n {
+    for k in 0..n {
         let child = word_size(word_at(file, from + 4 * k));
         if !survey_child(file, table, index, child, bits) {
             return false;
         }
-        k += 1;
     }
     true
 }
@@ -77,18 +76,16 @@ fn survey_container(file: &[u8], table: Table, index: usize, item: Item, bits: &
 }
 
 // Sets the bits of the children of all containers up to the first that keeps rule 4 and breaks rule 5. Answers its index, or the item count.
+// No `Option`: by `Survey` the items below the answer are surveyed, which holds of the count too.
 pub fn survey_all(file: &[u8], table: Table, bits: &mut [usize]) -> usize
     requires { InFile file.now table × Blank table bits.old }
     ensures { Survey file.now table result bits.new }
 {
-    let count = table.count;
-    let mut at = 0;
-    while at < count {
+    for at in 0..table.count {
         let item = item_at(file, table, at);
         if !survey_container(file, table, at, item, bits) {
             return at;
         }
-        at += 1;
     }
-    count
+    table.count
 }

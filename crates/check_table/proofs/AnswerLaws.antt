@@ -1,10 +1,10 @@
 -- The numbers of the check's answers: 0 just for a sound table, 40 just where a rule is broken, with the rule and the item; any other is
 -- that of opening.
+use Rattle.std.specs.Prelude.{Err}
 use Prim.Native.Nat.{ℕ}
 use mathlib.Core.Path.{◌≡◌, ap, ◌∙◌}
 use mathlib.Core.List.{List}
 use Rattle.layout.specs.declared.refusal.Refusal.{Refusal}
-use Rattle.layout.specs.declared.table.Opened.{Opened}
 use Rattle.layout.specs.Refusal.{number, bad_at}
 use Rattle.layout.specs.Table.{open_table}
 use Rattle.read_chain.specs.Chain.{Joined}
@@ -45,6 +45,6 @@ module _ (manner : Manner) (file : List ℕ) (start end : ℕ) where
       let e = ((names_the_first manner file start end item).0 broken).1 (b, other) in
       (ap checked_why e, ap checked_at e)
 
-  pub check_opening : {why : Refusal} → open_table file start end ≡ Opened.Refused why → checked_number (check_table manner file start end) ≡ number why
+  pub check_opening : {why : Refusal} → open_table file start end ≡ Err why → checked_number (check_table manner file start end) ≡ number why
   unfolding checked_number
   check_opening {why} e = ap checked_number ((refused_as_opening manner file start end why).1 e)

@@ -1,5 +1,6 @@
 -- What is answered with 40 names the first item that does not keep every rule, and its first broken rule, with rule 1 what listing that item
 -- refuses; what is refused is what opening refuses.
+use Rattle.std.specs.Prelude.{Result, Ok, Err}
 use Prim.Native.Nat.{ℕ, ◌<◌}
 use mathlib.Core.Path.{◌≡◌, refl, sym, ap, ◌∙◌, subst}
 use mathlib.Core.Logic.{inl, inr, ◌↔◌}
@@ -7,7 +8,6 @@ use mathlib.Core.List.{List}
 use mathlib.Core.Bool.{false}
 use native.Mathlib.Omega.{arith}
 use Rattle.layout.specs.declared.refusal.Refusal.{Refusal}
-use Rattle.layout.specs.declared.table.Opened.{Opened}
 use Rattle.layout.specs.declared.table.Table.{Table}
 use Rattle.layout.specs.Table.{open_table}
 use Rattle.read_chain.specs.Chain.{Joined, key_of}
@@ -23,7 +23,7 @@ use Rattle.read_find.specs.Find.{Manner}
 use Rattle.check_table.proofs.ExplainLaws.{One, explained_cases, explained-one, one-explained, never_refused, never_unlisted}
 
 module _ (manner : Manner) (file : List ℕ) (start end : ℕ) where
-  found_at : (t : Table) {broken item : ℕ} → open_table file start end ≡ Opened.Table t
+  found_at : (t : Table) {broken item : ℕ} → open_table file start end ≡ Ok t
       → first_broken (broken_rule manner file t) t.count 0 ≡ Checked.Broken broken item → BrokenAt manner file start end broken item
   found_at t {broken} {item} is e =
       let f = broken_first (broken_rule manner file t) t.count 0 e in
@@ -51,10 +51,10 @@ module _ (manner : Manner) (file : List ℕ) (start end : ℕ) where
       let rule-one : c ≡ Checked.Broken 1 item = e ∙ ap (λ (n : ℕ). Checked.Broken n item) one in
       one-explained file t item (first_one t (broken_breaks manner file t item f.is f.some) one) (subst (λ (d : Checked). explained file t d ≡ d) rule-one stays)
 
-  broken_at : {broken item : ℕ} (o : Opened) → open_table file start end ≡ o → check_opened manner file o ≡ Checked.Broken broken item
+  broken_at : {broken item : ℕ} (o : Result Table Refusal) → open_table file start end ≡ o → check_opened manner file o ≡ Checked.Broken broken item
       → BrokenAt manner file start end broken item × (broken ≡ 1 → ⊥)
   unfolding check_opened check_in
-  broken_at {broken} {item} (Opened.Table t) is e = by_case (first_broken (broken_rule manner file t) t.count 0) refl e
+  broken_at {broken} {item} (Ok t) is e = by_case (first_broken (broken_rule manner file t) t.count 0) refl e
     where
       by_case : (c : Checked) → first_broken (broken_rule manner file t) t.count 0 ≡ c → explained file t c ≡ Checked.Broken broken item
           → BrokenAt manner file start end broken item × (broken ≡ 1 → ⊥)
@@ -62,12 +62,12 @@ module _ (manner : Manner) (file : List ℕ) (start end : ℕ) where
         | inl same ↦ (found_at t is (found ∙ sym same ∙ f), stays_other t c found same (sym same ∙ f))
         | inr one ↦ absurd (let says = one.says in let z : ◌≡◌ {A = ℕ} 0 1 = cc in omega arith)
       ]
-  broken_at (Opened.Refused why) is e = let z : ◌≡◌ {A = ℕ} 0 1 = cc in absurd (omega arith)
+  broken_at (Err why) is e = let z : ◌≡◌ {A = ℕ} 0 1 = cc in absurd (omega arith)
 
-  unlisted_at : {why : Refusal} {item : ℕ} (o : Opened) → open_table file start end ≡ o → check_opened manner file o ≡ Checked.Unlisted why item
+  unlisted_at : {why : Refusal} {item : ℕ} (o : Result Table Refusal) → open_table file start end ≡ o → check_opened manner file o ≡ Checked.Unlisted why item
       → BrokenAt manner file start end 1 item × (key_at file start end item ≡ Joined.broken why)
   unfolding check_opened check_in
-  unlisted_at {why} {item} (Opened.Table t) is e = by_case (first_broken (broken_rule manner file t) t.count 0) refl e
+  unlisted_at {why} {item} (Ok t) is e = by_case (first_broken (broken_rule manner file t) t.count 0) refl e
     where
       by_one : (c : Checked) → first_broken (broken_rule manner file t) t.count 0 ≡ c → One file t c (Checked.Unlisted why item)
           → BrokenAt manner file start end 1 item × (key_at file start end item ≡ Joined.broken why)
@@ -85,7 +85,7 @@ module _ (manner : Manner) (file : List ℕ) (start end : ℕ) where
         | inl same ↦ absurd (never_unlisted (broken_rule manner file t) t.count 0 (found ∙ sym same ∙ f))
         | inr one ↦ by_one c found (subst (One file t c) f one)
       ]
-  unlisted_at (Opened.Refused why) is e = let z : ◌≡◌ {A = ℕ} 0 1 = cc in absurd (omega arith)
+  unlisted_at (Err why) is e = let z : ◌≡◌ {A = ℕ} 0 1 = cc in absurd (omega arith)
 
   number_some : (t : Table) {broken item : ℕ} → Breaks manner file t item broken → broken ≡ 0 → ⊥
   number_some t (Breaks.first a) e = omega arith
@@ -125,19 +125,19 @@ pub unlisted_why : UnlistedWhy
 unfolding listed
 unlisted_why manner file start end item room why e = rw (((names_the_first manner file start end item).1 why).0 e).1
 
-opened_refused : (manner : Manner) (file : List ℕ) (o : Opened) {why : Refusal} → check_opened manner file o ≡ Checked.Refused why → o ≡ Opened.Refused why
+opened_refused : (manner : Manner) (file : List ℕ) (o : Result Table Refusal) {why : Refusal} → check_opened manner file o ≡ Checked.Refused why → o ≡ Err why
 unfolding check_opened check_in
-opened_refused manner file (Opened.Table t) {why} e = absurd (by_case (first_broken (broken_rule manner file t) t.count 0) refl e)
+opened_refused manner file (Ok t) {why} e = absurd (by_case (first_broken (broken_rule manner file t) t.count 0) refl e)
   where
     by_case : (c : Checked) → first_broken (broken_rule manner file t) t.count 0 ≡ c → explained file t c ≡ Checked.Refused why → ⊥
     by_case c found f = elim (explained_cases file t c) [
       | inl same ↦ never_refused (broken_rule manner file t) t.count 0 (found ∙ sym same ∙ f)
       | inr one ↦ let says = one.says in let z : ◌≡◌ {A = ℕ} 0 1 = cc in omega arith
     ]
-opened_refused manner file (Opened.Refused why) e = cc
+opened_refused manner file (Err why) e = cc
 
 -- the check is refused just where opening is, for the same reason
 pub refused_as_opening : (manner : Manner) (file : List ℕ) (start end : ℕ) (why : Refusal)
-    → (check_table manner file start end ≡ Checked.Refused why) ↔ (open_table file start end ≡ Opened.Refused why)
+    → (check_table manner file start end ≡ Checked.Refused why) ↔ (open_table file start end ≡ Err why)
 unfolding check_table check_opened
 refused_as_opening manner file start end why = (opened_refused manner file (open_table file start end), λ e. rw e)

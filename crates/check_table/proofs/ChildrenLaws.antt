@@ -1,6 +1,8 @@
 -- What listing the children of a container answers in a sound table, position by position; and in any table what the greatest position tells.
+use Rattle.read_listing.specs.declared.children.Child.{Child}
+use Rattle.std.specs.Prelude.{Result, Ok, Err, Option, Some, None}
 use Prim.Native.Nat.{ℕ, ◌-◌, ◌/◌, ◌%◌, ◌^◌, ◌≤◌, ◌<◌}
-use mathlib.Core.Path.{◌≡◌, refl, sym, subst, ◌∙◌}
+use mathlib.Core.Path.{◌≡◌, refl, sym, ap, subst, ◌∙◌}
 use mathlib.Core.List.{List}
 use mathlib.Core.Bool.{Bool, true, false}
 use native.Mathlib.Omega.{arith}
@@ -12,8 +14,6 @@ use Rattle.words.proofs.ChoiceLaws.{pick_with}
 use Rattle.text.specs.Utf8.{is_utf8}
 use Rattle.layout.specs.declared.refusal.Refusal.{Refusal}
 use Rattle.layout.specs.declared.refusal.Refusal.TheVariants.{PastTheLast}
-use Rattle.layout.specs.declared.pointer.Pointed.{Pointed}
-use Rattle.layout.specs.declared.table.Opened.{Opened}
 use Rattle.layout.specs.declared.table.Table.{Table}
 use Rattle.layout.specs.declared.item.Item.{Item}
 use Rattle.layout.specs.Refusal.{number}
@@ -23,9 +23,6 @@ use Rattle.layout.specs.Item.{item_at}
 use Rattle.layout.specs.Answer.{pointed_number}
 use Rattle.layout.proofs.OpenLaws.{opened_in_file}
 use Rattle.layout.proofs.AnswerLaws.{pointed_below, opened_low}
-use Rattle.read_find.specs.declared.find.Found.{Found}
-use Rattle.read.specs.declared.lookup.Sought.{Sought}
-use Rattle.read_listing.specs.declared.children.Childed.{Childed}
 use Rattle.read_chain.specs.Chain.{fragment_of, climb_from, Joined, key_of}
 use Rattle.read_find.specs.Find.{Manner, find_item}
 use Rattle.read.specs.Lookup.{at_found, lookup_in}
@@ -48,32 +45,35 @@ key_climbs : (file : List ℕ) (t : Table) (j : ℕ) {k : List ℕ} → j < t.co
 key_climbs file t j below e = climb_or file t.count (item_at file t j) (not-refused _ _ _ (sym (key_turn file t t.count j (item_at file t j) _ (omega arith) refl refl) ∙ e))
 
 -- what a key looks up, it is UTF-8 and finds
-index_finds : (manner : Manner) (file : List ℕ) (t : Table) (key : List ℕ) {i : ℕ} → index_of manner file t key ≡ Found.At i → (is_utf8 key ≡ true) × (find_item manner file t key ≡ Found.At i)
+index_finds : (manner : Manner) (file : List ℕ) (t : Table) (key : List ℕ) {i : ℕ} → index_of manner file t key ≡ Some i → (is_utf8 key ≡ true) × (find_item manner file t key ≡ Some i)
 unfolding index_of
 index_finds manner file t key {i} =
-    let P : Found → Type 0 = λ f. f ≡ Found.At i → (is_utf8 key ≡ true) × (find_item manner file t key ≡ Found.At i) in
+    let P : Option ℕ → Type 0 = λ f. f ≡ Some i → (is_utf8 key ≡ true) × (find_item manner file t key ≡ Some i) in
     pick_with P _ _ _ (λ text e. (text, e)) (λ _ e. let z : ◌≡◌ {A = ℕ} 0 1 = cc in absurd (omega arith))
 
 -- the value pointer of a container that is good
-list_good : (file : List ℕ) (item : Item) → item.kind ≡ 76 → ValueGood file item → (open_pointer (length file) item.from item.to 4 ≡ Pointed.Inside) × ((item.to - item.from) % 4 ≡ 0)
+list_good : (file : List ℕ) (item : Item) → item.kind ≡ 76 → ValueGood file item → (open_pointer (length file) item.from item.to 4 ≡ Ok tt) × ((item.to - item.from) % 4 ≡ 0)
 list_good file item is (ValueGood.value other opens) = absurd (omega arith)
 list_good file item is (ValueGood.table other opens) = absurd (omega arith)
 list_good file item is (ValueGood.list kind inside whole) = (inside, whole)
 
-index_of_child : {i j kind kindly start begin end last : ℕ} {next after : _} → Childed.Child i kind start end next ≡ Childed.Child j kindly begin last after → i ≡ j
-index_of_child e = cc
+same_child : {x y : Child} → ◌≡◌ {A = Result Child Refusal} (Ok x) (Ok y) → x ≡ y
+same_child e = cc
+
+index_of_child : {x y : Child} → ◌≡◌ {A = Result Child Refusal} (Ok x) (Ok y) → x.index ≡ y.index
+index_of_child e = ap (λ (c : Child). c.index) (same_child e)
 
 module _ (manner : Manner) (file : List ℕ) (start end : ℕ) (key : List ℕ) (t : Table) (i : ℕ) (c : Container manner file start end key t i) where
-  finds : (is_utf8 key ≡ true) × (find_item manner file t key ≡ Found.At i)
+  finds : (is_utf8 key ≡ true) × (find_item manner file t key ≡ Some i)
   finds = index_finds manner file t key c.finds
 
   named : (i < t.count) × (key_of file t t.count i ≡ Joined.joined key)
   named = let says = found_names manner file t key i finds.1 in (says.0, says.2)
 
-  list : (open_pointer (length file) (item_at file t i).from (item_at file t i).to 4 ≡ Pointed.Inside) × (((item_at file t i).to - (item_at file t i).from) % 4 ≡ 0)
+  list : (open_pointer (length file) (item_at file t i).from (item_at file t i).to 4 ≡ Ok tt) × (((item_at file t i).to - (item_at file t i).from) % 4 ≡ 0)
   list = list_good file (item_at file t i) c.holds (c.sound.values i named.0)
 
-  past : (k : ℕ) → child_count (item_at file t i) ≤ k → next_child manner file start end key k ≡ Childed.Refused PastTheLast
+  past : (k : ℕ) → child_count (item_at file t i) ≤ k → next_child manner file start end key k ≡ Err PastTheLast
   past k = children_past manner file start end key k c.opens finds.0 finds.1 c.holds list.0 list.1
 
   child : (k : ℕ) → k < child_count (item_at file t i) → (child_at file (item_at file t i).from k < t.count) × ((item_at file t (child_at file (item_at file t i).from k)).parent ≡ i)
@@ -116,7 +116,7 @@ children_all manner file start end key t i c j below names =
 
 -- ---- any table: at the greatest position, 15 comes of a container that is good, and of nothing else
 
-refused_same : {v w : Refusal} → Childed.Refused v ≡ Childed.Refused w → v ≡ w
+refused_same : {v w : Refusal} → ◌≡◌ {A = Result Child Refusal} (Err v) (Err w) → v ≡ w
 refused_same e = cc
 
 not_15 : {A : Type 0} {why : Refusal} → number why < 15 → why ≡ PastTheLast → A
@@ -126,46 +126,46 @@ list_low : (file : List ℕ) (item : Item) → pointed_number (open_list file it
 unfolding open_list whole_words pointed_number
 list_low file item = pick_with P _ _ _ (λ _. by_pointer (open_pointer (length file) item.from item.to 4) (pointed_below (length file) item.from item.to 4)) (λ _. omega arith)
   where
-    P : Pointed → Type 0
+    P : Result (Unit {0}) Refusal → Type 0
     P p = pointed_number p < 15
 
-    by_pointer : (p : Pointed) → pointed_number p < 4 → pointed_number (whole_words p item) < 15
-    by_pointer Pointed.Inside low = pick_with P _ _ _ (λ _. omega arith) (λ _. omega arith)
-    by_pointer (Pointed.Refused why) low = omega arith
+    by_pointer : (p : Result (Unit {0}) Refusal) → pointed_number p < 4 → pointed_number (whole_words p item) < 15
+    by_pointer (Ok _) low = pick_with P _ _ _ (λ _. omega arith) (λ _. omega arith)
+    by_pointer (Err why) low = omega arith
 
-unfoldable SoughtLow : Sought → Type 0
-SoughtLow (Sought.Item item) = Unit
-SoughtLow (Sought.Refused why) = number why < 15
+unfoldable SoughtLow : Result Item Refusal → Type 0
+SoughtLow (Ok item) = Unit
+SoughtLow (Err why) = number why < 15
 
 lookup_low : (manner : Manner) (file key : List ℕ) (t : Table) → SoughtLow (lookup_in manner file key t)
 unfolding lookup_in at_found SoughtLow
 lookup_low manner file key t = pick_with SoughtLow _ _ _ (λ _. by_found (find_item manner file t key)) (λ _. omega arith)
   where
-    by_found : (f : Found) → SoughtLow (at_found file t f)
-    by_found (Found.At i) = tt
-    by_found Found.Nothing = omega arith
+    by_found : (f : Option ℕ) → SoughtLow (at_found file t f)
+    by_found (Some i) = tt
+    by_found None = omega arith
 
 module _ (manner : Manner) (file : List ℕ) (start end : ℕ) (key : List ℕ) (at : ℕ) where
   abbrev Good : Type 0
-  Good = (t : Table) × (item : Item) × (open_table file start end ≡ Opened.Table t) × (lookup_in manner file key t ≡ Sought.Item item) × (open_list file item ≡ Pointed.Inside)
+  Good = (t : Table) × (item : Item) × (open_table file start end ≡ Ok t) × (lookup_in manner file key t ≡ Ok item) × (open_list file item ≡ Ok tt)
 
-  by_list : (t : Table) (item : Item) → open_table file start end ≡ Opened.Table t → lookup_in manner file key t ≡ Sought.Item item
-      → (p : Pointed) → open_list file item ≡ p → child_from p file t item at ≡ Childed.Refused PastTheLast → Good
+  by_list : (t : Table) (item : Item) → open_table file start end ≡ Ok t → lookup_in manner file key t ≡ Ok item
+      → (p : Result (Unit {0}) Refusal) → open_list file item ≡ p → child_from p file t item at ≡ Err PastTheLast → Good
   unfolding child_from pointed_number
-  by_list t item opens looked Pointed.Inside is e = (t, item, opens, looked, is)
-  by_list t item opens looked (Pointed.Refused why) is e = not_15 (subst (λ (p : Pointed). pointed_number p < 15) is (list_low file item)) (refused_same e)
+  by_list t item opens looked (Ok _) is e = (t, item, opens, looked, is)
+  by_list t item opens looked (Err why) is e = not_15 (subst (λ (p : Result (Unit {0}) Refusal). pointed_number p < 15) is (list_low file item)) (refused_same e)
 
-  by_item : (t : Table) → open_table file start end ≡ Opened.Table t → (s : Sought) → lookup_in manner file key t ≡ s → child_of_sought s file t at ≡ Childed.Refused PastTheLast → Good
+  by_item : (t : Table) → open_table file start end ≡ Ok t → (s : Result Item Refusal) → lookup_in manner file key t ≡ s → child_of_sought s file t at ≡ Err PastTheLast → Good
   unfolding child_of_sought SoughtLow
-  by_item t opens (Sought.Item item) is e = by_list t item opens is (open_list file item) refl e
-  by_item t opens (Sought.Refused why) is e = not_15 (subst SoughtLow is (lookup_low manner file key t)) (refused_same e)
+  by_item t opens (Ok item) is e = by_list t item opens is (open_list file item) refl e
+  by_item t opens (Err why) is e = not_15 (subst SoughtLow is (lookup_low manner file key t)) (refused_same e)
 
-  by_table : (o : Opened) → open_table file start end ≡ o → child_in_opened manner file key at o ≡ Childed.Refused PastTheLast → Good
+  by_table : (o : Result Table Refusal) → open_table file start end ≡ o → child_in_opened manner file key at o ≡ Err PastTheLast → Good
   unfolding child_in_opened
-  by_table (Opened.Table t) is e = by_item t is (lookup_in manner file key t) refl e
-  by_table (Opened.Refused why) is e = let low = opened_low file start end is in not_15 (omega arith) (refused_same e)
+  by_table (Ok t) is e = by_item t is (lookup_in manner file key t) refl e
+  by_table (Err why) is e = let low = opened_low file start end is in not_15 (omega arith) (refused_same e)
 
-  good_past : length file ≤ at → Good → next_child manner file start end key at ≡ Childed.Refused PastTheLast
+  good_past : length file ≤ at → Good → next_child manner file start end key at ≡ Err PastTheLast
   unfolding next_child child_in_opened child_of_sought child_from child_count pick
   good_past far (t, item, opens, looked, inside) =
       let fits = list_inside file item inside in

@@ -1,4 +1,6 @@
 -- The check of a table whose keys are of ASCII bytes answers alike in both forms, by either lookup: each key has one hash, so its lookup finds the same item.
+use Rattle.std.specs.Prelude.{Result, Ok, Err, Option, None}
+use Rattle.layout.specs.declared.refusal.Refusal.{Refusal}
 use mathlib.Core.Path.{◌≡◌, refl, sym, ap, ◌∙◌}
 use mathlib.Core.Bool.{true}
 use mathlib.Core.List.{List}
@@ -10,11 +12,9 @@ use Rattle.text.specs.Ascii.{is_ascii}
 use Rattle.text.specs.Utf8.{is_utf8}
 use Rattle.text.proofs.AsciiLaws.{ascii_hash}
 use Rattle.layout.specs.declared.table.Table.{Table}
-use Rattle.layout.specs.declared.table.Opened.{Opened}
 use Rattle.layout.specs.Table.{open_table}
 use Rattle.layout.specs.Kind.{kind_known}
 use Rattle.layout.specs.Item.{item_at}
-use Rattle.read_find.specs.declared.find.Found.{Found}
 use Rattle.read_find.specs.Find.{shift_of}
 use Rattle.read_chain.specs.Chain.{Joined, key_of}
 use Rattle.read_listing.specs.Listing.{key_opened, key_at}
@@ -36,23 +36,23 @@ broken_alike broken other (suc more) at same =
 module _ (shift : ℕ → ℕ) (file : List ℕ) (t : Table) (low : (i : ℕ) (key : List ℕ) → i < t.count → key_of file t t.count i ≡ Joined.joined key → is_ascii key ≡ true) where
   sought_alike : (i : ℕ) → i < t.count → (j : Joined) → key_of file t t.count i ≡ j → sought_at (glib_by shift) file t j ≡ sought_at (rust_by shift) file t j
   unfolding sought_at index_of
-  sought_alike i below (Joined.joined key) is = ap (λ (f : Found). pick (is_utf8 key) f Found.Nothing) (find_alike shift file t key (ascii_hash key (low i key below is)))
+  sought_alike i below (Joined.joined key) is = ap (λ (f : Option ℕ). pick (is_utf8 key) f None) (find_alike shift file t key (ascii_hash key (low i key below is)))
   sought_alike i below (Joined.broken why) is = refl
 
   rule_alike : (i : ℕ) → i < t.count → broken_rule (glib_by shift) file t i ≡ broken_rule (rust_by shift) file t i
   unfolding broken_rule key_finds
   rule_alike i below =
-      ap (λ (f : Found). pick (key_lists file t i) (pick (is_at i f) (pick (kind_known (item_at file t i).kind) (pick (value_opens file (item_at file t i))
+      ap (λ (f : Option ℕ). pick (key_lists file t i) (pick (is_at i f) (pick (kind_known (item_at file t i).kind) (pick (value_opens file (item_at file t i))
       (pick (children_good file t i (item_at file t i)) (pick (parent_good file t i (item_at file t i)) 0 6) 5) 4) 3) 2) 1) (sought_alike i below (key_of file t t.count i) refl)
 
   in_alike : check_in (glib_by shift) file t ≡ check_in (rust_by shift) file t
   unfolding check_in
   in_alike = ap (explained file t) (broken_alike (broken_rule (glib_by shift) file t) (broken_rule (rust_by shift) file t) t.count 0 (λ i from to. rule_alike i (omega (arith, to))))
 
-opened_alike : (shift : ℕ → ℕ) (file : List ℕ) (start end : ℕ) (o : Opened) → open_table file start end ≡ o → AsciiListed file start end → check_opened (glib_by shift) file o ≡ check_opened (rust_by shift) file o
+opened_alike : (shift : ℕ → ℕ) (file : List ℕ) (start end : ℕ) (o : Result Table Refusal) → open_table file start end ≡ o → AsciiListed file start end → check_opened (glib_by shift) file o ≡ check_opened (rust_by shift) file o
 unfolding check_opened key_at key_opened
-opened_alike shift file start end (Opened.Table t) is low = in_alike shift file t (λ i key below joins. low i key (ap (key_opened file i) is ∙ in_range file t i below ∙ joins))
-opened_alike shift file start end (Opened.Refused why) is low = refl
+opened_alike shift file start end (Ok t) is low = in_alike shift file t (λ i key below joins. low i key (ap (key_opened file i) is ∙ in_range file t i below ∙ joins))
+opened_alike shift file start end (Err why) is low = refl
 
 pub ascii_check_by : AsciiCheckBy
 unfolding check_table

@@ -1,4 +1,6 @@
 -- The check of a table whose keys are of ASCII bytes answers alike in both forms: each key has one hash, so its lookup finds the same item.
+use Rattle.std.specs.Prelude.{Result, Ok, Err, Option, None}
+use Rattle.layout.specs.declared.refusal.Refusal.{Refusal}
 use mathlib.Core.Path.{◌≡◌, refl, sym, ap, ◌∙◌}
 use mathlib.Core.List.{List}
 use Prim.Native.Nat.{ℕ, zero, suc, ◌+◌}
@@ -7,11 +9,9 @@ use Rattle.words.specs.Choice.{pick}
 use Rattle.text.specs.Utf8.{is_utf8}
 use Rattle.text.proofs.AsciiLaws.{ascii_hash}
 use Rattle.layout.specs.declared.table.Table.{Table}
-use Rattle.layout.specs.declared.table.Opened.{Opened}
 use Rattle.layout.specs.Table.{open_table}
 use Rattle.layout.specs.Kind.{kind_known}
 use Rattle.layout.specs.Item.{item_at}
-use Rattle.read_find.specs.declared.find.Found.{Found}
 use Rattle.read_chain.specs.Chain.{Joined, key_of}
 use Rattle.read_find.specs.Find.{rust}
 use Rattle.read_listing.specs.Forms.{glib}
@@ -31,24 +31,24 @@ broken_alike broken other same (suc more) at =
 module _ (file : List ℕ) (t : Table) (low : AsciiKeys file t) where
   sought_alike : (i : ℕ) (j : Joined) → key_of file t t.count i ≡ j → sought_at glib file t j ≡ sought_at rust file t j
   unfolding sought_at index_of
-  sought_alike i (Joined.joined key) is = ap (λ (f : Found). pick (is_utf8 key) f Found.Nothing) (find_alike file t key (ascii_hash key (low i key is)))
+  sought_alike i (Joined.joined key) is = ap (λ (f : Option ℕ). pick (is_utf8 key) f None) (find_alike file t key (ascii_hash key (low i key is)))
   sought_alike i (Joined.broken why) is = refl
 
   rule_alike : (i : ℕ) → broken_rule glib file t i ≡ broken_rule rust file t i
   unfolding broken_rule key_finds
   rule_alike i =
-      ap (λ (f : Found). pick (key_lists file t i) (pick (is_at i f) (pick (kind_known (item_at file t i).kind) (pick (value_opens file (item_at file t i))
+      ap (λ (f : Option ℕ). pick (key_lists file t i) (pick (is_at i f) (pick (kind_known (item_at file t i).kind) (pick (value_opens file (item_at file t i))
       (pick (children_good file t i (item_at file t i)) (pick (parent_good file t i (item_at file t i)) 0 6) 5) 4) 3) 2) 1) (sought_alike i (key_of file t t.count i) refl)
 
   in_alike : check_in glib file t ≡ check_in rust file t
   unfolding check_in
   in_alike = ap (explained file t) (broken_alike (broken_rule glib file t) (broken_rule rust file t) rule_alike t.count 0)
 
-opened_alike : (file : List ℕ) (start end : ℕ) (o : Opened) → open_table file start end ≡ o
-    → ((t : Table) → open_table file start end ≡ Opened.Table t → AsciiKeys file t) → check_opened glib file o ≡ check_opened rust file o
+opened_alike : (file : List ℕ) (start end : ℕ) (o : Result Table Refusal) → open_table file start end ≡ o
+    → ((t : Table) → open_table file start end ≡ Ok t → AsciiKeys file t) → check_opened glib file o ≡ check_opened rust file o
 unfolding check_opened
-opened_alike file start end (Opened.Table t) is low = in_alike file t (low t is)
-opened_alike file start end (Opened.Refused why) is low = refl
+opened_alike file start end (Ok t) is low = in_alike file t (low t is)
+opened_alike file start end (Err why) is low = refl
 
 pub ascii_check : AsciiCheck
 unfolding check_table

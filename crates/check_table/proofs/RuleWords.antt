@@ -1,4 +1,6 @@
 -- Each rule in words: what its test says, both ways.
+use Rattle.std.specs.Prelude.{Result, Ok, Err, Option, Some, None}
+use Rattle.layout.specs.declared.refusal.Refusal.{Refusal}
 use Prim.Native.Nat.{ℕ, ◌-◌, ◌%◌, ◌≤◌, ◌<◌}
 use mathlib.Core.Path.{◌≡◌, refl, ap}
 use mathlib.Core.Logic.{◌⊎◌, inl, inr}
@@ -12,16 +14,12 @@ use Rattle.words.specs.Choice.{pick}
 use Rattle.words.specs.Below.{all_below}
 use Rattle.words.proofs.ChoiceLaws.{pick_with, both}
 use Rattle.words.proofs.BelowLaws.{all_below_lem, some_below_lem, below_some}
-use Rattle.layout.specs.declared.pointer.Pointed.{Pointed}
-use Rattle.layout.specs.declared.table.Opened.{Opened}
 use Rattle.layout.specs.declared.table.Table.{Table}
 use Rattle.layout.specs.declared.item.Item.{Item}
 use Rattle.layout.specs.Kind.{kind_known}
 use Rattle.layout.specs.Pointer.{open_pointer}
 use Rattle.layout.specs.Table.{InFile}
 use Rattle.layout.specs.Item.{item_at}
-use Rattle.read_chain.specs.declared.chain.Step.{Step}
-use Rattle.read_find.specs.declared.find.Found.{Found}
 use Rattle.read_chain.specs.Chain.{Joined, key_of, parent_of}
 use Rattle.read_listing.specs.Children.{child_at, child_count}
 use Rattle.check_rules.specs.Rules.{is_joined, key_lists, index_of, sought_at, is_at, key_finds, is_inside, is_table, list_opens, value_opens, among, child_good, children_good, lists_it, parent_keeps}
@@ -30,17 +28,17 @@ use Rattle.read_find.specs.Find.{Manner}
 use Rattle.check_rules.proofs.ChildLaws.{three}
 
 -- rules 1 and 2: the key reads, and is looked up as this very item
-is_at_lem : (i : ℕ) (f : Found) → is_at i f ≡ true → f ≡ Found.At i
+is_at_lem : (i : ℕ) (f : Option ℕ) → is_at i f ≡ true → f ≡ Some i
 unfolding is_at
-is_at_lem i (Found.At found) e = ap Found.At (eqb-true found i e)
-is_at_lem i Found.Nothing e = cc
+is_at_lem i (Some found) e = ap Some (eqb-true found i e)
+is_at_lem i None e = cc
 
-at_is : (i : ℕ) {f : Found} → f ≡ Found.At i → is_at i f ≡ true
+at_is : (i : ℕ) {f : Option ℕ} → f ≡ Some i → is_at i f ≡ true
 unfolding is_at
 at_is i e = rw e (eq-eqb i i refl)
 
 pub key_reads : (manner : Manner) (file : List ℕ) (t : Table) (i : ℕ) (j : Joined) → key_of file t t.count i ≡ j → is_joined j ≡ true → is_at i (sought_at manner file t j) ≡ true
-    → (key : List ℕ) × (key_of file t t.count i ≡ Joined.joined key) × (index_of manner file t key ≡ Found.At i)
+    → (key : List ℕ) × (key_of file t t.count i ≡ Joined.joined key) × (index_of manner file t key ≡ Some i)
 unfolding is_joined sought_at
 key_reads manner file t i (Joined.joined key) is reads found = (key, is, is_at_lem i (index_of manner file t key) found)
 key_reads manner file t i (Joined.broken why) is reads found = let z : ◌≡◌ {A = ℕ} 0 1 = cc in absurd (omega arith)
@@ -50,20 +48,20 @@ unfolding key_lists is_joined
 reads_lists file t i is = rw is
 
 module _ (manner : Manner) (file : List ℕ) (t : Table) (i : ℕ) {key : List ℕ} (is : key_of file t t.count i ≡ Joined.joined key) where
-  pub reads_finds : index_of manner file t key ≡ Found.At i → key_finds manner file t i ≡ true
+  pub reads_finds : index_of manner file t key ≡ Some i → key_finds manner file t i ≡ true
   unfolding key_finds sought_at
   reads_finds e = rw is (at_is i e)
 
 -- rules 3 and 4: the kind and the value pointer
-inside_true : (p : Pointed) → is_inside p ≡ true → p ≡ Pointed.Inside
+inside_true : (p : Result (Unit {0}) Refusal) → is_inside p ≡ true → p ≡ Ok tt
 unfolding is_inside
-inside_true Pointed.Inside e = refl
-inside_true (Pointed.Refused why) e = cc
+inside_true (Ok _) e = refl
+inside_true (Err why) e = cc
 
-table-true : (o : Opened) → is_table o ≡ true → (t : Table) × (o ≡ Opened.Table t)
+table-true : (o : Result Table Refusal) → is_table o ≡ true → (t : Table) × (o ≡ Ok t)
 unfolding is_table
-table-true (Opened.Table t) e = (t, refl)
-table-true (Opened.Refused why) e = let z : ◌≡◌ {A = ℕ} 0 1 = cc in absurd (omega arith)
+table-true (Ok t) e = (t, refl)
+table-true (Err why) e = let z : ◌≡◌ {A = ℕ} 0 1 = cc in absurd (omega arith)
 
 module _ (file : List ℕ) (item : Item) where
   pub value_good : value_opens file item ≡ true → ValueGood file item
@@ -149,13 +147,13 @@ module _ (file : List ℕ) (t : Table) (j : ℕ) where
   pub parent_is : (parent : ℕ) → parent_keeps file t j (parent_of t.count parent) ≡ true → RootOrContained file t parent
   unfolding parent_of parent_keeps
   parent_is parent =
-      let P : Step → Type 0 = λ s. parent_keeps file t j s ≡ true → RootOrContained file t parent in
+      let P : Result (Option ℕ) Refusal → Type 0 = λ s. parent_keeps file t j s ≡ true → RootOrContained file t parent in
       pick_with P _ _ _ (λ root e. inl (eqb-true _ _ root))
       (λ _. pick_with P _ _ _ (λ below e. inr (ltb-true _ _ below, (up_true file j (item_at file t parent) e).0))
       (λ _ e. let z : ◌≡◌ {A = ℕ} 0 1 = cc in absurd (omega arith)))
 
   -- a parent below the count, which is small, is not the parent word of a root
-  pub parent_up : (parent : ℕ) → parent < t.count → t.count ≤ 16777216 → parent_of t.count parent ≡ Step.Up parent
+  pub parent_up : (parent : ℕ) → parent < t.count → t.count ≤ 16777216 → parent_of t.count parent ≡ Ok (Some parent)
   unfolding parent_of pick
   parent_up parent below few =
       let no-root : parent ≡ 4294967295 → ⊥ = λ e. omega arith in

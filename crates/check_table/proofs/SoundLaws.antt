@@ -1,5 +1,7 @@
 -- The check passes exactly the sound tables: a table that lies in the file and whose items keep every rule is sound, and the other way
 -- round.
+use Rattle.std.specs.Prelude.{Result, Ok, Err, Some}
+use Rattle.layout.specs.declared.refusal.Refusal.{Refusal}
 use Prim.Native.Nat.{ℕ, ◌<◌}
 use mathlib.Core.Path.{◌≡◌, refl, sym, ap, ◌∙◌, subst}
 use mathlib.Core.Logic.{inl, inr}
@@ -10,12 +12,10 @@ use borrow.Author.Tests.{eqb-true, eq-eqb}
 use Rattle.words.specs.Choice.{pick}
 use Rattle.words.proofs.ChoiceLaws.{pick_with, both_hold}
 use Rattle.words.proofs.BelowLaws.{below_all}
-use Rattle.layout.specs.declared.table.Opened.{Opened}
 use Rattle.layout.specs.declared.table.Table.{Table}
 use Rattle.layout.specs.Table.{open_table, InFile}
 use Rattle.layout.specs.Item.{item_at}
 use Rattle.layout.proofs.OpenLaws.{opened_in_file}
-use Rattle.read_chain.specs.declared.chain.Step.{Step}
 use Rattle.read_chain.specs.Chain.{parent_of}
 use Rattle.check_rules.specs.declared.checked.Checked.{Checked}
 use Rattle.read_listing.specs.Children.{child_at, child_count}
@@ -40,7 +40,7 @@ module _ (manner : Manner) (file : List ℕ) (t : Table) (inside : InFile file t
     child_among : (i j : ℕ) → i < t.count → j < t.count → (item_at file t j).parent ≡ i → InList file (item_at file t i) j
     unfolding parent_good parent_keeps
     child_among i j h l e =
-        let up : parent_of t.count (item_at file t j).parent ≡ Step.Up i = ap (parent_of t.count) e ∙ parent_up file t j i h (few_items inside) in
+        let up : parent_of t.count (item_at file t j).parent ≡ Ok (Some i) = ap (parent_of t.count) e ∙ parent_up file t j i h (few_items inside) in
         let kept : lists_it file j (item_at file t i) ≡ true = rw up at (keeps j l).six in
         among_at file (item_at file t i).from (child_count (item_at file t i)) j (up_true file j (item_at file t i) kept).1
 
@@ -107,15 +107,15 @@ module _ (manner : Manner) (file : List ℕ) (t : Table) (inside : InFile file t
 -- ---- the theorem
 
 module _ (manner : Manner) (file : List ℕ) (start end : ℕ) where
-  check_sound : (o : Opened) → open_table file start end ≡ o → check_opened manner file o ≡ Checked.Sound → SoundTable manner file start end
+  check_sound : (o : Result Table Refusal) → open_table file start end ≡ o → check_opened manner file o ≡ Checked.Sound → SoundTable manner file start end
   unfolding check_opened check_in SoundTable
-  check_sound (Opened.Table t) is e = (
+  check_sound (Ok t) is e = (
     t,
     is,
     rules_sound manner file t (opened_in_file file start end is)
         (λ i h. breaks_none_keeps manner file t i (sound_none (broken_rule manner file t) t.count 0 (sound_explained file t e) i (omega arith) (omega arith))),
   )
-  check_sound (Opened.Refused why) is e = let z : ◌≡◌ {A = ℕ} 0 1 = cc in absurd (omega arith)
+  check_sound (Err why) is e = let z : ◌≡◌ {A = ℕ} 0 1 = cc in absurd (omega arith)
 
   sound_check : SoundTable manner file start end → check_table manner file start end ≡ Checked.Sound
   unfolding check_table check_opened check_in explained SoundTable
@@ -128,7 +128,7 @@ unfolding check_table
 passes_exactly_the_sound manner file start end = (check_sound manner file start end (open_table file start end) refl, sound_check manner file start end)
 
 -- a table without items passes if it opens
-pub empty_passes : (manner : Manner) (file : List ℕ) (start end : ℕ) {t : Table} → open_table file start end ≡ Opened.Table t → t.count ≡ 0
+pub empty_passes : (manner : Manner) (file : List ℕ) (start end : ℕ) {t : Table} → open_table file start end ≡ Ok t → t.count ≡ 0
     → check_table manner file start end ≡ Checked.Sound
 unfolding check_table check_opened check_in explained first_broken
 empty_passes manner file start end e none = rw (e, none)

@@ -1,4 +1,5 @@
 -- What the strict lookup finds, the Rust's finds at the same index, and what passes by it passes by the Rust's: the Rust's asks for the first bit alone.
+use Rattle.std.specs.Prelude.{Option, Some, None}
 use Prim.Native.Nat.{ℕ, ◌+◌, ◌*◌, ◌/◌, ◌%◌, ◌^◌}
 use mathlib.Core.Path.{◌≡◌, refl}
 use mathlib.Core.Bool.{Bool, true, false, ◌&&◌}
@@ -13,7 +14,6 @@ use Rattle.words.proofs.ChoiceLaws.{both}
 use Rattle.text.specs.Utf8.{is_utf8}
 use Rattle.layout.specs.declared.table.Table.{Table}
 use Rattle.read_find.specs.declared.manner.Lookup.{Lookup}
-use Rattle.read_find.specs.declared.find.Found.{Found}
 use Rattle.read_find.specs.Find.{shift_of, bloom_passes, item_matches, first_of, find_item}
 use Rattle.check_rules.specs.Rules.{index_of}
 use Rattle.check_table.specs.Sound.{SoundIn, SoundTable}
@@ -34,16 +34,16 @@ unfolding pick
 bits_by true strict loose up e = refl
 bits_by false strict loose up e = up e
 
-find_by : (a b strict loose : Bool) (found : Found) (i : ℕ) → (strict ≡ true → loose ≡ true)
-    → pick a Found.Nothing (pick b Found.Nothing (pick strict found Found.Nothing)) ≡ Found.At i
-    → pick a Found.Nothing (pick b Found.Nothing (pick loose found Found.Nothing)) ≡ Found.At i
+find_by : (a b strict loose : Bool) (found : Option ℕ) (i : ℕ) → (strict ≡ true → loose ≡ true)
+    → pick a None (pick b None (pick strict found None)) ≡ Some i
+    → pick a None (pick b None (pick loose found None)) ≡ Some i
 unfolding pick
 find_by true b strict loose found i up e = e
 find_by false true strict loose found i up e = e
 find_by false false true loose found i up e = rw (up refl) e
 find_by false false false loose found i up e = absurd (let z : ◌≡◌ {A = ℕ} 0 1 = cc in omega arith)
 
-index_by : (text : Bool) (strict loose : Found) (i : ℕ) → (strict ≡ Found.At i → loose ≡ Found.At i) → pick text strict Found.Nothing ≡ Found.At i → pick text loose Found.Nothing ≡ Found.At i
+index_by : (text : Bool) (strict loose : Option ℕ) (i : ℕ) → (strict ≡ Some i → loose ≡ Some i) → pick text strict None ≡ Some i → pick text loose None ≡ Some i
 unfolding pick
 index_by true strict loose i up e = up e
 index_by false strict loose i up e = e
@@ -59,7 +59,7 @@ unfolding find_item first_of item_matches
 find_less rule file t key i e = find_by (eqb t.buckets 0) (eqb t.count 0) _ _ _ i (bloom_less file t (hash_by rule key)) e
 
 module _ (rule : ℕ → ℕ) (file : List ℕ) (t : Table) where
-  index_less : (key : List ℕ) (i : ℕ) → index_of (manner_by rule Lookup.Strict) file t key ≡ Found.At i → index_of (manner_by rule Lookup.Rust) file t key ≡ Found.At i
+  index_less : (key : List ℕ) (i : ℕ) → index_of (manner_by rule Lookup.Strict) file t key ≡ Some i → index_of (manner_by rule Lookup.Rust) file t key ≡ Some i
   unfolding index_of
   index_less key i e = index_by (is_utf8 key) _ _ i (find_less rule file t key i) e
 

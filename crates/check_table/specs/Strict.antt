@@ -1,8 +1,7 @@
 -- THE STRICT LOOKUP FINDS NO MORE, on any bytes: what it finds, the Rust's lookup finds at the same index; so a table that passes by the strict lookup passes by the Rust's.
-use Rattle.std.specs.Prelude.{ℕ, ◌≡◌, List}
+use Rattle.std.specs.Prelude.{ℕ, ◌≡◌, List, Some}
 use Rattle.layout.specs.declared.table.Table.{Table}
 use Rattle.read_find.specs.declared.manner.Lookup.{Lookup}
-use Rattle.read_find.specs.declared.find.Found.{Found}
 use Rattle.read_find.specs.Find.{Manner, shift_of, find_item}
 use Rattle.check_rules.specs.declared.checked.Checked.{Checked}
 use Rattle.check_rules.specs.Rules.{check_table}
@@ -14,7 +13,7 @@ manner_by rule lookup = record { byte = rule; shift = shift_of lookup }
 abbrev pub StrictFindsLess : Type 0
 StrictFindsLess =
     (rule : ℕ → ℕ) (file : List ℕ) (t : Table) (key : List ℕ) (i : ℕ)
-    → find_item (manner_by rule Lookup.Strict) file t key ≡ Found.At i → find_item (manner_by rule Lookup.Rust) file t key ≡ Found.At i
+    → find_item (manner_by rule Lookup.Strict) file t key ≡ Some i → find_item (manner_by rule Lookup.Rust) file t key ≡ Some i
 
 abbrev pub StrictPassesLess : Type 0
 StrictPassesLess =

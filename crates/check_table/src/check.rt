@@ -12,12 +12,13 @@ use check_rules::rules::{key_rule, lists_it, value_opens};
 use check_rules::survey::survey_all;
 use layout::item::{Item, item_at};
 use layout::kind::kind_known;
-use layout::table::{Opened, Table, open_table};
-use read_chain::chain::{Step, parent_of};
+use layout::table::{Table, open_table};
+use read_chain::chain::parent_of;
 use read_find::manner::Manner;
-use read_listing::listing::{Measured, key_size};
+use read_listing::listing::key_size;
 
 // Rule 6: by the item's bit, where the survey came past its parent; else by the parent's list.
+#[tactic(auto, using(check_keys::proofs::FrontLaws::parent_below), unfolding(check_rules::specs::Rules::parent_good, check_rules::specs::Rules::parent_keeps))]
 fn parent_good(
     file: &[u8],
     table: Table,
@@ -31,19 +32,15 @@ fn parent_good(
     ensures { result ≡ parent_good file.now table index item }
 {
     match parent_of(table.count, item.parent) {
-        Step::Root => true,
-        Step::Refused(_) => false,
-        Step::Up(parent) => {
-            if parent < stop {
-                has_bit(bits, index)
-            } else {
-                lists_it(file, index, item_at(file, table, parent))
-            }
-        }
+        Err(_) => false,
+        Ok(None) => true,
+        Ok(Some(parent)) if parent < stop => has_bit(bits, index),
+        Ok(Some(parent)) => lists_it(file, index, item_at(file, table, parent)),
     }
 }
 
 // The first rule that an item breaks, or 0.
+// No `Option`: the definition `broken_rule` and the theorems speak of the rules' numbers, as document 01 numbers them.
 fn broken_rule(
     file: &[u8],
     table: Table,
@@ -81,13 +78,12 @@ fn explain(file: &[u8], table: Table, rule: u32, item: usize) -> Checked
     requires { InFile file.now table × (item < table.count) }
     ensures { result ≡ explained file.now table (Checked.Broken rule item) }
 {
-    if rule != 1 {
-        return Checked::Broken { rule, item };
+    if rule == 1 {
+        if let Err(why) = key_size(file, table, item) {
+            return Checked::Unlisted { why, item };
+        }
     }
-    match key_size(file, table, item) {
-        Measured::Refused(why) => Checked::Unlisted { why, item },
-        Measured::Size(_) => Checked::Broken { rule: 1, item },
-    }
+    Checked::Broken { rule, item }
 }
 
 // The first item of an open table that breaks a rule.
@@ -96,14 +92,11 @@ fn check_surveyed(file: &[u8], table: Table, stop: usize, bits: &[usize], manner
     requires survey { Survey file.now table stop bits.now }
     ensures { result ≡ check_in (manner_of manner) file.now table }
 {
-    let count = table.count;
-    let mut at = 0;
-    while at < count {
+    for at in 0..table.count {
         let rule = broken_rule(file, table, at, stop, bits, manner);
         if rule != 0 {
             return explain(file, table, rule, at);
         }
-        at += 1;
     }
     Checked::Sound
 }
@@ -119,11 +112,12 @@ fn check_open(file: &[u8], table: Table, manner: Manner) -> Checked
 }
 
 // The check of the table at a pointer: opening, then 40 for the first item and its first broken rule.
+#[tactic(auto, using(layout::proofs::OpenLaws::opened_in_file), unfolding(check_rules::specs::Rules::check_table, check_rules::specs::Rules::check_opened))]
 pub fn check_table(file: &[u8], start: u32, end: u32, manner: Manner) -> Checked
     ensures { result ≡ check_table (manner_of manner) file.now start end }
 {
     match open_table(file, start, end) {
-        Opened::Refused(why) => Checked::Refused(why),
-        Opened::Table(table) => check_open(file, table, manner),
+        Err(why) => Checked::Refused(why),
+        Ok(table) => check_open(file, table, manner),
     }
 }

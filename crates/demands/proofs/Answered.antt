@@ -202,7 +202,7 @@ layered : (owner : List ℕ) (ostart oend : ℕ) (district : List ℕ) (dstart d
     → GettingLayered owner ostart oend district dstart dend key omanner dmanner (layered_answer (layered_value (read_by omanner) (read_by dmanner) owner ostart oend district dstart dend key))
 unfolding manner_named
 layered owner ostart oend district dstart dend key omanner dmanner = GettingLayered.getting_layered (record {
-  lifetimes = ([], ([], tt));
+  lifetimes = ([], ([], ([], tt)));
   given = (lend owner, (ostart, (oend, (lend district, (dstart, (dend, (lend key, (omanner, (dmanner, tt)))))))));
   answer = layered_answer (layered_value (read_by omanner) (read_by dmanner) owner ostart oend district dstart dend key);
   left = (lend owner, (ostart, (oend, (lend district, (dstart, (dend, (lend key, (omanner, (dmanner, tt)))))))));

@@ -1,4 +1,8 @@
 -- Demand 3: every table in every image that is laid passes; the check passes exactly the sound tables, and names the first item and rule broken.
+use Rattle.std.specs.Prelude.{Result, Ok, Err}
+use Rattle.layout.specs.declared.table.Table.{Table}
+use Rattle.layout.specs.declared.refusal.Refusal.{Refusal}
+use Rattle.layout.specs.declared.pointer.Pointer.{Pointer}
 use Prim.Native.Nat.{ℕ, zero, suc, ◌≤◌}
 use mathlib.Core.Path.{◌≡◌, refl, sym, ap, ◌∙◌, subst}
 use mathlib.Core.Bool.{Bool, true, false}
@@ -11,13 +15,11 @@ use Rattle.layout.proofs.RefusalLaws.{refused_some}
 use Rattle.key_hash.specs.Hash.{rule_of}
 use Rattle.text.specs.Utf8.{is_utf8}
 use Rattle.layout.specs.declared.refusal.Refusal.TheVariants.{CheckBroken}
-use Rattle.layout.specs.declared.table.Opened.{Opened}
 use Rattle.layout.specs.Answer.{opened_number}
 use Rattle.layout.specs.Table.{open_table}
 use Rattle.layout.proofs.AnswerLaws.{opened_low}
-use Rattle.read.specs.declared.lookup.Looked.{Looked}
+use Rattle.read.proofs.SoughtLaws.{same_pointer}
 use Rattle.read.specs.Lookup.{lookup_table}
-use Rattle.read_listing.specs.declared.listing.Listed.{Listed}
 use Rattle.read.specs.Answer.{looked_number}
 use Rattle.read_listing.specs.Answer.{listed_number, listed_at}
 use Rattle.check_rules.specs.declared.checked.Checked.{Checked}
@@ -96,7 +98,7 @@ says_why file start end manner r c = by (check_table (read_by manner) file start
     by (Checked.Unlisted why item) said is = (
       λ e out k left l.
           let here = subst (λ (i : ℕ). Listing file start end i out k left) (ap (λ (x : GvdbCheck). x.item) is) l in
-          let told : k ≡ listed_answer (Listed.Refused why) = (listing_is file start end item out k left here).0 ∙ ap listed_answer (broken.unlisted_why (read_by manner) file start end item (length out) why said) in
+          let told : k ≡ listed_answer (Err why) = (listing_is file start end item out k left here).0 ∙ ap listed_answer (broken.unlisted_why (read_by manner) file start end item (length out) why said) in
           (ap (λ (x : GvdbCheck). x.why) is ∙ sym (ap (λ (x : GvdbKey). x.number) told), ap (λ (x : GvdbCheck). x.at) is ∙ sym (ap (λ (x : GvdbKey). x.at) told)),
       λ n. absurd (n (ap (λ (x : GvdbCheck). x.rule) is)),
     )
@@ -108,21 +110,21 @@ opens_first file start end manner o r opened checked shut =
     let is = opening_is file start end o opened in
     by (open_table file start end) refl is
   where
-    by : (a : Opened) → open_table file start end ≡ a → o ≡ opened_answer a → r.number ≡ o.number
-    by (Opened.Table t) said is = absurd (shut (ap (λ (x : GvdbOpened). x.number) is))
-    by (Opened.Refused why) said is =
+    by : (a : Result Table Refusal) → open_table file start end ≡ a → o ≡ opened_answer a → r.number ≡ o.number
+    by (Ok t) said is = absurd (shut (ap (λ (x : GvdbOpened). x.number) is))
+    by (Err why) said is =
         ap (λ (x : GvdbCheck). x.number) (checking_is file start end manner r checked) ∙ ap checked_number ((broken.refused_as_opening (read_by manner) file start end why).1 said)
         ∙ ap (λ (x : GvdbOpened). x.number) (sym is)
 
 -- ---- every image passes
 
 -- an answer with a pointer has no refusal's number
-placed_none : (l : Looked) (from to n : ℕ) → l ≡ Looked.Pointer from to → looked_number l ≡ suc n → ⊥
+placed_none : (l : Result Pointer Refusal) (from to n : ℕ) → l ≡ Ok (record { start = from; end = to }) → looked_number l ≡ suc n → ⊥
 unfolding looked_number
 placed_none l from to n is e = let z : ◌≡◌ {A = ℕ} 0 (suc n) = sym (ap looked_number is) ∙ e in omega arith
 
-pub same_place : (l : Looked) (a b c d : ℕ) → l ≡ Looked.Pointer a b → l ≡ Looked.Pointer c d → (a ≡ c) × (b ≡ d)
-same_place l a b c d p q = (cc, cc)
+pub same_place : (l : Result Pointer Refusal) (a b c d : ℕ) → l ≡ Ok (record { start = a; end = b }) → l ≡ Ok (record { start = c; end = d }) → (a ≡ c) × (b ≡ d)
+same_place l a b c d p q = same_pointer (sym p ∙ q)
 
 module _ (manner filter : ℕ) (few : filter ≤ most_filter) (file ws ar : List ℕ) where
   -- a key that answers a nested table is the key of an item that holds one
@@ -130,7 +132,7 @@ module _ (manner filter : ℕ) (few : filter ≤ most_filter) (file ws ar : List
     pub guest : ℕ
     pub item : ItemOf ws ar t key (Content.nested guest)
 
-  pub nests : (t at : ℕ) → TableBack (lay_by manner filter few) file (state_of ws ar) t at → (key : List ℕ) (from to : ℕ) → lookup_table (read_by manner) file at (end_of filter (state_of ws ar) t at) key ≡ Looked.Pointer from to → Nests t key
+  pub nests : (t at : ℕ) → TableBack (lay_by manner filter few) file (state_of ws ar) t at → (key : List ℕ) (from to : ℕ) → lookup_table (read_by manner) file at (end_of filter (state_of ws ar) t at) key ≡ Ok (record { start = from; end = to }) → Nests t key
   nests t at back key from to is = by_text (is_utf8 key) refl
     where
       by_held : (h : Held) → is_utf8 key ≡ true → held_in (meaning ws ar).items t key ≡ h → Nests t key
@@ -159,7 +161,7 @@ module _ (manner filter : ℕ) (few : filter ≤ most_filter) (file ws ar : List
         let u = n.guest in
         let b = back.1 x.item u x.has x.content in
         let p = pass.1 x.item u x.has x.content in
-        let here : lookup_table (read_by manner) file at (end_of filter (state_of ws ar) t at) ((state_of ws ar t).key x.item) ≡ Looked.Pointer r.start r.end =
+        let here : lookup_table (read_by manner) file at (end_of filter (state_of ws ar) t at) ((state_of ws ar t).key x.item) ≡ Ok (record { start = r.start; end = r.end }) =
         ap (lookup_table (read_by manner) file at (end_of filter (state_of ws ar) t at)) x.key ∙ is in
         let pb = same_place _ b.0 (end_of filter (state_of ws ar) u b.0) p.0 (end_of filter (state_of ws ar) u p.0) b.1 p.1 in
         let pp = same_place _ p.0 (end_of filter (state_of ws ar) u p.0) r.start r.end p.1 here in

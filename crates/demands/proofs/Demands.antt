@@ -1,4 +1,7 @@
 -- Demand 2: what the statement says holds of every history and every write that succeeds.
+use Rattle.std.specs.Prelude.{Result, Ok, Err}
+use Rattle.layout.specs.declared.refusal.Refusal.{Refusal}
+use Rattle.write.specs.declared.Image.{Image}
 use Prim.Native.Nat.{ℕ, zero, suc, ◌≤◌, ◌<◌}
 use mathlib.Core.Path.{◌≡◌, refl, sym, ap, ◌∙◌, subst}
 use mathlib.Core.Bool.{true}
@@ -13,11 +16,8 @@ use Rattle.words.proofs.ChoiceLaws.{both, pick_true}
 use Rattle.text.specs.Utf8.{is_utf8}
 use Rattle.layout.specs.Answer.{opened_number}
 use Rattle.layout.specs.Table.{open_table}
-use Rattle.layout.specs.declared.table.Opened.{Opened}
 use Rattle.layout.proofs.RefusalLaws.{refused_some}
-use Rattle.read.specs.declared.lookup.Looked.{Looked}
 use Rattle.read.specs.Lookup.{lookup_table}
-use Rattle.model.specs.declared.Counted.{Counted}
 use Rattle.model.specs.Table.{Content, State, Has, rows_of}
 use Rattle.model.specs.Builder as model
 use Rattle.model.specs.Builder.{Builder}
@@ -33,7 +33,6 @@ use Rattle.image.specs.Fits.{opened_as}
 use Rattle.laid.specs.Back.{end_of, table_opened}
 use Rattle.laid.specs.Told.{TableBack, AllBack}
 use Rattle.write_numbers.specs.Roster.{state_of}
-use Rattle.write.specs.declared.Written.{Written}
 use Rattle.build_tables.specs.Table.{free_standing}
 use Rattle.write.specs.Write.{written_number, write_answer, image_after}
 use Rattle.write_numbers.proofs.StateLaws.{state_below}
@@ -63,14 +62,20 @@ use Rattle.demands.proofs.Histories.{held_is}
 
 -- ---- a write that succeeds, as its contract tells it
 
-image_by : (w : Written) (start end size : ℕ) → 0 ∷ start ∷ end ∷ size ∷ [] ≡ written w → w ≡ Written.Image start end size
+image_by : (w : Result Image Refusal) (start end size : ℕ) → 0 ∷ start ∷ end ∷ size ∷ [] ≡ written w → w ≡ Ok (record { start = start; end = end; length = size })
 unfolding written written_number written_image
-image_by (Written.Image a b c) start end size e = cc
-image_by (Written.Refused why) start end size e = absurd (refused_some why (let z : 0 ≡ _ = ap (λ (l : List ℕ). get_or l 0 0) e in sym z))
+image_by (Ok i) start end size e =
+    let starts : i.start ≡ start = cc in
+    let ends : i.end ≡ end = cc in
+    let long : i.length ≡ size = cc in
+    ap (λ (s : ℕ). Ok (record { start = s; end = i.end; length = i.length })) starts
+    ∙ ap (λ (s : ℕ). Ok (record { start = start; end = s; length = i.length })) ends
+    ∙ ap (λ (s : ℕ). Ok (record { start = start; end = end; length = s })) long
+image_by (Err why) start end size e = absurd (refused_some why (let z : 0 ≡ _ = ap (λ (l : List ℕ). get_or l 0 0) e in sym z))
 
 pub image_is : (m : Memory) (t : ℕ) (buffer : List ℕ) (manner filter start end size : ℕ) (after : Memory) (left : List ℕ)
     → Does m (Call.write t buffer manner filter) (0 ∷ start ∷ end ∷ size ∷ []) after left
-    → (write_answer (rule_of (form_of manner)) filter m.words m.arena t (length buffer) ≡ Written.Image start end size) × (left ≡ image_after (rule_of (form_of manner)) filter m.words m.arena t buffer)
+    → (write_answer (rule_of (form_of manner)) filter m.words m.arena t (length buffer) ≡ Ok (record { start = start; end = end; length = size })) × (left ≡ image_after (rule_of (form_of manner)) filter m.words m.arena t buffer)
 unfolding answers leaves_lent
 image_is m t buffer manner filter start end size after left d =
     let did = does_is m (Call.write t buffer manner filter) _ after left d in
@@ -79,9 +84,9 @@ image_is m t buffer manner filter start end size after left d =
 -- by the form of a reader, which is the write's
 pub image_read : (m : Memory) (t : ℕ) (buffer : List ℕ) (manner filter start end size : ℕ) (after : Memory) (left : List ℕ)
     → Does m (Call.write t buffer manner filter) (0 ∷ start ∷ end ∷ size ∷ []) after left → (reader : ℕ) → form_of reader ≡ form_of manner
-    → (write_answer (rule_of (form_of reader)) filter m.words m.arena t (length buffer) ≡ Written.Image start end size) × (left ≡ image_after (rule_of (form_of reader)) filter m.words m.arena t buffer)
+    → (write_answer (rule_of (form_of reader)) filter m.words m.arena t (length buffer) ≡ Ok (record { start = start; end = end; length = size })) × (left ≡ image_after (rule_of (form_of reader)) filter m.words m.arena t buffer)
 image_read m t buffer manner filter start end size after left d reader same =
-    subst (λ (f : Form). (write_answer (rule_of f) filter m.words m.arena t (length buffer) ≡ Written.Image start end size) × (left ≡ image_after (rule_of f) filter m.words m.arena t buffer))
+    subst (λ (f : Form). (write_answer (rule_of f) filter m.words m.arena t (length buffer) ≡ Ok (record { start = start; end = end; length = size })) × (left ≡ image_after (rule_of f) filter m.words m.arena t buffer))
     (sym same) (image_is m t buffer manner filter start end size after left d)
 
 -- ---- a table of the memory, as a reader finds it
@@ -93,7 +98,7 @@ module _ (manner filter : ℕ) (few : filter ≤ most_filter) (file ws ar : List
   -- a key is told what stands under it; `inside` is what holds of a nested table
   told : (inside : ℕ → ℕ → ℕ → Type 0)
       → ((i u : ℕ) → Has (state_of ws ar t).members i → (state_of ws ar t).content i ≡ Content.nested u
-      → (from : ℕ) × (to : ℕ) × (lookup_table (read_by manner) file at end ((state_of ws ar t).key i) ≡ Looked.Pointer from to) × inside u from to)
+      → (from : ℕ) × (to : ℕ) × (lookup_table (read_by manner) file at end ((state_of ws ar t).key i) ≡ Ok (record { start = from; end = to })) × inside u from to)
       → (key : List ℕ) → is_utf8 key ≡ true → (h : Held) → held_in (meaning ws ar).items t key ≡ h → Tells manner inside file at end key h
   unfolding Tells
   told inside nest key text Held.nothing is = both_told file at end key manner 12 (back.absent key text (no_item ws ar t key is))
@@ -115,14 +120,14 @@ module _ (manner filter : ℕ) (few : filter ≤ most_filter) (file ws ar : List
       subst (λ (k : List ℕ). Tells manner inside file at end k (Held.holds Content.container)) x.key (both_told file at end _ manner 13 (back.containers x.item x.has x.content))
 
 -- the builder counts as many items as the table opens with
-counts : (ws ar : List ℕ) → Honest ws ar → (t : ℕ) → t < table_total ws → item_count ws ar t ≡ Counted.Items (length (state_of ws ar t).members)
+counts : (ws ar : List ℕ) → Honest ws ar → (t : ℕ) → t < table_total ws → item_count ws ar t ≡ Ok (length (state_of ws ar t).members)
 unfolding model.item_count state_of rows_of meaning
 counts ws ar honest t known =
     count_alike ws ar honest t
     ∙ pick_true _ _ (lt-ltb t (length (meaning ws ar).tables) (omega (arith, length-listed (standing_of ws) (table_total ws))))
 
 opens : (m : Memory) → Honest m.words m.arena → (file : List ℕ) (filter t at end : ℕ) → t < table_total m.words
-    → open_table file at end ≡ Opened.Table (table_opened filter (state_of m.words m.arena) t at) → Opens m t file at end
+    → open_table file at end ≡ Ok (table_opened filter (state_of m.words m.arena) t at) → Opens m t file at end
 unfolding Opens opened_answer opened_number opened_count opened_as answers counted counted_number counted_items
 opens m honest file filter t at end known is r o =
     let e = opening_is file at end r o ∙ ap opened_answer is in (

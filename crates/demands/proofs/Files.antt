@@ -1,4 +1,5 @@
 -- The whole file: the header over an image that was laid is taken, reads back, and leaves the tables as they were.
+use Rattle.std.specs.Prelude.{Ok}
 use Prim.Native.Nat.{ℕ, ◌^◌, ◌≤◌, ◌<◌}
 use mathlib.Core.Path.{◌≡◌, refl, ap, ◌∙◌}
 use mathlib.Core.Bool.{Bool, true, false}
@@ -13,8 +14,6 @@ use Rattle.key_hash.specs.Hash.{rule_of}
 use Rattle.words.proofs.ChoiceLaws.{both}
 use Rattle.words.proofs.StoreLaws.{length-put, length-zeros}
 use Rattle.file_header.specs.declared.header.ByteOrder.{ByteOrder}
-use Rattle.file_header.specs.declared.header.Headed.{Headed}
-use Rattle.file_header.specs.declared.header.HeaderLaid.{HeaderLaid}
 use Rattle.layout.specs.Limits.{longest_file, deepest}
 use Rattle.layout.specs.Sizes.{header_size, chunk_size}
 use Rattle.file_header.specs.Answer.{headed_number, headed_order, headed_pointer, header_laid_number, order_number}
@@ -34,7 +33,6 @@ use Rattle.laid.proofs.Passes.{root_passes}
 use Rattle.build_memory.specs.Memory.{Memory, table_total}
 use Rattle.build_tables.specs.Table.{free_standing}
 use Rattle.write_numbers.specs.Roster.{state_of}
-use Rattle.write.specs.declared.Written.{Written}
 use Rattle.write.specs.Write.{write_answer, image_after}
 use Rattle.answers.specs.Manner.{form_of}
 use Rattle.answers.specs.Header.{order_of, headed_answer}
@@ -63,7 +61,7 @@ module _ (m : Memory) (t big manner filter start end number : ℕ) (file : List 
   abbrev image : List ℕ
   image = image_of rule filter state t
 
-  wrote : (write_answer rule filter ws ar t (length f.buffer) ≡ Written.Image start end f.size) × (f.left ≡ image_after rule filter ws ar t f.buffer)
+  wrote : (write_answer rule filter ws ar t (length f.buffer) ≡ Ok (record { start = start; end = end; length = f.size })) × (f.left ≡ image_after rule filter ws ar t f.buffer)
   wrote = image_read m t f.buffer manner filter start end f.size f.after f.left f.writes reader same
 
   pub made : Success rule filter ws ar t (length f.buffer) start end f.size
@@ -89,7 +87,7 @@ module _ (m : Memory) (t big manner filter start end number : ℕ) (file : List 
   did : (number ≡ header_laid_number (header_laid (length (take f.size f.left)))) × (file ≡ with_header (take f.size f.left) (order_of big) start end)
   did = laying_header_is (take f.size f.left) big start end number file f.lays
 
-  taken : header_laid (length image) ≡ HeaderLaid.Laid
+  taken : header_laid (length image) ≡ Ok tt
   unfolding header_laid pick
   taken = simp (le-ltb _ _ short, le-ltb _ _ long)
 
@@ -121,7 +119,7 @@ module _ (m : Memory) (t big manner filter start end number : ℕ) (file : List 
   unfolding header_laid_number
   number_0 = did.0 ∙ ap (λ (l : List ℕ). header_laid_number (header_laid (length l))) target ∙ ap header_laid_number taken
 
-  pub read_again : read_header file ≡ Headed.Root (order_of big) start end
+  pub read_again : read_header file ≡ Ok (record { order = order_of big; start = start; end = end })
   read_again =
       ap read_header (did.1 ∙ ap (λ (l : List ℕ). with_header l (order_of big) start end) target)
       ∙ laid_is_read image (order_of big) start end taken start_small end_small

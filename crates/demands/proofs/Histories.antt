@@ -1,4 +1,5 @@
 -- What the items of the model's builder hold under a key, after a history, is what the calls and their answers say.
+use Rattle.std.specs.Prelude.{Err, Result}
 use Prim.Native.Nat.{ℕ, zero, suc}
 use mathlib.Core.Path.{◌≡◌, refl, sym, ap, ◌∙◌}
 use mathlib.Core.Bool.{Bool, true, false, ◌&&◌, ◌||◌}
@@ -13,9 +14,8 @@ use Rattle.key_order.specs.Prefix.{prefixes}
 use Rattle.layout.specs.declared.refusal.Refusal.{Refusal}
 use Rattle.layout.specs.declared.refusal.Refusal.TheVariants.{SeparatorOutside, TooManyTables}
 use Rattle.layout.specs.Refusal as refusal
-use Rattle.model.specs.declared.Added.{Added}
 use Rattle.model.specs.Table.{Content, Entry}
-use Rattle.model.specs.Builder.{Builder, Standing, Result, result, no_standing, standing_at, separator_of, new_table}
+use Rattle.model.specs.Builder.{Builder, Standing, Reply, result, no_standing, standing_at, separator_of, new_table}
 use Rattle.build_memory.specs.Memory.{Memory}
 use Rattle.build_tables.specs.Answer.{added_number, added_table}
 use Rattle.build_values.specs.Answer.{inserted_number}
@@ -42,11 +42,11 @@ snoc_at (y ∷ l) x zero = sym (pick-false _ _ (ne_eqb (suc (length l)) 0 (λ (e
 snoc_at (y ∷ l) x (suc t) = snoc_at l x t ∙ ap (λ (b : Bool). pick b x.separator (get_or l t no_standing).separator) (sym (eqb_step (length l) t))
 
 -- a new table has the separator that was given, and the others keep theirs; no item changes
-record NewTable (m : Builder) (given : List ℕ) (r : Result Added) : Type 0 where
+record NewTable (m : Builder) (given : List ℕ) (r : Reply (Result ℕ Refusal)) : Type 0 where
   pub seps : (t : ℕ) → (standing_at r.after t).separator ≡ made_by (Call.new_table given) (added r.answer) t (standing_at m t).separator
   pub items : r.after.items ≡ m.items
 
-not_new : (m : Builder) (given : List ℕ) (why : Refusal) → eqb (refusal.number why) 0 ≡ false → NewTable m given (result (Added.Refused why) m)
+not_new : (m : Builder) (given : List ℕ) (why : Refusal) → eqb (refusal.number why) 0 ≡ false → NewTable m given (result (Err why) m)
 unfolding made_by added added_number added_table
 not_new m given why e = record { seps = λ t. sym (pick-false _ _ (ap (λ (b : Bool). b && eqb 0 t) e)); items = refl }
 
@@ -89,7 +89,7 @@ module _ (b : Builder) where
       by false e = refl
 
   -- an insert: accepted, it puts its content there; refused, it changes nothing
-  insert_step : (u : ℕ) (key : List ℕ) (content : Content) (r : Result _) → Took b u key content r → (t : ℕ) (k : List ℕ)
+  insert_step : (u : ℕ) (key : List ℕ) (content : Content) (r : Reply _) → Took b u key content r → (t : ℕ) (k : List ℕ)
       → held_in r.after.items t k
       ≡ pick (eqb (inserted_number r.answer) 0)
       (or_else (pick (hit u key t k) (Held.holds content) Held.nothing)

@@ -1,4 +1,6 @@
 -- Document 01's image of "a/b" with 07, as a history of calls, and the file that a header makes of it.
+use Rattle.std.specs.Prelude.{Ok}
+use Rattle.model.specs.Inserted.{Inserted}
 use Prim.Native.Nat.{ℕ, ◌-◌, ◌≤◌}
 use mathlib.Core.Path.{◌≡◌, refl, sym, ap, ◌∙◌, subst}
 use mathlib.Core.Bool.{Bool, true, false, ◌||◌}
@@ -19,11 +21,10 @@ use Rattle.key_order.specs.Compare.{same_bytes}
 use Rattle.key_order.specs.Order.{precedes}
 use Rattle.key_order.specs.Prefix.{ends_from, prefixes}
 use Rattle.text.specs.Utf8.{between, tail, is_two, starts_three, starts_four, first_of, sequence_len, step_len, one_more, good_from, first_bad, is_utf8}
-use Rattle.model.specs.declared.Inserted.{Inserted}
 use Rattle.layout.specs.Item.{no_item}
 use Rattle.model.specs.Table.{Content, State, entry_at, members_below, rows_of}
 use Rattle.model.specs.Walk.{entry}
-use Rattle.model.specs.Builder.{Builder, Result, separator_of, standing_at, free_standing, new_table}
+use Rattle.model.specs.Builder.{Builder, Reply, separator_of, standing_at, free_standing, new_table}
 use Rattle.model.specs.Worked as worked
 use Rattle.image.specs.Worked.{two, lengths}
 use Rattle.image.specs.Index.{insert_key, sort_keys, key_order, hashes_of, bucket_of, run, runs_below, by_bucket, by_index, item_of}
@@ -32,7 +33,6 @@ use Rattle.build_memory.specs.Memory.{Memory, memory, least_words, fresh_start}
 use Rattle.build_memory.specs.Answer.{started_number}
 use Rattle.build_tables.specs.Answer.{added_number, added_table}
 use Rattle.build_values.specs.Answer.{inserted_number, inserted_kind, inserted_at}
-use Rattle.write.specs.declared.Written.{Written}
 use Rattle.write.specs.Write.{empty_held, has_empty, too_long, written_number}
 use Rattle.answers.specs.declared.reading.GvdbPlace.{GvdbPlace}
 use Rattle.file_header.specs.Answer.{header_laid_number}
@@ -79,11 +79,11 @@ table-says = refl
 
 insert_says : (said : List ℕ) → says (built 8 (event table said ∷ [])) insert ≡ 0 ∷ 0 ∷ 0 ∷ []
 unfolding says built makes worked.start inserted inserted_number inserted_kind inserted_at
-insert_says said = ap (λ (r : Result Inserted). inserted r.answer) worked.made
+insert_says said = ap (λ (r : Reply Inserted). inserted r.answer) worked.made
 
 built_is : built 8 worked_events ≡ b
 unfolding built makes worked.start
-built_is = ap (λ (r : Result Inserted). r.after) worked.made
+built_is = ap (λ (r : Reply Inserted). r.after) worked.made
 
 -- ---- the write
 
@@ -116,7 +116,7 @@ write-says buffer room =
     ∙ pick-false _ _ (le-ltb 1024 0 (omega arith))
     ∙ pick-false _ _ named_is
     ∙ pick-false _ _ (ap (λ (n : ℕ). ltb 16777216 n || ltb (length buffer) n) size_is ∙ le-ltb (length buffer) 104 room)
-    ∙ (let z : _ ≡ Written.Image 24 88 104 = rw (size_is, count_is) refl in z))
+    ∙ (let z : _ ≡ Ok (record { start = 24; end = 88; length = 104 }) = rw (size_is, count_is) refl in z))
 
 -- ---- what stands under both keys
 

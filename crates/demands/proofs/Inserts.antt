@@ -1,4 +1,6 @@
 -- What each call leaves under every key, on the model: an accepted insert what `walk-held` says; and every table keeps its separator.
+use Rattle.std.specs.Prelude.{Ok, Err, Some, None}
+use Rattle.model.specs.Inserted.{Inserted}
 use Prim.Native.Nat.{ℕ, zero, suc}
 use mathlib.Core.Path.{◌≡◌, refl, sym, ap, ◌∙◌}
 use mathlib.Core.Bool.{Bool, true, false, ◌&&◌}
@@ -11,12 +13,11 @@ use Rattle.key_order.specs.Prefix.{prefixes}
 use Rattle.layout.specs.declared.refusal.Refusal.{Refusal}
 use Rattle.layout.specs.declared.refusal.Refusal.TheVariants.{KeyNotUtf8, KeyTooLong, NotContainer, TooManyItems, ArenaFull, TableUnknown, TableInItself, NestedTooDeep}
 use Rattle.layout.specs.Refusal.{number}
-use Rattle.model.specs.declared.Inserted.{Inserted}
 use Rattle.layout.specs.Item.{no_item}
 use Rattle.model.specs.Table.{Content, Entry}
 use Rattle.model.specs.Walk.{Walked, walk}
 use Rattle.layout.specs.Limits.{deepest}
-use Rattle.model.specs.Builder.{Builder, Standing, no_standing, standing_at, Result, result, refused, news, counted, at_walked, put, keyed, insert_value, place, when_accepted, settled, insert_table, height}
+use Rattle.model.specs.Builder.{Builder, Standing, no_standing, standing_at, Reply, result, refused, news, counted, at_walked, put, keyed, insert_value, place, when_accepted, settled, insert_table, height}
 use Rattle.build_values.specs.Answer.{inserted_number}
 use Rattle.demands.specs.Last.{Held, or_else, among}
 use Rattle.demands.proofs.HeldLaws.{held_in, hit}
@@ -33,7 +34,7 @@ unfolding news inserted_number
 news-accepted items t key = pick_with (λ (a : Inserted). eqb (inserted_number a) 0 ≡ true) _ _ _ (λ _. refl) (λ _. refl)
 
 module _ (m : Builder) (t : ℕ) (key : List ℕ) (content : Content) where
-  pub record Took (r : Result Inserted) : Type 0 where
+  pub record Took (r : Reply Inserted) : Type 0 where
     pub took : eqb (inserted_number r.answer) 0 ≡ true → (u : ℕ) (k : List ℕ) → held_in r.after.items u k ≡ put_held m t key content u k
     pub kept : eqb (inserted_number r.answer) 0 ≡ false → r.after ≡ m
     pub seps : (u : ℕ) → (standing_at r.after u).separator ≡ (standing_at m u).separator
@@ -42,7 +43,7 @@ module _ (m : Builder) (t : ℕ) (key : List ℕ) (content : Content) where
   unfolding inserted_number
   refused_took why e = record { took = λ n u k. cc; kept = λ n. refl; seps = λ u. refl }
 
-  pick_took : (b : Bool) (r s : Result Inserted) → Took r → Took s → Took (pick b r s)
+  pick_took : (b : Bool) (r s : Reply Inserted) → Took r → Took s → Took (pick b r s)
   pick_took b r s x y = pick_with Took b r s (λ _. x) (λ _. y)
 
   counted_took : (size : ℕ) (after : List Entry) → walk t content (prefixes (standing_at m t).separator key) m.items no_item ≡ Walked.walked after
@@ -66,7 +67,7 @@ module _ (m : Builder) (t : ℕ) (key : List ℕ) (content : Content) where
   unfolding put
   put_took size deep = walked_took size deep _ refl
 
-  keyed_took : (r : Result Inserted) → Took r → Took (keyed m key r)
+  keyed_took : (r : Reply Inserted) → Took r → Took (keyed m key r)
   unfolding keyed
   keyed_took r x = pick_took _ _ _ (pick_took _ _ _ (refused_took KeyTooLong refl) x) (refused_took (KeyNotUtf8 _) refl)
 
@@ -104,9 +105,8 @@ placed_took m t key content g a yes-it-is after x = record {
 settled_took : (m : Builder) (t : ℕ) (key : List ℕ) (content : Content) (g : ℕ) (a : Inserted) (after : Builder) → Took m t key content (result a after)
     → Took m t key content (settled g (result a after))
 unfolding settled when_accepted inserted_number
-settled_took m t key content g Inserted.New after x = placed_took m t key content g _ refl after x
-settled_took m t key content g (Inserted.Replaced kind) after x = placed_took m t key content g _ refl after x
-settled_took m t key content g (Inserted.Refused why) after x = x
+settled_took m t key content g (Ok _) after x = placed_took m t key content g _ refl after x
+settled_took m t key content g (Err why) after x = x
 
 pub table_took : (m : Builder) (t : ℕ) (key : List ℕ) (guest : ℕ) → Took m t key (Content.nested guest) (insert_table m t key guest)
 unfolding insert_table

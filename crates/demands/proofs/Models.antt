@@ -1,4 +1,7 @@
 -- Every history leaves memory that calls reach, and that means the model's builder; so its calls answer and lay what the model's do.
+use Rattle.std.specs.Prelude.{Result, Ok, Err}
+use Rattle.layout.specs.declared.refusal.Refusal.{Refusal}
+use Rattle.write.specs.declared.Image.{Image}
 use Prim.Native.Nat.{ℕ, ◌+◌, ◌≤◌}
 use mathlib.Core.Path.{◌≡◌, refl, sym, ap, ◌∙◌, subst}
 use mathlib.Core.Bool.{Bool, true, false}
@@ -18,7 +21,6 @@ use Rattle.build_memory.specs.Memory.{Memory, memory, least_words, fresh_words, 
 use Rattle.build_memory.specs.Answer.{started_number}
 use Rattle.build_tables.specs.Table as tables
 use Rattle.write_numbers.specs.Roster.{state_of}
-use Rattle.write.specs.declared.Written.{Written}
 use Rattle.build_tables.specs.Table.{free_standing}
 use Rattle.write.specs.Write.{has_empty, too_long, image_for, write_answer, laid_by, image_after}
 use Rattle.history.specs.Honest.{Honest}
@@ -39,12 +41,12 @@ module _ (m : Memory) (honest : Honest m.words m.arena) where
   unfolding write_answer write image_for image_in state_of free_standing
   write_same rule filter t room =
       let size = length (image_in rule filter (meant m) t) in
-      let named : Written =
-      pick (ltb most_filter filter) (Written.Refused TooManyFilterWords)
-      (pick (has_empty (tables_of (meant m)) deepest t) (Written.Refused EmptyKey)
-      (pick (too_long room size) (Written.Refused ImageTooLong) (Written.Image header_size (header_size + chunk_size filter (length (tables_of (meant m) t).members)) size))) in
-      pick_true (pick (free_standing m.words t) named (Written.Refused TableUnknown)) (Written.Refused MemoryBroken) (honest_whole m.words m.arena honest)
-      ∙ ap (λ (b : Bool). pick b named (Written.Refused TableUnknown)) (free_standing_same m.words m.arena t)
+      let named : Result Image Refusal =
+      pick (ltb most_filter filter) (Err TooManyFilterWords)
+      (pick (has_empty (tables_of (meant m)) deepest t) (Err EmptyKey)
+      (pick (too_long room size) (Err ImageTooLong) (Ok (record { start = header_size; end = header_size + chunk_size filter (length (tables_of (meant m) t).members); length = size })))) in
+      pick_true (pick (free_standing m.words t) named (Err TableUnknown)) (Err MemoryBroken) (honest_whole m.words m.arena honest)
+      ∙ ap (λ (b : Bool). pick b named (Err TableUnknown)) (free_standing_same m.words m.arena t)
 
   says_same : (call : Call) → answers m call ≡ says (meant m) call
   unfolding answers says
@@ -68,7 +70,7 @@ module _ (m : Memory) (honest : Honest m.words m.arena) where
   lays_same (Call.insert_value t key value) = refl
   lays_same (Call.insert_table t key guest) = refl
   lays_same (Call.item_count t) = refl
-  lays_same (Call.write t buffer manner filter) = ap (λ (answer : Written). laid_by answer (image_for (rule_of (form_of manner)) filter m.words m.arena t) buffer) (write_same (rule_of (form_of manner)) filter t (length buffer))
+  lays_same (Call.write t buffer manner filter) = ap (λ (answer : Result Image Refusal). laid_by answer (image_for (rule_of (form_of manner)) filter m.words m.arena t) buffer) (write_same (rule_of (form_of manner)) filter t (length buffer))
 
 -- ---- all calls
 

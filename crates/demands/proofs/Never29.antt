@@ -1,4 +1,7 @@
 -- Demand 1: callers who change nothing between calls never meet 29.
+use Rattle.std.specs.Prelude.{Result, Ok, Err, None}
+use Rattle.write.specs.declared.Image.{Image}
+use Rattle.model.specs.Inserted.{Inserted}
 use Prim.Native.Nat.{ℕ}
 use mathlib.Core.Path.{◌≡◌, sym, ap, ◌∙◌}
 use mathlib.Core.Bool.{Bool, true}
@@ -11,9 +14,6 @@ use Rattle.words.proofs.ChoiceLaws.{pick_with, pick_true}
 use Rattle.layout.specs.declared.refusal.Refusal.{Refusal}
 use Rattle.layout.specs.declared.refusal.Refusal.TheVariants.{KeyNotUtf8, KeyTooLong, NotContainer, TooManyItems, ArenaFull, TableUnknown, TableInItself, NestedTooDeep}
 use Rattle.layout.specs.Refusal as refusal
-use Rattle.model.specs.declared.Inserted.{Inserted}
-use Rattle.model.specs.declared.Added.{Added}
-use Rattle.model.specs.declared.Counted.{Counted}
 use Rattle.build_memory.specs.Memory.{Memory, valid, Outcome}
 use Rattle.build_memory.specs.Item.{Stored}
 use Rattle.build_tables.specs.Table.{add_table, new_table, item_count}
@@ -22,7 +22,6 @@ use Rattle.build_values.specs.Insert.{keyed, insert_below_path, insert_or_replac
 use Rattle.build_values.specs.Answer.{inserted_number}
 use Rattle.build_nested.specs.Nest.{settled, nested, nest_at_key, insert_table}
 use Rattle.build_rules.specs.Valid.{fully_valid}
-use Rattle.write.specs.declared.Written.{Written}
 use Rattle.write.specs.Write.{write_answer, written_number}
 use Rattle.history.proofs.History.{reached_valid, reached_whole}
 use Rattle.answers.specs.Manner.{form_of}
@@ -44,11 +43,11 @@ other_pick number of b x y p q = pick_with (λ a. Other number (of a)) b x y (λ
 abbrev said : Outcome Inserted → Inserted
 said o = o.answer
 
-no : (why : Refusal) → (refusal.number why ≡ 29 → ⊥) → Other inserted_number (Inserted.Refused why)
+no : (why : Refusal) → (refusal.number why ≡ 29 → ⊥) → Other inserted_number (Err why)
 unfolding inserted_number
 no why n = record { other = n }
 
-new : Other inserted_number Inserted.New
+new : Other inserted_number (Ok None)
 unfolding inserted_number
 new = record { other = λ e. omega arith }
 
@@ -88,7 +87,7 @@ module _ (ws ar : List ℕ) (t : ℕ) (key : List ℕ) where
 new_table_other : (ws ar given : List ℕ) → valid ws (length ar) ≡ true → Other added_number (new_table ws ar given).answer
 unfolding new_table add_table added_number
 new_table_other ws ar given ok =
-    let say : Outcome Added → Added = λ (o : Outcome Added). o.answer in
+    let say : Outcome (Result ℕ Refusal) → Result ℕ Refusal = λ (o : Outcome (Result ℕ Refusal)). o.answer in
     rw (pick_true _ _ ok)
     (other_pick added_number say _ _ _ (record { other = λ e. omega arith })
     (other_pick added_number say _ _ _ (record { other = λ e. omega arith }) (record { other = λ e. omega arith })))
@@ -96,12 +95,12 @@ new_table_other ws ar given ok =
 count_other : (ws ar : List ℕ) (t : ℕ) → valid ws (length ar) ≡ true → Other counted_number (item_count ws ar t)
 unfolding item_count counted_number
 count_other ws ar t ok =
-    rw (pick_true _ _ ok) (other_pick counted_number (λ (a : Counted). a) _ _ _ (record { other = λ e. omega arith }) (record { other = λ e. omega arith }))
+    rw (pick_true _ _ ok) (other_pick counted_number (λ (a : Result ℕ Refusal). a) _ _ _ (record { other = λ e. omega arith }) (record { other = λ e. omega arith }))
 
 write_other : (rule : ℕ → ℕ) (filter : ℕ) (ws ar : List ℕ) (t room : ℕ) → fully_valid ws ar ≡ true → Other written_number (write_answer rule filter ws ar t room)
 unfolding write_answer written_number
 write_other rule filter ws ar t room ok =
-    let same : Written → Written = λ (a : Written). a in
+    let same : Result Image Refusal → Result Image Refusal = λ (a : Result Image Refusal). a in
     rw (pick_true _ _ ok)
     (other_pick written_number same _ _ _
     (other_pick written_number same _ _ _ (record { other = λ e. omega arith })

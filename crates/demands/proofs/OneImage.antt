@@ -1,4 +1,5 @@
 -- One content, one image, over histories: a write lays the image of the model's table, which may be written.
+use Rattle.std.specs.Prelude.{Ok}
 use Prim.Native.Nat.{ℕ, ◌+◌, ◌^◌, ◌≤◌, ◌<◌}
 use mathlib.Core.Path.{◌≡◌, sym, ap, ◌∙◌, subst}
 use mathlib.Core.List.{List, ◌++◌}
@@ -19,7 +20,6 @@ use Rattle.image.specs.Image.{table_bytes, image_of}
 use Rattle.image.specs.WellFormed.{Writable}
 use Rattle.laid.specs.Back.{end_of}
 use Rattle.write_numbers.specs.Roster.{state_of}
-use Rattle.write.specs.declared.Written.{Written}
 use Rattle.write.specs.Write.{write_answer, image_after}
 use Rattle.build_memory.specs.Meaning.{meaning}
 use Rattle.answers.specs.Header.{order_of}
@@ -47,7 +47,7 @@ of_memory : (form : Form) (filter : ℕ) (w : Wrote form filter) → Gives form 
 of_memory form filter w =
     let ws = w.memory.words in
     let ar = w.memory.arena in
-    let by = subst (λ (f : Form). (write_answer (rule_of f) filter ws ar w.table (length w.buffer) ≡ Written.Image w.start w.end w.size) × (w.left ≡ image_after (rule_of f) filter ws ar w.table w.buffer))
+    let by = subst (λ (f : Form). (write_answer (rule_of f) filter ws ar w.table (length w.buffer) ≡ Ok (record { start = w.start; end = w.end; length = w.size })) × (w.left ≡ image_after (rule_of f) filter ws ar w.table w.buffer))
     w.named (image_is w.memory w.table w.buffer w.manner filter w.start w.end w.size w.after w.left w.writes) in
     let s = success (rule_of form) filter ws ar w.table (length w.buffer) w.start w.end w.size by.0 in
     let few : filter ≤ most_filter = s.few in

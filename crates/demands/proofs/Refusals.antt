@@ -1,4 +1,7 @@
 -- Demand 1: a refusal changes nothing.
+use Rattle.std.specs.Prelude.{Result, Ok, Err, Some, None}
+use Rattle.write.specs.declared.Image.{Image}
+use Rattle.model.specs.Inserted.{Inserted}
 use Prim.Native.Nat.{ℕ, ◌+◌}
 use mathlib.Core.Path.{◌≡◌, refl, sym, ap, ◌∙◌}
 use mathlib.Core.Bool.{Bool, true, false}
@@ -11,15 +14,11 @@ use Rattle.words.specs.Store.{put_at}
 use Rattle.words.proofs.ChoiceLaws.{pick_with}
 use Rattle.layout.specs.declared.refusal.Refusal.{Refusal}
 use Rattle.layout.specs.declared.refusal.Refusal.TheVariants.{SeparatorOutside, TooManyTables, MemoryBroken, BufferTooShort}
-use Rattle.file_header.specs.declared.header.HeaderLaid.{HeaderLaid}
 use Rattle.file_header.specs.Answer.{header_laid_number}
 use Rattle.file_header.specs.Header.{header_bytes, header_laid, when_laid, with_header}
-use Rattle.read_listing.specs.declared.listing.Listed.{Listed}
 use Rattle.read_chain.specs.Chain.{Joined}
 use Rattle.read_listing.specs.Listing.{key_at, listed, written}
 use Rattle.read_listing.specs.Answer.{listed_number}
-use Rattle.model.specs.declared.Inserted.{Inserted}
-use Rattle.model.specs.declared.Added.{Added}
 use Rattle.build_memory.specs.Memory.{least_words, Memory, Outcome, fresh_start}
 use Rattle.build_memory.specs.Answer.{started_number}
 use Rattle.build_tables.specs.Table.{not_added, add_table, new_table}
@@ -29,7 +28,6 @@ use Rattle.build_values.specs.Answer.{inserted_number}
 use Rattle.build_values.proofs.AnswerLaws.{Still, value_still}
 use Rattle.build_nested.specs.Nest.{insert_table}
 use Rattle.build_nested.proofs.AnswerLaws.{table_still}
-use Rattle.write.specs.declared.Written.{Written}
 use Rattle.write.specs.Write.{write_answer, written_number, image_for, laid_by, image_after}
 use Rattle.answers.specs.declared.reading.GvdbKey.{GvdbKey}
 use Rattle.answers.specs.Header.{order_of}
@@ -44,13 +42,12 @@ use Rattle.demands.proofs.Contracts.{answers, leaves, leaves_lent, does_is, star
 
 inserted_still : (m : Memory) (o : Outcome Inserted) → Still m.words m.arena o → (a : Inserted) → o.answer ≡ a → eqb (inserted_number a) 0 ≡ false → o.after ≡ m
 unfolding inserted_number
-inserted_still m o s Inserted.New e n = cc
-inserted_still m o s (Inserted.Replaced kind) e n = cc
-inserted_still m o s (Inserted.Refused why) e n = s.same why e
+inserted_still m o s (Ok _) e n = cc
+inserted_still m o s (Err why) e n = s.same why e
 
 -- ---- a new table
 
-pub record TableStill (m : Memory) (o : Outcome Added) : Type 0 where
+pub record TableStill (m : Memory) (o : Outcome (Result ℕ Refusal)) : Type 0 where
   pub same : eqb (added_number o.answer) 0 ≡ false → o.after ≡ m
 
 table_stays : (m : Memory) (why : Refusal) → TableStill m (not_added why m.words m.arena)
@@ -66,10 +63,10 @@ new_table_still m separator =
 
 -- ---- a write
 
-laid_still : (a : Written) (image buffer : List ℕ) → eqb (written_number a) 0 ≡ false → laid_by a image buffer ≡ buffer
+laid_still : (a : Result Image Refusal) (image buffer : List ℕ) → eqb (written_number a) 0 ≡ false → laid_by a image buffer ≡ buffer
 unfolding laid_by written_number
-laid_still (Written.Image start end size) image buffer n = cc
-laid_still (Written.Refused why) image buffer n = refl
+laid_still (Ok i) image buffer n = cc
+laid_still (Err why) image buffer n = refl
 
 -- ---- all of them
 
@@ -107,7 +104,7 @@ unfolding listed written listed_number pick
 listed_still (Joined.broken why) out at n = refl
 listed_still (Joined.joined k) out at n = by (ltb (length out) (length k)) n
   where
-    by : (b : Bool) → (listed_number (pick b (Listed.Refused BufferTooShort) (Listed.Key (length k) (record { at = at + 1 }))) ≡ 0 → ⊥) → pick b out (put_at out 0 k) ≡ out
+    by : (b : Bool) → (listed_number (pick b (Err BufferTooShort) (Ok (record { size = length k; next = record { at = at + 1 } }))) ≡ 0 → ⊥) → pick b out (put_at out 0 k) ≡ out
     by true n = refl
     by false n = absurd (n refl)
 
@@ -119,10 +116,10 @@ refused_listing_writes_nothing file start end position out r left l n =
 
 -- ---- laying a header
 
-header_still : (a : HeaderLaid) (laid target : List ℕ) → (header_laid_number a ≡ 0 → ⊥) → when_laid a laid target ≡ target
+header_still : (a : Result (Unit {0}) Refusal) (laid target : List ℕ) → (header_laid_number a ≡ 0 → ⊥) → when_laid a laid target ≡ target
 unfolding when_laid header_laid_number
-header_still HeaderLaid.Laid laid target n = absurd (n refl)
-header_still (HeaderLaid.Refused why) laid target n = refl
+header_still (Ok _) laid target n = absurd (n refl)
+header_still (Err why) laid target n = refl
 
 pub refused_header_writes_nothing : RefusedHeaderWritesNothing
 unfolding with_header

@@ -1,5 +1,8 @@
 -- A write that succeeds has laid an image that reads back and passes the check.
-use mathlib.Core.Path.{◌≡◌, refl, ap}
+use Rattle.std.specs.Prelude.{Result, Ok, Err}
+use Rattle.layout.specs.declared.refusal.Refusal.{Refusal}
+use Rattle.write.specs.declared.Image.{Image}
+use mathlib.Core.Path.{◌≡◌, refl, sym, ap}
 use mathlib.Core.Bool.{Bool, true, false, ◌||◌}
 use mathlib.Core.List.{List}
 use Prim.Native.Nat.{ℕ, ◌+◌, ◌≤◌}
@@ -22,7 +25,6 @@ use Rattle.laid.proofs.Passes.{alone_passes}
 use Rattle.laid.proofs.AlikeLaws.{lookups_alike}
 use Rattle.build_rules.specs.Valid.{fully_valid}
 use Rattle.write_numbers.specs.Roster.{state_of}
-use Rattle.write.specs.declared.Written.{Written}
 use Rattle.build_tables.specs.Table.{free_standing}
 use Rattle.write.specs.Write.{has_empty, image_for, too_long, write_answer, laid_by, image_after}
 use Rattle.demands.specs.Success.{Success, SuccessSays, SuccessLays, SuccessReadsBack, SuccessPasses, SuccessAlike}
@@ -31,7 +33,7 @@ use Rattle.demands.proofs.Writable.{free_standing_writable}
 -- ---- what a success says
 
 -- every test passed, and the answer is the one at the end
-record Passed (whole root many empty long : Bool) (good answer : Written) : Type 0 where
+record Passed (whole root many empty long : Bool) (good answer : Result Image Refusal) : Type 0 where
   pub whole_is : whole ≡ true
   pub root_is : root ≡ true
   pub many_is : many ≡ false
@@ -39,10 +41,10 @@ record Passed (whole root many empty long : Bool) (good answer : Written) : Type
   pub long_is : long ≡ false
   pub answer_is : good ≡ answer
 
-module _ (good : Written) (start end size : ℕ) where
+module _ (good : Result Image Refusal) (start end size : ℕ) where
   passed : (whole root many empty long : Bool)
-      → pick whole (pick root (pick many (Written.Refused TooManyFilterWords) (pick empty (Written.Refused EmptyKey) (pick long (Written.Refused ImageTooLong) good))) (Written.Refused TableUnknown)) (Written.Refused MemoryBroken)
-      ≡ Written.Image start end size → Passed whole root many empty long good (Written.Image start end size)
+      → pick whole (pick root (pick many (Err TooManyFilterWords) (pick empty (Err EmptyKey) (pick long (Err ImageTooLong) good))) (Err TableUnknown)) (Err MemoryBroken)
+      ≡ Ok (record { start = start; end = end; length = size }) → Passed whole root many empty long good (Ok (record { start = start; end = end; length = size }))
   unfolding pick
   passed false root many empty long e = absurd (let z : ◌≡◌ {A = ℕ} 0 1 = cc in omega arith)
   passed true false many empty long e = absurd (let z : ◌≡◌ {A = ℕ} 0 1 = cc in omega arith)
@@ -59,17 +61,23 @@ not_too_long : (room size : ℕ) → too_long room size ≡ false → (size ≤ 
 unfolding too_long
 not_too_long room size e = let (file, buffer) = neither (ltb longest_file size) (ltb room size) e in (ltb-false _ _ file, ltb-false _ _ buffer)
 
+ok_same : {i j : Image} → ◌≡◌ {A = Result Image Refusal} (Ok i) (Ok j) → i ≡ j
+ok_same e = cc
+
 pub success : SuccessSays
 unfolding write_answer
 success rule filter ws ar t room start end size e =
     let image = length (image_for rule filter ws ar t) in
-    let good = Written.Image header_size (header_size + chunk_size filter (length (state_of ws ar t).members)) image in
+    let good : Result Image Refusal = Ok (record { start = header_size; end = header_size + chunk_size filter (length (state_of ws ar t).members); length = image }) in
     let p = passed good start end size (fully_valid ws ar) (free_standing ws t) (ltb most_filter filter) (has_empty (state_of ws ar) deepest t) (too_long room image) e in
     let (short, fits) = not_too_long room image p.long_is in
-    let is = p.answer_is in
-    let long : size ≡ image = cc in record {
-      starts = cc;
-      ends = cc;
+    let same : ◌≡◌ {A = Image} (record { start = header_size; end = header_size + chunk_size filter (length (state_of ws ar t).members); length = image }) (record { start = start; end = end; length = size }) =
+    ok_same p.answer_is in
+    let starts_is = ap (λ (i : Image). i.start) same in
+    let ends_is = ap (λ (i : Image). i.end) same in
+    let long : size ≡ image = sym (ap (λ (i : Image). i.length) same) in record {
+      starts = sym starts_is;
+      ends = sym ends_is;
       long = long;
       whole = p.whole_is;
       root = p.root_is;
@@ -82,17 +90,17 @@ success rule filter ws ar t room start end size e =
 -- ---- the file
 
 -- what stands in the buffer
-after_success : (rule : ℕ → ℕ) (filter : ℕ) (ws ar buffer : List ℕ) (t start end size : ℕ) → write_answer rule filter ws ar t (length buffer) ≡ Written.Image start end size
+after_success : (rule : ℕ → ℕ) (filter : ℕ) (ws ar buffer : List ℕ) (t start end size : ℕ) → write_answer rule filter ws ar t (length buffer) ≡ Ok (record { start = start; end = end; length = size })
     → image_after rule filter ws ar t buffer ≡ put_at buffer 0 (image_for rule filter ws ar t)
 unfolding image_after laid_by
-after_success rule filter ws ar buffer t start end size e = ap (λ (answer : Written). laid_by answer (image_for rule filter ws ar t) buffer) e
+after_success rule filter ws ar buffer t start end size e = ap (λ (answer : Result Image Refusal). laid_by answer (image_for rule filter ws ar t) buffer) e
 
 pub success_lays : SuccessLays
 success_lays rule filter ws ar buffer t start end size e =
     let s = success rule filter ws ar t (length buffer) start end size e in
     rw (after_success rule filter ws ar buffer t start end size e, s.long) (part-put buffer 0 (image_for rule filter ws ar t) (omega arith))
 
-module _ (rule : ℕ → ℕ) (filter : ℕ) (ws ar buffer : List ℕ) (t start end size : ℕ) (e : write_answer rule filter ws ar t (length buffer) ≡ Written.Image start end size) where
+module _ (rule : ℕ → ℕ) (filter : ℕ) (ws ar buffer : List ℕ) (t start end size : ℕ) (e : write_answer rule filter ws ar t (length buffer) ≡ Ok (record { start = start; end = end; length = size })) where
   made : Success rule filter ws ar t (length buffer) start end size
   made = success rule filter ws ar t (length buffer) start end size e
 

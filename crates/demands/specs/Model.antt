@@ -1,22 +1,21 @@
 -- CALLS ARE THE MODEL'S. The model (crate `model`) is what document 01 says of a builder: tables and items in order, no memory. On every history each call answers the numbers
 -- that the model's call answers, and leaves what the model's call leaves: so does every call after it. An image that is laid is that of the model's table.
 -- `Means.antt` says it of memory: after every history the words mean the builder that the model's calls built.
-use Rattle.std.specs.Prelude.{ℕ, ◌+◌, ◌≡◌, List, [], ◌∷◌, ltb, length}
+use Rattle.std.specs.Prelude.{ℕ, ◌+◌, ◌≡◌, List, [], ◌∷◌, ltb, length, Result, Ok, Err}
+use Rattle.layout.specs.declared.refusal.Refusal.{Refusal}
+use Rattle.write.specs.declared.Image.{Image}
+use Rattle.model.specs.Inserted.{Inserted}
 use Rattle.layout.specs.Limits.{deepest, most_filter}
 use Rattle.layout.specs.Sizes.{chunk_size, header_size}
 use Rattle.words.specs.Choice.{pick}
 use Rattle.key_hash.specs.Hash.{rule_of}
 use Rattle.layout.specs.declared.refusal.Refusal.TheVariants.{TableUnknown, TooManyFilterWords, EmptyKey, ImageTooLong}
 use Rattle.model.specs.Table.{State, rows_of}
-use Rattle.model.specs.declared.Inserted.{Inserted}
-use Rattle.model.specs.declared.Added.{Added}
-use Rattle.model.specs.declared.Counted.{Counted}
 use Rattle.model.specs.Builder.{Builder, fresh, free_standing, new_table, insert_value, insert_table, item_count}
 use Rattle.image.specs.Image.{image_of}
 use Rattle.build_memory.specs.Memory.{Memory}
 use Rattle.build_tables.specs.Answer.{added_number, added_table, counted_number, counted_items}
 use Rattle.build_values.specs.Answer.{inserted_number, inserted_kind, inserted_at}
-use Rattle.write.specs.declared.Written.{Written}
 use Rattle.write.specs.Write.{has_empty, too_long, laid_by, written_number}
 use Rattle.answers.specs.Manner.{form_of}
 use Rattle.answers_build.specs.Writing.{written_image}
@@ -30,26 +29,26 @@ unfoldable pub image_in : (ℕ → ℕ) → ℕ → Builder → ℕ → List ℕ
 image_in rule filter b t = image_of rule filter (tables_of b) t
 
 -- a write: 24, 33, 30 anywhere in the table or those nested in it, 31; else the root pointer and the image's length
-unfoldable pub write : (ℕ → ℕ) → ℕ → Builder → ℕ → ℕ → Written
+unfoldable pub write : (ℕ → ℕ) → ℕ → Builder → ℕ → ℕ → Result Image Refusal
 write rule filter b t room =
     pick (free_standing b t)
-    (pick (ltb most_filter filter) (Written.Refused TooManyFilterWords)
-    (pick (has_empty (tables_of b) deepest t) (Written.Refused EmptyKey)
-    (pick (too_long room (length (image_in rule filter b t))) (Written.Refused ImageTooLong)
-    (Written.Image header_size (header_size + chunk_size filter (length (tables_of b t).members)) (length (image_in rule filter b t))))))
-    (Written.Refused TableUnknown)
+    (pick (ltb most_filter filter) (Err TooManyFilterWords)
+    (pick (has_empty (tables_of b) deepest t) (Err EmptyKey)
+    (pick (too_long room (length (image_in rule filter b t))) (Err ImageTooLong)
+    (Ok (record { start = header_size; end = header_size + chunk_size filter (length (tables_of b t).members); length = length (image_in rule filter b t) })))))
+    (Err TableUnknown)
 
 -- each answer as numbers, in the order of its struct
-unfoldable pub added : Added → List ℕ
+unfoldable pub added : Result ℕ Refusal → List ℕ
 added a = added_number a ∷ added_table a ∷ []
 
 unfoldable pub inserted : Inserted → List ℕ
 inserted a = inserted_number a ∷ inserted_kind a ∷ inserted_at a ∷ []
 
-unfoldable pub counted : Counted → List ℕ
+unfoldable pub counted : Result ℕ Refusal → List ℕ
 counted a = counted_number a ∷ counted_items a ∷ []
 
-unfoldable pub written : Written → List ℕ
+unfoldable pub written : Result Image Refusal → List ℕ
 written a = written_number a ∷ (written_image a).0 ∷ (written_image a).1 ∷ (written_image a).2 ∷ []
 
 -- what a call answers

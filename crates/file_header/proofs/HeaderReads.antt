@@ -1,4 +1,6 @@
 -- Reading and laying a header in words: the order of refusals, when reading succeeds, and that what is laid is read.
+use Rattle.file_header.specs.declared.header.Header.{Header}
+use Rattle.std.specs.Prelude.{Result, Ok, Err}
 use Prim.Native.Nat.{ℕ, ◌+◌, ◌^◌, ◌≤◌, ◌<◌}
 use native.Mathlib.Omega.{arith}
 use mathlib.Core.Path.{◌≡◌, refl, sym, ap, ◌∙◌}
@@ -15,8 +17,6 @@ use Rattle.words.proofs.FieldLaws.{length-spelled, field_put, field-before}
 use Rattle.layout.specs.declared.refusal.Refusal.{Refusal}
 use Rattle.layout.specs.declared.refusal.Refusal.TheVariants.{FileTooLong, HeaderTooShort, SignatureUnknown, VersionUnknown}
 use Rattle.file_header.specs.declared.header.ByteOrder.{ByteOrder}
-use Rattle.file_header.specs.declared.header.Headed.{Headed}
-use Rattle.file_header.specs.declared.header.HeaderLaid.{HeaderLaid}
 use Rattle.layout.specs.Limits.{longest_file}
 use Rattle.layout.specs.Sizes.{header_size}
 use Rattle.file_header.specs.Header.{signature, header_bytes, has_signature, versioned, read_header, header_laid, when_laid, with_header, Reads, ReadsExactly, LaidIsRead, LaidElsewhere}
@@ -66,23 +66,25 @@ module _ (size : ℕ) where
 -- ---- reading succeeds exactly where the header is whole
 
 module _ (file : List ℕ) (order : ByteOrder) (start end : ℕ) where
-  versioned_0 : (o : ByteOrder) → eqb (word_at file 8) 0 ≡ true → versioned file o ≡ Headed.Root o (word_at file 16) (word_at file 20)
+  versioned_0 : (o : ByteOrder) → eqb (word_at file 8) 0 ≡ true → versioned file o ≡ Ok (record { order = o; start = word_at file 16; end = word_at file 20 })
   unfolding versioned pick
   versioned_0 o v = simp v
 
-  versioned_19 : (o : ByteOrder) → eqb (word_at file 8) 0 ≡ false → versioned file o ≡ Headed.Refused VersionUnknown
+  versioned_19 : (o : ByteOrder) → eqb (word_at file 8) 0 ≡ false → versioned file o ≡ Err VersionUnknown
   unfolding versioned pick
   versioned_19 o v = simp v
 
-  version_is : (o : ByteOrder) (v : Bool) → eqb (word_at file 8) 0 ≡ v → versioned file o ≡ Headed.Root order start end
+  version_is : (o : ByteOrder) (v : Bool) → eqb (word_at file 8) 0 ≡ v → versioned file o ≡ Ok (record { order = order; start = start; end = end })
       → (o ≡ order) × (word_at file 8 ≡ 0) × (word_at file 16 ≡ start) × (word_at file 20 ≡ end)
   version_is o true v e =
-      let f : Headed.Root o (word_at file 16) (word_at file 20) ≡ Headed.Root order start end = sym (versioned_0 o v) ∙ e in (cc, eqb-true _ _ v, cc, cc)
+      let f : ◌≡◌ {A = Result Header Refusal} (Ok (record { order = o; start = word_at file 16; end = word_at file 20 })) (Ok (record { order = order; start = start; end = end })) = sym (versioned_0 o v) ∙ e in
+      let g : ◌≡◌ {A = Header} (record { order = o; start = word_at file 16; end = word_at file 20 }) (record { order = order; start = start; end = end }) = cc in
+      (ap (λ (h : Header). h.order) g, eqb-true _ _ v, ap (λ (h : Header). h.start) g, ap (λ (h : Header). h.end) g)
   version_is o false v e =
-      let f : Headed.Refused VersionUnknown ≡ Headed.Root order start end = sym (versioned_19 o v) ∙ e in
+      let f : ◌≡◌ {A = Result Header Refusal} (Err VersionUnknown) (Ok (record { order = order; start = start; end = end })) = sym (versioned_19 o v) ∙ e in
       let z : ◌≡◌ {A = ℕ} 0 1 = cc in absurd (omega arith)
 
-  whole : (o : ByteOrder) → length file ≤ longest_file → header_size ≤ length file → has_signature file o ≡ true → read_header file ≡ Headed.Root order start end
+  whole : (o : ByteOrder) → length file ≤ longest_file → header_size ≤ length file → has_signature file o ≡ true → read_header file ≡ Ok (record { order = order; start = start; end = end })
       → Reads file order start end
   whole o short long s e =
       let v = version_is o (eqb (word_at file 8) 0) refl (sym (by_order file short long o s) ∙ e) in
@@ -95,11 +97,11 @@ module _ (file : List ℕ) (order : ByteOrder) (start end : ℕ) where
         ends = v.3;
       }
 
-  refused : (why : Refusal) → read_header file ≡ Headed.Refused why → read_header file ≡ Headed.Root order start end → Reads file order start end
+  refused : (why : Refusal) → read_header file ≡ Err why → read_header file ≡ Ok (record { order = order; start = start; end = end }) → Reads file order start end
   refused why r e = let z : ◌≡◌ {A = ℕ} 0 1 = cc in absurd (omega arith)
 
   by_tests : (a b l g : Bool) → ltb longest_file (length file) ≡ a → ltb (length file) header_size ≡ b → has_signature file ByteOrder.Little ≡ l
-      → has_signature file ByteOrder.Big ≡ g → read_header file ≡ Headed.Root order start end → Reads file order start end
+      → has_signature file ByteOrder.Big ≡ g → read_header file ≡ Ok (record { order = order; start = start; end = end }) → Reads file order start end
   unfolding read_header pick
   by_tests true b l g long _ _ _ e = refused FileTooLong (simp long) e
   by_tests false true l g fits short _ _ e = refused HeaderTooShort (simp (fits, short)) e
@@ -107,10 +109,10 @@ module _ (file : List ℕ) (order : ByteOrder) (start end : ℕ) where
   by_tests false false false true fits long _ s e = whole ByteOrder.Big (ltb-false _ _ fits) (ltb-false _ _ long) s e
   by_tests false false false false fits long l g e = refused SignatureUnknown (simp (fits, long, l, g)) e
 
-  back : Reads file order start end → read_header file ≡ Headed.Root order start end
+  back : Reads file order start end → read_header file ≡ Ok (record { order = order; start = start; end = end })
   back r =
       by_order file r.short r.long order r.signed ∙ versioned_0 order (eq-eqb _ _ r.version)
-      ∙ ap (λ (s : ℕ). Headed.Root order s (word_at file 20)) r.starts ∙ ap (λ (s : ℕ). Headed.Root order start s) r.ends
+      ∙ ap (λ (s : ℕ). Ok (record { order = order; start = s; end = word_at file 20 })) r.starts ∙ ap (λ (s : ℕ). Ok (record { order = order; start = start; end = s })) r.ends
 
 pub reads_exactly : ReadsExactly
 reads_exactly file order start end = (by_tests file order start end _ _ _ _ refl refl refl refl, back file order start end)
@@ -121,11 +123,11 @@ pub laid_elsewhere : LaidElsewhere
 unfolding with_header when_laid
 laid_elsewhere target order start end = by_answer (header_laid (length target))
   where
-    by_answer : (a : HeaderLaid)
+    by_answer : (a : Result (Unit {0}) Refusal)
         → (length (when_laid a (put_at target 0 (header_bytes order start end)) target) ≡ length target)
         × (drop header_size (when_laid a (put_at target 0 (header_bytes order start end)) target) ≡ drop header_size target)
-    by_answer HeaderLaid.Laid = (length-put target 0 (header_bytes order start end), drop_after target 0 (header_bytes order start end) header_size (omega (arith, length_header order start end)))
-    by_answer (HeaderLaid.Refused why) = (refl, refl)
+    by_answer (Ok _) = (length-put target 0 (header_bytes order start end), drop_after target 0 (header_bytes order start end) header_size (omega (arith, length_header order start end)))
+    by_answer (Err why) = (refl, refl)
 
 -- the header's five stores: signature, version, options, start, end
 stores : (l : List ℕ) (order : ByteOrder) (start end : ℕ)
@@ -199,7 +201,7 @@ module _ (l : List ℕ) (order : ByteOrder) (start end : ℕ) (long : header_siz
       field_put 4 f4 20 end
       (omega (arith, length-put f3 16 (spelled 4 start), length-put f2 12 (spelled 4 0), length-put f1 8 (spelled 4 0), length-put l 0 (signature order))) h
 
-  read_back : length l ≤ longest_file → start < 2 ^ 32 → end < 2 ^ 32 → read_header (put_at l 0 (header_bytes order start end)) ≡ Headed.Root order start end
+  read_back : length l ≤ longest_file → start < 2 ^ 32 → end < 2 ^ 32 → read_header (put_at l 0 (header_bytes order start end)) ≡ Ok (record { order = order; start = start; end = end })
   unfolding has_signature f5 f4 f3 f2 f1
   read_back short s e =
       let whole : put_at l 0 (header_bytes order start end) ≡ f5 = stores l order start end in
@@ -212,17 +214,17 @@ module _ (l : List ℕ) (order : ByteOrder) (start end : ℕ) (long : header_siz
         ends = ap (λ (x : List ℕ). word_at x 20) whole ∙ end_is e;
       })
 
-by_tests_of : (size : ℕ) (a b : Bool) → ltb longest_file size ≡ a → ltb size header_size ≡ b → header_laid size ≡ HeaderLaid.Laid
+by_tests_of : (size : ℕ) (a b : Bool) → ltb longest_file size ≡ a → ltb size header_size ≡ b → header_laid size ≡ Ok tt
     → (size ≤ longest_file) × (header_size ≤ size)
 unfolding header_laid pick
 by_tests_of size true b long _ e =
-    let f : HeaderLaid.Refused FileTooLong ≡ HeaderLaid.Laid = sym (simp long) ∙ e in let z : ◌≡◌ {A = ℕ} 0 1 = cc in absurd (omega arith)
+    let f : ◌≡◌ {A = Result (Unit {0}) Refusal} (Err FileTooLong) (Ok tt) = sym (simp long) ∙ e in let z : ◌≡◌ {A = ℕ} 0 1 = cc in absurd (omega arith)
 by_tests_of size false true fits short e =
-    let f : HeaderLaid.Refused HeaderTooShort ≡ HeaderLaid.Laid = sym (simp (fits, short)) ∙ e in let z : ◌≡◌ {A = ℕ} 0 1 = cc in absurd (omega arith)
+    let f : ◌≡◌ {A = Result (Unit {0}) Refusal} (Err HeaderTooShort) (Ok tt) = sym (simp (fits, short)) ∙ e in let z : ◌≡◌ {A = ℕ} 0 1 = cc in absurd (omega arith)
 by_tests_of size false false fits long e = (ltb-false _ _ fits, ltb-false _ _ long)
 
 -- a success has room
-laid_room : (size : ℕ) → header_laid size ≡ HeaderLaid.Laid → (size ≤ longest_file) × (header_size ≤ size)
+laid_room : (size : ℕ) → header_laid size ≡ Ok tt → (size ≤ longest_file) × (header_size ≤ size)
 laid_room size e = by_tests_of size (ltb longest_file size) (ltb size header_size) refl refl e
 
 pub laid_is_read : LaidIsRead

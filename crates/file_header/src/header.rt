@@ -24,43 +24,36 @@ pub enum ByteOrder {
 
 // What a header says: the byte order of the values, and the pointer to the root table, which is not judged here.
 #[derive(Clone, Copy)]
-pub enum Headed {
-    Root {
-        order: ByteOrder,
-        start: u32,
-        end: u32,
-    },
-    Refused(Refusal),
-}
-
-#[derive(Clone, Copy)]
-pub enum HeaderLaid {
-    Laid,
-    Refused(Refusal),
+pub struct Header {
+    pub order: ByteOrder,
+    pub start: u32,
+    pub end: u32,
 }
 
 // A header whose signature is known: 19, or the root pointer.
-fn versioned_header(file: &[u8], order: ByteOrder) -> Headed
+#[tactic(auto, unfolding(crate::specs::Header::versioned, words::specs::Choice::pick))]
+fn versioned_header(file: &[u8], order: ByteOrder) -> Result<Header, Refusal>
     requires { header_size ≤ length file.now }
     ensures { result ≡ versioned file.now order }
 {
     if word_at(file, 8) != 0 {
-        return Headed::Refused(Refusal::VersionUnknown);
+        return Err(Refusal::VersionUnknown);
     }
     let start = word_at(file, 16);
     let end = word_at(file, 20);
-    Headed::Root { order, start, end }
+    Ok(Header { order, start, end })
 }
 
 // gvdb-rs: Header::try_from_bytes. The header of a file: 1, 16, 17, 19, or what it says.
-pub fn read_header(file: &[u8]) -> Headed
+#[tactic(auto, unfolding(crate::specs::Header::read_header, words::specs::Choice::pick))]
+pub fn read_header(file: &[u8]) -> Result<Header, Refusal>
     ensures { result ≡ read_header file.now }
 {
     if LONGEST_FILE < file.len() {
-        return Headed::Refused(Refusal::FileTooLong);
+        return Err(Refusal::FileTooLong);
     }
     if file.len() < HEADER_SIZE {
-        return Headed::Refused(Refusal::HeaderTooShort);
+        return Err(Refusal::HeaderTooShort);
     }
     let found = long_at(file, 0);
     if found == LITTLE {
@@ -69,7 +62,7 @@ pub fn read_header(file: &[u8]) -> Headed
     if found == BIG {
         return versioned_header(file, ByteOrder::Big);
     }
-    Headed::Refused(Refusal::SignatureUnknown)
+    Err(Refusal::SignatureUnknown)
 }
 
 // Lays the signature of an order.
@@ -101,17 +94,18 @@ fn lay_root(target: &mut [u8], start: u32, end: u32)
 }
 
 // gvdb-rs: Header::new. Lays the header of a file into its first 24 bytes: 1, 16. A refusal writes nothing.
-pub fn lay_header(target: &mut [u8], order: ByteOrder, start: u32, end: u32) -> HeaderLaid
+#[tactic(auto, unfolding(crate::specs::Header::header_laid, words::specs::Choice::pick))]
+pub fn lay_header(target: &mut [u8], order: ByteOrder, start: u32, end: u32) -> Result<(), Refusal>
     ensures said { result ≡ header_laid (length target.old) }
     ensures wrote { target.new ≡ with_header target.old order start end }
 {
     if LONGEST_FILE < target.len() {
-        return HeaderLaid::Refused(Refusal::FileTooLong);
+        return Err(Refusal::FileTooLong);
     }
     if target.len() < HEADER_SIZE {
-        return HeaderLaid::Refused(Refusal::HeaderTooShort);
+        return Err(Refusal::HeaderTooShort);
     }
     lay_signature(target, order);
     lay_root(target, start, end);
-    HeaderLaid::Laid
+    Ok(())
 }

@@ -4,7 +4,7 @@ ghost use Rattle.file_header.specs.Answer.{header_laid_number};
 ghost use Rattle.file_header.specs.Header.{read_header, header_laid, with_header};
 ghost use Rattle.answers.specs.Header.{abi, order_of, headed_answer};
 
-use answers::header::{GvdbHeader, headed_of, header_laid_of, order_of};
+use answers::header::{GvdbHeader, header_laid_of, order_of};
 
 // Goes up by one with each change of a function or a struct for C.
 const ABI: u32 = 7;
@@ -21,7 +21,7 @@ pub extern "C" fn gvdb_abi() -> u32
 pub extern "C" fn gvdb_read_header(file: &[u8]) -> GvdbHeader
     ensures { result ≡ headed_answer (read_header file.now) }
 {
-    headed_of(file_header::header::read_header(file))
+    file_header::header::read_header(file).into()
 }
 
 // Lays a header into the first 24 bytes. A refusal writes nothing.

@@ -12,8 +12,7 @@ ghost use Rattle.answers.specs.Reading.{opened_answer, looked_answer, layered_an
 
 use answers::manner::manner_of;
 use answers::reading::{
-    GvdbChild, GvdbKey, GvdbLayered, GvdbOpened, GvdbPlace, GvdbValue, childed_of, layered_of,
-    listed_of, looked_of, opened_of, valued_of,
+    GvdbChild, GvdbKey, GvdbLayered, GvdbOpened, GvdbPlace, GvdbValue, opened_of,
 };
 use read_listing::listing::Cursor;
 
@@ -40,20 +39,19 @@ pub extern "C" fn gvdb_open(file: &[u8], start: u32, end: u32) -> GvdbOpened
 pub extern "C" fn gvdb_get(file: &[u8], start: u32, end: u32, key: &[u8], manner: u32) -> GvdbPlace
     ensures { result ≡ looked_answer (lookup_value (manner_of (manner_named manner)) file.now start end key.now) }
 {
-    let named = manner_of(manner);
-    looked_of(read::lookup::lookup_value(file, start, end, key, named))
+    read::lookup::lookup_value(file, start, end, key, manner_of(manner)).into()
 }
 
 // Looks up the value of a key in the owner's table, and in the district's where the owner's answers 12.
 #[unsafe(no_mangle)]
-pub extern "C" fn gvdb_get_layered<'a, 'k>(
-    owner: &'a [u8],
+pub extern "C" fn gvdb_get_layered(
+    owner: &[u8],
     ostart: u32,
     oend: u32,
-    district: &'a [u8],
+    district: &[u8],
     dstart: u32,
     dend: u32,
-    key: &'k [u8],
+    key: &[u8],
     omanner: u32,
     dmanner: u32,
 ) -> GvdbLayered
@@ -61,9 +59,10 @@ pub extern "C" fn gvdb_get_layered<'a, 'k>(
 {
     let above = manner_of(omanner);
     let below = manner_of(dmanner);
-    layered_of(read::layered::lookup_layered(
+    read::layered::lookup_layered(
         owner, ostart, oend, district, dstart, dend, key, above, below,
-    ))
+    )
+    .into()
 }
 
 // gvdb-rs: get_hash_table.
@@ -78,8 +77,7 @@ pub extern "C" fn gvdb_get_table(
 ) -> GvdbPlace
     ensures { result ≡ looked_answer (lookup_table (manner_of (manner_named manner)) file.now start end key.now) }
 {
-    let named = manner_of(manner);
-    looked_of(read::lookup::lookup_table(file, start, end, key, named))
+    read::lookup::lookup_table(file, start, end, key, manner_of(manner)).into()
 }
 
 // gvdb-rs: Keys::next.
@@ -96,7 +94,7 @@ pub extern "C" fn gvdb_next_key(
     ensures wrote { out.new ≡ written (key_at file.now start end position) out.old }
 {
     let cursor = Cursor { at: position };
-    listed_of(cursor.next_key(file, start, end, out))
+    cursor.next_key(file, start, end, out).into()
 }
 
 // gvdb-rs: Values::next.
@@ -106,7 +104,7 @@ pub extern "C" fn gvdb_next_value(file: &[u8], start: u32, end: u32, position: u
     ensures { result ≡ valued_answer (value_at file.now start end position) }
 {
     let cursor = Cursor { at: position };
-    valued_of(cursor.next_value(file, start, end))
+    cursor.next_value(file, start, end).into()
 }
 
 // The child at a position of the container of a key, in stored order.
@@ -123,5 +121,5 @@ pub extern "C" fn gvdb_next_child(
 {
     let cursor = Cursor { at: position };
     let named = manner_of(manner);
-    childed_of(cursor.next_child(file, start, end, key, named))
+    cursor.next_child(file, start, end, key, named).into()
 }

@@ -6,7 +6,7 @@ ghost use Rattle.answers.specs.Manner.{form_of};
 ghost use Rattle.answers_build.specs.Writing.{written_answer};
 
 use answers::manner::form_of;
-use answers_build::writing::{GvdbImage, written_of};
+use answers_build::writing::GvdbImage;
 
 // gvdb-rs: write_to_vec_with_table.
 // The image of a table, laid into the front of `image`, with `filter` words in every table of it. The builder stays as it was (its link
@@ -24,6 +24,5 @@ pub extern "C" fn gvdb_write(
     ensures kept { words.new ≡ words.old }
     ensures wrote { image.new ≡ image_after (rule_of (form_of manner)) filter words.old arena.now table image.old }
 {
-    let form = form_of(manner);
-    written_of(write::write::write(words, arena, table, image, form, filter))
+    write::write::write(words, arena, table, image, form_of(manner), filter).into()
 }

@@ -40,14 +40,14 @@ pub extern "C" fn gvdb_get(file: &[u8], start: u32, end: u32, key: &[u8], manner
 
 // Looks up the value of a key in the owner's table, and in the district's where the owner's answers 12.
 #[unsafe(no_mangle)]
-pub extern "C" fn gvdb_get_layered<'a, 'k>(
-    owner: &'a [u8],
+pub extern "C" fn gvdb_get_layered(
+    owner: &[u8],
     ostart: u32,
     oend: u32,
-    district: &'a [u8],
+    district: &[u8],
     dstart: u32,
     dend: u32,
-    key: &'k [u8],
+    key: &[u8],
     omanner: u32,
     dmanner: u32,
 ) -> GvdbLayered

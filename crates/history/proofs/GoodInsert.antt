@@ -1,4 +1,6 @@
 -- An insert keeps memory good.
+use Rattle.std.specs.Prelude.{Ok, Err, Some, None}
+use Rattle.model.specs.Inserted.{Inserted}
 use Prim.Native.Nat.{ℕ, ◌+◌, ◌-◌, ◌≤◌, ◌<◌}
 use native.Mathlib.Omega.{arith}
 use native.Mathlib.Decide.{dec_lt}
@@ -15,7 +17,6 @@ use Rattle.key_order.specs.Prefix.{ends_past, next_end}
 use Rattle.key_order.proofs.PrefixLaws.{next_within, next_rises}
 use Rattle.layout.specs.declared.kind.Kind.{Kind}
 use Rattle.layout.specs.declared.refusal.Refusal.{Refusal}
-use Rattle.model.specs.declared.Inserted.{Inserted}
 use Rattle.build_memory.specs.Memory.{table_total, item_total, room_used, table_separator, item_kind, memory, Outcome, outcome}
 use Rattle.build_memory.specs.Find.{find_key}
 use Rattle.build_memory.specs.Item.{Stored, kind_of, replace_item}
@@ -38,9 +39,8 @@ take_all' : (k : List ℕ) → take (length k) k ≡ k
 take_all' k = take_all (length k) k (omega arith)
 
 abbrev pub accepted : Inserted → Bool
-accepted Inserted.New = true
-accepted (Inserted.Replaced kind) = true
-accepted (Inserted.Refused why) = false
+accepted (Ok _) = true
+accepted (Err why) = false
 
 -- ---- what a call leaves: good memory where it is accepted, the same memory where it is refused
 pub record After (g : ℕ → Table) (ws ar : List ℕ) (t : ℕ) (k : List ℕ) (c : Stored) (o : Outcome Inserted) : Type 0 where
@@ -74,7 +74,7 @@ module _ (g : ℕ → Table) (ws ar : List ℕ) (t : ℕ) (k : List ℕ) (G : �
   -- ---- a new item
   new_good : (parent from : ℕ) → Here parent from → Missing (item_total ws) (item_of ws ar) t k → Fits (table_total ws) → item_total ws + length (ends_past (table_separator ws t) k from) ≤ most_items
       → room_used ws + sum (ends_past (table_separator ws t) k from) + length c.value ≤ length ar
-      → After g ws ar t k c (outcome Inserted.New (added (containers t k (ends_past (table_separator ws t) k from) (memory ws ar) parent) t k c))
+      → After g ws ar t k c (outcome (Ok None) (added (containers t k (ends_past (table_separator ws t) k from) (memory ws ar) parent) t k c))
   unfolding added
   new_good parent from at missing fit few room =
       let l = containers t k (ends_past (table_separator ws t) k from) (memory ws ar) parent in
@@ -111,7 +111,7 @@ module _ (g : ℕ → Table) (ws ar : List ℕ) (t : ℕ) (k : List ℕ) (G : �
     unfolding item_of
     its_item room = old.old_item ws ar i c good.tidy there room
 
-    old_good : (was : Kind) → was ≡ kind_of (item_of ws ar i).kind → room_used ws + length c.value ≤ length ar → After g ws ar t k c (outcome (Inserted.Replaced was) (replace_item (memory ws ar) i c))
+    old_good : (was : Kind) → was ≡ kind_of (item_of ws ar i).kind → room_used ws + length c.value ≤ length ar → After g ws ar t k c (outcome (Ok (Some was)) (replace_item (memory ws ar) i c))
     old_good was kind_is room =
         let m = replace_item (memory ws ar) i c in
         let f = item_of ws ar in

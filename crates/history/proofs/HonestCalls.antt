@@ -1,4 +1,7 @@
 -- The insert of a value, a new table and the fresh start keep memory honest.
+use Rattle.std.specs.Prelude.{Result}
+use Rattle.layout.specs.declared.refusal.Refusal.{Refusal}
+use Rattle.model.specs.Inserted.{Inserted}
 use Prim.Native.Nat.{ℕ, ◌+◌, ◌≤◌, ◌<◌}
 use native.Mathlib.Omega.{arith}
 use native.Mathlib.Decide.{dec_lt}
@@ -13,8 +16,6 @@ use Rattle.words.specs.Store.{put_at}
 use Rattle.words.proofs.ChoiceLaws.{pick_with}
 use Rattle.words.proofs.StoreLaws.{length-put, get_put, get_before, get_after}
 use Rattle.text.specs.Utf8.{first_bad, is_utf8}
-use Rattle.model.specs.declared.Inserted.{Inserted}
-use Rattle.model.specs.declared.Added.{Added}
 use Rattle.layout.specs.Limits.{longest_key, most_tables}
 use Rattle.model.specs.Builder.{separator_of}
 use Rattle.layout.specs.Kind.{value_kind}
@@ -183,10 +184,10 @@ sep_domain (b ∷ []) h = by_test (leb b 127) refl
 sep_domain (b ∷ c ∷ more) h = omega arith
 
 -- a row of refusals of a new table
-record Stays (o : Outcome Added) : Type 0 where
+record Stays (o : Outcome (Result ℕ Refusal)) : Type 0 where
   pub honest : Honest o.after.words o.after.arena
 
-stays_by : (b : Bool) (o o' : Outcome Added) → (b ≡ true → Stays o) → (b ≡ false → Stays o') → Stays (pick b o o')
+stays_by : (b : Bool) (o o' : Outcome (Result ℕ Refusal)) → (b ≡ true → Stays o) → (b ≡ false → Stays o') → Stays (pick b o o')
 stays_by b o o' f g = pick_with Stays b o o' f g
 
 table_stays : (ws ar separator : List ℕ) → Honest ws ar → Stays (new_table ws ar separator)

@@ -1,4 +1,6 @@
 -- The insert of a table keeps memory honest.
+use Rattle.std.specs.Prelude.{Ok, Err, Some, None}
+use Rattle.model.specs.Inserted.{Inserted}
 use Prim.Native.Nat.{ℕ, zero, suc, ◌+◌, ◌≤◌, ◌<◌, ◌-◌}
 use native.Mathlib.Nat.{not-suc-le-zero}
 use native.Mathlib.Omega.{arith}
@@ -13,7 +15,6 @@ use Rattle.words.specs.Choice.{pick}
 use Rattle.words.proofs.ChoiceLaws.{pick_with}
 use Rattle.text.specs.Utf8.{first_bad, is_utf8}
 use Rattle.layout.specs.declared.refusal.Refusal.{Refusal}
-use Rattle.model.specs.declared.Inserted.{Inserted}
 use Rattle.layout.specs.Limits.{longest_key, deepest, most_tables}
 use Rattle.model.specs.Builder.{most}
 use Rattle.layout.specs.Kind.{table_kind}
@@ -108,9 +109,8 @@ by_case : (ws ar : List ℕ) (t : ℕ) (k : List ℕ) (G h : ℕ) (x : Outcome I
     → Nested ws ar t k G (outcome r (memory (when_accepted r (place_table x.after.words G h) x.after.words) x.after.arena)))
     → Nested ws ar t k G (outcome r (memory (when_accepted r (place_table x.after.words G h) x.after.words) x.after.arena))
 unfolding when_accepted
-by_case ws ar t k G h x Inserted.New f g = f refl refl
-by_case ws ar t k G h x (Inserted.Replaced kind) f g = f refl refl
-by_case ws ar t k G h x (Inserted.Refused why) f g = g refl refl
+by_case ws ar t k G h x (Ok _) f g = f refl refl
+by_case ws ar t k G h x (Err why) f g = g refl refl
 
 module _ (ws ar : List ℕ) (honest : Honest ws ar) (t : ℕ) (k : List ℕ) (G : ℕ) (known : t < table_total ws) (free : table_placed ws t ≡ 0)
     (guest_known : G < table_total ws) (guest-free : table_placed ws G ≡ 0) (two : t ≡ G → ⊥)

@@ -1,4 +1,6 @@
 -- On honest memory each call answers what the model answers, and the memory after means the model's builder after.
+use Rattle.std.specs.Prelude.{Ok, Err, Result}
+use Rattle.model.specs.Inserted.{Inserted}
 use Prim.Native.Nat.{ℕ, zero, suc, ◌≤◌, ◌<◌}
 use native.Mathlib.Numerals.{add-one}
 use native.Mathlib.Omega.{arith}
@@ -8,7 +10,6 @@ use borrow.Author.Tests.{eq-eqb, ltb-true, ltb-false, leb-false}
 use lib.Dec.{eqb, ltb, leb}
 use Rattle.text.specs.Utf8.{first_bad, is_utf8}
 use Rattle.layout.specs.declared.refusal.Refusal.{Refusal}
-use Rattle.model.specs.declared.Inserted.{Inserted}
 use Rattle.layout.specs.Limits.{longest_key, most_tables}
 use Rattle.model.specs.Builder.{separator_of}
 use Rattle.layout.specs.Kind.{value_kind}
@@ -22,11 +23,9 @@ use lib.ListN.{length, length-append}
 use Rattle.words.specs.Choice.{pick}
 use Rattle.words.proofs.ChoiceLaws.{pick_true}
 use Rattle.layout.specs.declared.refusal.Refusal.TheVariants.{TableUnknown, KeyNotUtf8, KeyTooLong, SeparatorOutside, TooManyTables}
-use Rattle.model.specs.declared.Counted.{Counted}
-use Rattle.model.specs.declared.Added.{Added}
 use Rattle.model.specs.Table.{Content, Entry, entry_at, members_below}
 use Rattle.model.specs.Builder as told
-use Rattle.model.specs.Builder.{Standing, standing_at, Result, result, put}
+use Rattle.model.specs.Builder.{Standing, standing_at, Reply, result, put}
 use Rattle.build_tables.specs.Table as tables
 use Rattle.build_memory.specs.Meaning.{entry_of, standing_of, listed, meaning}
 use Rattle.history.specs.Items.{item_of, table_of}
@@ -59,7 +58,7 @@ free_standing_same ws ar t = by_field (ltb t (table_total ws)) refl ∙ ap (λ (
         (sym (standing_placed ws t) ∙ ap (λ (s : Standing). not s.placed) (sym (meant_standing ws ar t (ltb-true t (table_total ws) q))))
     by_field false q = ap (λ (b : Bool). b && eqb (table_placed ws t) 0) q ∙ sym (ap (λ (b : Bool). b && not (standing_at (meaning ws ar) t).placed) q)
 
-pub keyed_alike : (ws ar k : List ℕ) (o : Outcome Inserted) (r : Result Inserted) → (is_utf8 k ≡ true → length k ≤ longest_key → Alike o r)
+pub keyed_alike : (ws ar k : List ℕ) (o : Outcome Inserted) (r : Reply Inserted) → (is_utf8 k ≡ true → length k ≤ longest_key → Alike o r)
     → Alike (keyed ws ar k o) (told.keyed (meaning ws ar) k r)
 unfolding keyed told.keyed
 keyed_alike ws ar k o r f =
@@ -121,8 +120,8 @@ pub count_alike : (ws ar : List ℕ) → Honest ws ar → (t : ℕ) → tables.i
 unfolding tables.item_count told.item_count meaning
 count_alike ws ar honest t =
     pick_true _ _ (honest_valid ws ar honest)
-    ∙ ap (λ (n : ℕ). pick (ltb t n) (Counted.Items (tables.count_of ws t (item_total ws))) (Counted.Refused TableUnknown)) (sym (tables_count ws))
-    ∙ ap (λ (n : ℕ). pick (ltb t (length (tables_of ws))) (Counted.Items n) (Counted.Refused TableUnknown))
+    ∙ ap (λ (n : ℕ). pick (ltb t n) (Ok (tables.count_of ws t (item_total ws))) (Err TableUnknown)) (sym (tables_count ws))
+    ∙ ap (λ (n : ℕ). pick (ltb t (length (tables_of ws))) (Ok n) (Err TableUnknown))
     (members_count ws ar t (item_total ws) (omega arith) ∙ ap (λ (n : ℕ). length (members_below (items_of ws ar) t n)) (sym (items_count ws ar)))
 
 -- ---- a new table
@@ -161,17 +160,17 @@ module _ (ws ar : List ℕ) (sep : ℕ) (honest : Honest ws ar) (few : table_tot
   unfolding meaning
   meaning-added = builder_same refl (kept_low ws ar sep honest few domain 4 (omega arith) (λ (e : 4 ≡ 2). omega arith)) tables-added items_stay
 
-alike_not_added : (why : Refusal) (ws ar : List ℕ) → Alike (not_added why ws ar) (result (Added.Refused why) (meaning ws ar))
+alike_not_added : (why : Refusal) (ws ar : List ℕ) → Alike (not_added why ws ar) (result (Err why) (meaning ws ar))
 alike_not_added why ws ar = record { answer = refl; after = refl }
 
 pub table_alike : (ws ar separator : List ℕ) → Honest ws ar → Alike (new_table ws ar separator) (told.new_table (meaning ws ar) separator)
 unfolding new_table add_table told.new_table
 table_alike ws ar separator honest =
-    subst (λ (o : Outcome Added). Alike o (told.new_table (meaning ws ar) separator)) (sym (pick_true _ _ (honest_valid ws ar honest)))
+    subst (λ (o : Outcome (Result ℕ Refusal)). Alike o (told.new_table (meaning ws ar) separator)) (sym (pick_true _ _ (honest_valid ws ar honest)))
     (alike_pick (eqb (separator_of separator) 0) _ _ _ _ (λ a. alike_not_added SeparatorOutside ws ar)
     (λ a. subst (λ (n : ℕ). Alike (add_table ws ar (separator_of separator))
-    (pick (leb most_tables n) (result (Added.Refused TooManyTables) (meaning ws ar))
-    (result (Added.Table n) (builder (meaning ws ar).room (meaning ws ar).used
+    (pick (leb most_tables n) (result (Err TooManyTables) (meaning ws ar))
+    (result (Ok n) (builder (meaning ws ar).room (meaning ws ar).used
     ((meaning ws ar).tables ++ (record { separator = separator_of separator; placed = false } ∷ [])) (meaning ws ar).items)))) (sym (meant_count ws ar))
     (alike_pick (leb most_tables (table_total ws)) _ _ _ _ (λ b. alike_not_added TooManyTables ws ar)
     (λ b. record {

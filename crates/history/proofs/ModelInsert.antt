@@ -1,4 +1,7 @@
 -- An insert past its key's tests: what it answers and leaves is what the model's put does.
+use Rattle.layout.specs.declared.kind.Kind.{Kind}
+use Rattle.std.specs.Prelude.{Ok, Some, None, Result}
+use Rattle.model.specs.Inserted.{Inserted}
 use Prim.Native.Nat.{ℕ, ◌+◌, ◌-◌, ◌≤◌, ◌<◌}
 use native.Mathlib.Omega.{arith}
 use native.Mathlib.Decide.{dec_lt}
@@ -10,7 +13,6 @@ use Rattle.words.specs.Store.{part}
 use Rattle.text.specs.Utf8.{is_utf8}
 use Rattle.key_order.specs.Prefix.{ends_past, next_end}
 use Rattle.layout.specs.declared.refusal.Refusal.{Refusal}
-use Rattle.model.specs.declared.Inserted.{Inserted}
 use Rattle.layout.specs.Limits.{longest_key, most_items}
 use Rattle.build_memory.specs.Memory.{table_total, item_total, room_used, table_separator, item_table, item_parent, item_kind, value_start, value_size, item_guest, key_of, memory, Outcome, outcome}
 use Rattle.build_memory.specs.Find.{find_key}
@@ -32,7 +34,7 @@ use Rattle.model.specs.Table as model
 use Rattle.model.specs.Walk as seen
 use Rattle.model.specs.Walk.{is_there, entry, put_key, Walked, walk, key_room}
 use Rattle.model.specs.Builder as told
-use Rattle.model.specs.Builder.{Builder, Standing, no_standing, standing_at, Result, result, with_items, news, used_after, counted, at_walked, put}
+use Rattle.model.specs.Builder.{Builder, Standing, no_standing, standing_at, Reply, result, with_items, news, used_after, counted, at_walked, put}
 use Rattle.build_memory.specs.Meaning.{standing_of, meaning}
 use Rattle.history.specs.Items.{item, item_of, Table}
 use Rattle.history.specs.Honest.{Good}
@@ -46,12 +48,16 @@ use Rattle.history.proofs.ModelSearch.{find_same, there_same}
 use Rattle.history.proofs.ModelWalk as way
 use Rattle.history.proofs.ModelSteps.{kind_content, extended_entries, Down, way_down}
 
+-- the answer of an insert that replaced an item
+abbrev told_kind : Kind → Inserted
+told_kind kind = Ok (Some kind)
+
 -- what a call leaves is what the model's leaves
-pub record Alike {A : Type 0} (o : Outcome A) (r : Result A) : Type 0 where
+pub record Alike {A : Type 0} (o : Outcome A) (r : Reply A) : Type 0 where
   pub answer : o.answer ≡ r.answer
   pub after : meaning o.after.words o.after.arena ≡ r.after
 
-pub alike_pick : {A : Type 0} (b : Bool) (o o' : Outcome A) (r r' : Result A) → (b ≡ true → Alike o r) → (b ≡ false → Alike o' r') → Alike (pick b o o') (pick b r r')
+pub alike_pick : {A : Type 0} (b : Bool) (o o' : Outcome A) (r r' : Reply A) → (b ≡ true → Alike o r) → (b ≡ false → Alike o' r') → Alike (pick b o o') (pick b r r')
 unfolding pick
 alike_pick true o o' r r' f g = f refl
 alike_pick false o o' r r' f g = g refl
@@ -158,7 +164,7 @@ module _ (g : ℕ → Table) (ws ar : List ℕ) (t : ℕ) (k : List ℕ) (G : �
         ap (λ (l : List Entry). room_used ws + key_room l + size) (drop-append_seam items new)
         ∙ ap (λ (n : ℕ). room_used ws + n + size) (way.new_room sep k t C w.from on.above.within (length items) (above_of parent))
 
-    news_new : news m.items t k ≡ Inserted.New
+    news_new : news m.items t k ≡ Ok None
     unfolding news
     news_new =
         ap (λ (l : List Entry). news l t k) (meant-items ws ar)
@@ -192,7 +198,7 @@ module _ (g : ℕ → Table) (ws ar : List ℕ) (t : ℕ) (k : List ℕ) (G : �
     new_alike =
         subst (Alike (insert_new ws ar t k c w.from parent)) (sym (counted_is m t k size (items ++ new) (item_total ws + length ends) (room_used ws + sum ends + size) many cost))
         (alike_pick (ltb most_items (item_total ws + length ends)) _ _ _ _ (λ b. alike_refused TooManyItems ws ar)
-        (λ b. subst (λ (r : ℕ). Alike (pick (ltb (length ar) (room_used ws + sum ends + size)) (refused ArenaFull ws ar) (outcome Inserted.New (added (containers t k ends (memory ws ar) parent) t k c)))
+        (λ b. subst (λ (r : ℕ). Alike (pick (ltb (length ar) (room_used ws + sum ends + size)) (refused ArenaFull ws ar) (outcome (Ok None) (added (containers t k ends (memory ws ar) parent) t k c)))
         (pick (ltb r (room_used ws + sum ends + size)) (told.refused ArenaFull m) (result (news m.items t k) (with_items m (items ++ new) (room_used ws + sum ends + size))))) (sym (meant_sizes ws ar).1)
         (alike_pick (ltb (length ar) (room_used ws + sum ends + size)) _ _ _ _ (λ d. alike_refused ArenaFull ws ar)
         (λ d. record { answer = sym news_new; after = added_is (ltb-false most_items (item_total ws + length ends) b) (ltb-false (length ar) (room_used ws + sum ends + size) d) }))))
@@ -256,14 +262,14 @@ module _ (g : ℕ → Table) (ws ar : List ℕ) (t : ℕ) (k : List ℕ) (G : �
         ap (λ (l : List Entry). room_used ws + key_room l + size) (drop_of_length-le (set items i changed) e)
         ∙ (let z : room_used ws + 0 + size ≡ room_used ws + size = omega arith in z)
 
-    news_old : news m.items t k ≡ Inserted.Replaced (kind_of (item_kind ws i))
+    news_old : news m.items t k ≡ Ok (Some (kind_of (item_kind ws i)))
     unfolding news
     news_old =
         ap (λ (l : List Entry). news l t k) (meant-items ws ar)
         ∙ pick_true _ _ is_there_lem
-        ∙ ap (λ (n : ℕ). Inserted.Replaced (model.kind_of (entry_at items n).content)) find_is
-        ∙ ap (λ (e : Entry). Inserted.Replaced (model.kind_of e.content)) (item_at_lem ws ar i there)
-        ∙ ap Inserted.Replaced (held_kind ws ar i)
+        ∙ ap (λ (n : ℕ). told_kind (model.kind_of (entry_at items n).content)) find_is
+        ∙ ap (λ (e : Entry). told_kind (model.kind_of e.content)) (item_at_lem ws ar i there)
+        ∙ ap told_kind (held_kind ws ar i)
 
     written_is : room_used ws + size ≤ length ar
         → meaning (replace_item (memory ws ar) i c).words (replace_item (memory ws ar) i c).arena ≡ with_items m (set items i changed) (room_used ws + size)

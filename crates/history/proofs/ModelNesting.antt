@@ -1,4 +1,6 @@
 -- The insert of a table is the model's: a table placed is one standing set, and what is settled is alike.
+use Rattle.std.specs.Prelude.{Ok, Err, Some, None}
+use Rattle.model.specs.Inserted.{Inserted}
 use Prim.Native.Nat.{ℕ, suc, ◌+◌, ◌≤◌, ◌<◌, ◌-◌}
 use native.Mathlib.Numerals.{add-one}
 use native.Mathlib.Omega.{arith}
@@ -8,7 +10,6 @@ use mathlib.Core.Bool.{Bool, true, false, not}
 use borrow.Author.Tests.{eqb-false, lt-ltb}
 use lib.Dec.{eqb, ltb}
 use Rattle.text.specs.Utf8.{is_utf8}
-use Rattle.model.specs.declared.Inserted.{Inserted}
 use Rattle.layout.specs.Limits.{longest_key, deepest, most_tables}
 use Rattle.layout.specs.Kind.{value_kind, table_kind}
 use Rattle.build_memory.specs.Memory.{word, table_at, table_total, item_total, table_separator, table_placed, Outcome}
@@ -28,7 +29,7 @@ use Rattle.model.specs.Table.{Content, Entry, entry_at, is_container}
 use Rattle.model.specs.Walk.{Walked, walk, is_there, entry}
 use Rattle.model.specs.Walk as seen
 use Rattle.model.specs.Builder as told
-use Rattle.model.specs.Builder.{Builder, Standing, standing_at, Result, put, at_walked}
+use Rattle.model.specs.Builder.{Builder, Standing, standing_at, Reply, put, at_walked}
 use Rattle.build_memory.specs.Meaning.{entry_of, standing_of, listed, meaning}
 use Rattle.history.specs.Items.{Table, table_of}
 use Rattle.history.specs.Tidy.{Tidy}
@@ -105,19 +106,19 @@ module _ (w a : List ℕ) (tidy : Tidy w a) (G h : ℕ) (known : G < table_total
   meaning_placed =
       builder_same refl (before 4 (omega arith)) (tables_placed ∙ ap (set (tables_of w) G) (sym standing_is_told)) items_placed
 
-settled_by : (G h : ℕ) (o : Outcome Inserted) (r : Result Inserted) → Alike o r
+settled_by : (G h : ℕ) (o : Outcome Inserted) (r : Reply Inserted) → Alike o r
     → (accepted o.answer ≡ true → Tidy o.after.words o.after.arena × (G < table_total o.after.words)) → (x : Inserted) → o.answer ≡ x
     → meaning (when_accepted x (place_table o.after.words G h) o.after.words) o.after.arena ≡ told.when_accepted x (told.place r.after G) r.after
 unfolding when_accepted told.when_accepted
-settled_by G h o r same ok Inserted.New e =
+settled_by G h o r same ok (Ok None) e =
     let z = ok (ap accepted e) in
     meaning_placed o.after.words o.after.arena z.0 G h z.1 ∙ ap (λ (m : Builder). told.place m G) same.after
-settled_by G h o r same ok (Inserted.Replaced kind) e =
+settled_by G h o r same ok (Ok (Some kind)) e =
     let z = ok (ap accepted e) in
     meaning_placed o.after.words o.after.arena z.0 G h z.1 ∙ ap (λ (m : Builder). told.place m G) same.after
-settled_by G h o r same ok (Inserted.Refused why) e = same.after
+settled_by G h o r same ok (Err why) e = same.after
 
-pub settled_alike : (G h : ℕ) (o : Outcome Inserted) (r : Result Inserted) → Alike o r
+pub settled_alike : (G h : ℕ) (o : Outcome Inserted) (r : Reply Inserted) → Alike o r
     → (accepted o.answer ≡ true → Tidy o.after.words o.after.arena × (G < table_total o.after.words)) → Alike (settled G h o) (told.settled G r)
 unfolding settled told.settled
 settled_alike G h o r same ok =
@@ -256,7 +257,7 @@ nest_alike ws ar honest t k G =
     (λ b. alike_refused TableUnknown ws ar))
     (λ a. alike_refused TableUnknown ws ar))))
   where
-    rest : Bool → Result Inserted
+    rest : Bool → Reply Inserted
     rest b =
         pick b (pick (eqb t G) (told.refused TableInItself (meaning ws ar))
         (told.keyed (meaning ws ar) k (told.settled G (put (meaning ws ar) t k (Content.nested G) 0 (ltb deepest (suc (told.height (meaning ws ar) G)))))))

@@ -1,4 +1,5 @@
 -- A laid plan opens as a table of its items, and each item reads as laid.
+use Rattle.std.specs.Prelude.{Ok}
 use mathlib.Core.Path.{◌≡◌}
 use mathlib.Core.List.{List, [], ◌∷◌, ◌++◌}
 use Prim.Native.Nat.{ℕ, ◌+◌, ◌-◌, ◌*◌, ◌%◌, ◌/◌, ◌^◌, ◌≤◌, ◌<◌}
@@ -12,7 +13,6 @@ use Rattle.words.proofs.FieldLaws.{length-spelled}
 use Rattle.layout.specs.Limits.{longest_file}
 use Rattle.layout.specs.Table.{table_of, table_in, open_table}
 use Rattle.layout.specs.Item.{item_at}
-use Rattle.layout.specs.declared.table.Opened.{Opened}
 use Rattle.layout.proofs.AnswerLaws.{pointer_inside_is}
 use Rattle.layout.specs.Sizes.{chunk_size}
 use Rattle.image.specs.Plan.{Plan, word, first_word, record_bytes, plan_bytes}
@@ -21,7 +21,7 @@ use Rattle.image.specs.Fits.{PlanFits, opened_as, laid_item}
 use Rattle.image.proofs.LaidLaws.{holds_front, holds_next, holds_first}
 use Rattle.image.proofs.PlanLaws.{field-held, key_start, value_from, chunk_fits, offset_fits, read_mark, read_count, read_record, value_ends}
 
-table_laid : (at w n : ℕ) → table_of at (8 + 4 * w + 28 * n) w n ≡ Opened.Table (opened_as at w n)
+table_laid : (at w n : ℕ) → table_of at (8 + 4 * w + 28 * n) w n ≡ Ok (opened_as at w n)
 unfolding table_of pick opened_as
 table_laid at w n =
     let items : 8 + 4 * w + 28 * n - (8 + 4 * w + 4 * n) ≡ 24 * n = omega arith in
@@ -40,7 +40,7 @@ mark_shift w few = omega arith
 
 module _ (img : List ℕ) (p : Plan) (at : ℕ) (held : Holds img at (plan_bytes p at)) (short : length img ≤ longest_file) where
   -- the table opens with all its items
-  pub laid_opens : p.filter < 2 ^ 27 → at % 4 ≡ 0 → open_table img at (at + chunk_size p.filter p.count) ≡ Opened.Table (opened_as at p.filter p.count)
+  pub laid_opens : p.filter < 2 ^ 27 → at % 4 ≡ 0 → open_table img at (at + chunk_size p.filter p.count) ≡ Ok (opened_as at p.filter p.count)
   unfolding open_table table_in pick chunk_size
   laid_opens few even =
       let l : at + (8 + 4 * p.filter + 28 * p.count) ≤ length img = chunk_fits img p at held in

@@ -1,9 +1,11 @@
 -- Laws about the hash, for every rule for a byte.
-use Rattle.std.proofs.Common.{◌≡◌, ℕ, ◌+◌, ◌-◌, ◌*◌, ◌/◌, ◌%◌, ◌^◌, ◌<◌, ◌≤◌, ◌⊎◌, List, [], ◌∷◌, ◌++◌, length, get_or, take, drop, sym, refl, ap, ◌∙◌, inl, inr, mul-le-mul, add-one, arith, drop_of_length-le, take_all, drop-cons, take-add, le-ltb, lt-ltb}
-use native.Mathlib.Nat.{le-pred_of_lt, mod-add-mod, add-mod-mod, add-mul-mod_self_left}
+use Rattle.std.proofs.Common.{◌≡◌, ℕ, ◌+◌, ◌-◌, ◌*◌, ◌/◌, ◌%◌, ◌^◌, ◌<◌, ◌≤◌, ◌⊎◌, List, [], ◌∷◌, ◌++◌, length, get_or, take, drop, sym, refl, ap, ◌∙◌, inl, inr, add-one, arith, drop_of_length-le, take_all, drop-cons, take-add, le-ltb, lt-ltb}
+use native.Mathlib.Nat.{mod-add-mod, add-mod-mod, add-mul-mod_self_left}
 use Rattle.words.specs.Choice.{pick}
 use Rattle.key_hash.specs.declared.hash.Form.{Form}
 use Rattle.key_hash.specs.Hash.{hash_step, hash_from, hash_by, plain, signed, rule_of}
+use Rattle.words.proofs.StoreLaws.{chunk_get}
+use Rattle.std.specs.Simd.{first_chunks}
 use Rattle.words.proofs.ChoiceLaws.{lt_or_ge}
 
 -- a remainder may be taken of a factor, and of summands, first
@@ -33,27 +35,6 @@ module _ (rule : ℕ → ℕ) where
   pub hash_end : (key : List ℕ) (i h : ℕ) → length key ≤ i → hash_from rule h (drop i key) ≡ h
   unfolding hash_from
   hash_end key i h past = rw (drop_of_length-le key past)
-
-  -- no byte more, one, two and three
-  module _ (key : List ℕ) (h : ℕ) where
-    pub tail_none : length key ≡ 0 → h ≡ hash_from rule h key
-    tail_none n = sym (hash_end key 0 h (omega arith))
-
-    module _ {a : ℕ} (first : a ≡ hash_step rule h (get_or key 0 0)) where
-      pub tail-one : length key ≡ 1 → a ≡ hash_from rule h key
-      tail-one n = first ∙ sym (hash_turn key 0 h (omega arith) ∙ hash_end key 1 _ (omega arith))
-
-      module _ {b : ℕ} (second : b ≡ hash_step rule a (get_or key 1 0)) where
-        both_told : b ≡ hash_step rule (hash_step rule h (get_or key 0 0)) (get_or key 1 0)
-        both_told = second ∙ ap (λ (v : ℕ). hash_step rule v (get_or key 1 0)) first
-
-        pub tail-two : length key ≡ 2 → b ≡ hash_from rule h key
-        tail-two n = both_told ∙ sym (hash_turn key 0 h (omega arith) ∙ hash_turn key 1 _ (omega arith) ∙ hash_end key 2 _ (omega arith))
-
-        pub tail-three : {c : ℕ} → c ≡ hash_step rule b (get_or key 2 0) → length key ≡ 3 → c ≡ hash_from rule h key
-        tail-three third n =
-            third ∙ ap (λ (v : ℕ). hash_step rule v (get_or key 2 0)) both_told
-            ∙ sym (hash_turn key 0 h (omega arith) ∙ hash_turn key 1 _ (omega arith) ∙ hash_turn key 2 _ (omega arith) ∙ hash_end key 3 _ (omega arith))
 
   -- a stride is four steps: times 33^4, and what the four bytes count by their powers of 33
   pub four_steps : (h a b c d : ℕ)
@@ -119,9 +100,11 @@ module _ (rule : ℕ → ℕ) where
   unfolding hash_by
   hash_below a = hash_from_below a 5381 (omega arith)
 
--- a product of two numbers of 32 bits has 64
-pub product_fits : {a b : ℕ} → a < 2 ^ 32 → b < 2 ^ 32 → a * b < 2 ^ 64
-product_fits {a} {b} ha hb = omega (arith, mul-le-mul (le-pred_of_lt ha) (le-pred_of_lt hb))
+-- a byte of a chunk of four
+pub byte_of_chunk : (chunks : List (List ℕ)) (bytes : List ℕ) → chunks ≡ first_chunks 4 (length bytes / 4) bytes → (i j : ℕ) {at : ℕ} → i < length bytes / 4 → j < 4 → i * 4 + j ≡ at
+    → get_or (get_or chunks i []) j 0 ≡ get_or bytes at 0
+byte_of_chunk chunks bytes front i j fits less e =
+    ap (λ (l : List (List ℕ)). get_or (get_or l i []) j 0) front ∙ chunk_get 4 (length bytes / 4) bytes i j fits less ∙ ap (λ (m : ℕ). get_or bytes m 0) e
 
 -- what a byte counts under the signed rule, below 128 and from 128 on
 pub signed_low : (b : ℕ) → b < 128 → signed b ≡ b
@@ -131,9 +114,6 @@ signed_low b l = simp (lt-ltb b 128 l)
 pub signed_high : (b : ℕ) → 128 ≤ b → signed b ≡ b + 4294967040
 unfolding signed pick
 signed_high b l = simp (le-ltb b 128 l)
-
-pub counts_plain : {form : Form} (b : ℕ) {wide : ℕ} → form ≡ Form.Plain → wide ≡ b → wide ≡ rule_of form b
-counts_plain b e w = w ∙ sym (ap (λ (f : Form). rule_of f b) e)
 
 -- the code of the signed rule: 128 more, modulo 256, and 128 less
 pub counts_signed : {form : Form} (b : ℕ) {wide r : ℕ} → form ≡ Form.Signed → wide ≡ b → wide < 256 → r ≡ ((wide + 128) % 256 + 4294967168) % 2 ^ 32 → r ≡ rule_of form b

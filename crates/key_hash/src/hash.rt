@@ -14,14 +14,6 @@ pub enum Form {
 // The hash of no bytes.
 pub const HASH_START: u32 = 5381;
 
-// The low 32 bits of the product.
-pub fn wrapping_mul(a: u32, b: u32) -> u32
-    ensures { result ≡ (a * b) % 2 ^ 32 }
-{
-    let wide = (a as u64) * (b as u64);
-    (wide % 0x1_0000_0000) as u32
-}
-
 // What a byte counts under a form, as a number of 32 bits: the signed one turns the two halves of 256 round and takes 128 off, which is one instruction.
 pub fn byte_counts(b: u8, form: Form) -> u32
     ensures { (result ≡ rule_of form b) × (result < 2 ^ 32) }
@@ -29,7 +21,7 @@ pub fn byte_counts(b: u8, form: Form) -> u32
     let wide = byte_word(b);
     match form {
         Form::Plain => wide,
-        Form::Signed => std::num::wrapping_add_u32((wide + 128) % 256, 0xFFFF_FF80),
+        Form::Signed => ((wide + 128) % 256).wrapping_add(0xFFFF_FF80),
     }
 }
 
@@ -37,18 +29,18 @@ pub fn byte_counts(b: u8, form: Form) -> u32
 fn hash_four(value: u32, a: u32, b: u32, c: u32, d: u32) -> u32
     ensures { result ≡ hash_from plain value (a ∷ b ∷ c ∷ d ∷ []) }
 {
-    let scaled = wrapping_mul(value, 1_185_921);
-    let ab = std::num::wrapping_add_u32(wrapping_mul(a, 35_937), wrapping_mul(b, 1_089));
-    let cd = std::num::wrapping_add_u32(wrapping_mul(c, 33), d);
-    std::num::wrapping_add_u32(scaled, std::num::wrapping_add_u32(ab, cd))
+    let ab = a.wrapping_mul(35_937).wrapping_add(b.wrapping_mul(1_089));
+    let cd = c.wrapping_mul(33).wrapping_add(d);
+    value
+        .wrapping_mul(1_185_921)
+        .wrapping_add(ab.wrapping_add(cd))
 }
 
 // The hash after one byte more, under a form.
 fn hash_byte(value: u32, b: u8, form: Form) -> u32
     ensures { result ≡ hash_step (rule_of form) value b }
 {
-    let scaled = wrapping_mul(value, 33);
-    std::num::wrapping_add_u32(scaled, byte_counts(b, form))
+    value.wrapping_mul(33).wrapping_add(byte_counts(b, form))
 }
 
 // The hash after at most three bytes more, which is what strides of four leave.
@@ -56,36 +48,27 @@ fn hash_tail(value: u32, bytes: &[u8], form: Form) -> u32
     requires { length bytes.now < 4 }
     ensures { result ≡ hash_from (rule_of form) value bytes.now }
 {
-    if bytes.len() == 0 {
-        return value;
+    let mut hash = value;
+    for b in bytes {
+        hash = hash_byte(hash, *b, form);
     }
-    let one = hash_byte(value, bytes[0], form);
-    if bytes.len() == 1 {
-        return one;
-    }
-    let two = hash_byte(one, bytes[1], form);
-    if bytes.len() == 2 {
-        return two;
-    }
-    hash_byte(two, bytes[2], form)
+    hash
 }
 
 // The hash of bytes under a form, going on from the hash of what stands before them: four bytes at a time and then what is left.
 pub fn hash_on(start: u32, bytes: &[u8], form: Form) -> u32
     ensures { result ≡ hash_from (rule_of form) start bytes.now }
 {
-    let strides = bytes.len() / 4 * 4;
+    let (strides, tail) = bytes.as_chunks::<4>();
     let mut value = start;
-    let mut i = 0;
-    while i < strides {
-        let a = byte_counts(bytes[i], form);
-        let b = byte_counts(bytes[i + 1], form);
-        let c = byte_counts(bytes[i + 2], form);
-        let d = byte_counts(bytes[i + 3], form);
+    for [a, b, c, d] in strides {
+        let a = byte_counts(*a, form);
+        let b = byte_counts(*b, form);
+        let c = byte_counts(*c, form);
+        let d = byte_counts(*d, form);
         value = hash_four(value, a, b, c, d);
-        i += 4;
     }
-    hash_tail(value, &bytes[i..], form)
+    hash_tail(value, tail, form)
 }
 
 // gvdb-rs: djb_hash.

@@ -1,17 +1,18 @@
 -- Laws about the equality test of texts.
 use mathlib.Core.Path.{◌≡◌, refl, sym, ap, ◌∙◌}
-use mathlib.Core.Bool.{Bool, true, false, ◌&&◌}
+use mathlib.Core.Bool.{Bool, true, false, ◌&&◌, and-true}
 use mathlib.Core.List.{List, [], ◌∷◌, ◌++◌}
-use Prim.Native.Nat.{ℕ, ◌+◌, ◌-◌, ◌≤◌, ◌<◌}
+use Prim.Native.Nat.{ℕ, ◌+◌, ◌-◌, ◌*◌, ◌≤◌, ◌<◌}
 use native.Mathlib.Omega.{arith}
 use lib.ListN.{length, get_or, take, drop}
 use lib.Seq.{take-add, take-take, take_all}
 use lib.Dec.{eqb, leb}
 use borrow.Author.Tests.{eqb-true, eqb-false, eq-eqb, le-leb, leb-true, lt-leb}
+use Rattle.std.proofs.Common.{Fits, w8}
 use Rattle.words.specs.Store.{part}
 use Rattle.words.specs.Field.{field}
 use Rattle.words.proofs.ChoiceLaws.{both}
-use Rattle.words.proofs.FieldLaws.{field_same}
+use Rattle.words.proofs.FieldLaws.{bytes_below, field_same}
 use Rattle.key_order.specs.Compare.{same_bytes, ends_at}
 
 -- the test holds just of equal texts
@@ -53,15 +54,11 @@ same_none [] [] e none = refl
 same_none [] (y ∷ b) e none = absurd (omega arith)
 same_none (x ∷ a) b e none = absurd (omega arith)
 
-and_true : (t : Bool) → (t && true) ≡ t
-and_true true = refl
-and_true false = refl
-
 pub same_one : (a b : List ℕ) → length a ≡ length b → length a ≡ 1 → eqb (get_or a 0 0) (get_or b 0 0) ≡ same_bytes a b
 unfolding same_bytes
 same_one [] b e one = absurd (omega arith)
 same_one (x ∷ a) [] e one = absurd (omega arith)
-same_one (x ∷ []) (y ∷ []) e one = sym (and_true (eqb x y))
+same_one (x ∷ []) (y ∷ []) e one = sym (and-true (eqb x y))
 same_one (x ∷ []) (y ∷ z ∷ b) e one = absurd (omega arith)
 same_one (x ∷ z ∷ a) (y ∷ b) e one = absurd (omega arith)
 
@@ -94,6 +91,13 @@ module _ (w : ℕ) (a b : List ℕ) (ha : (i : ℕ) → get_or a i 0 < 256) (hb 
       go : (t : Bool) → eqb (field w a 0) (field w b 0) ≡ t → (t && eqb (field w a last) (field w b last)) ≡ same_bytes a b
       go true same = same_last (0 + w) last whole e (omega arith) (same_turn 0 (omega arith) (omega arith) refl (eqb-true _ _ same))
       go false other = sym (same_little_endian w a b 0 (eqb-false _ _ other))
+
+-- equal over i strides of eight, and one number there: equal over one more
+pub same_stride : (a b : List ℕ) → ((i : ℕ) → Fits w8 (get_or a i 0)) → ((i : ℕ) → Fits w8 (get_or b i 0)) → (i : ℕ) {m n : ℕ} → 8 * i + 8 ≤ length a → 8 * i + 8 ≤ length b
+    → take (8 * i) a ≡ take (8 * i) b → m ≡ field 8 a (8 * i) → n ≡ field 8 b (8 * i) → m ≡ n → take (8 * (i + 1)) a ≡ take (8 * (i + 1)) b
+same_stride a b ha hb i fa fb front p q e =
+    let next : 8 * i + 8 ≡ 8 * (i + 1) = omega arith in
+    rw next at (same_turn 8 a b (bytes_below a ha) (bytes_below b hb) (8 * i) fa fb front (sym p ∙ e ∙ q))
 
 -- the first n bytes end with the fragment just where they are some bytes and then the fragment
 pub ends_split : (key : List ℕ) (n : ℕ) (frag : List ℕ) → ends_at key n frag ≡ true

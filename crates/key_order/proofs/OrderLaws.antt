@@ -10,6 +10,7 @@ use lib.ListN.{length, get_or, take, drop, drop_of_length-le}
 use lib.Seq.{drop-cons}
 use lib.Dec.{ltb, eqb}
 use borrow.Author.Tests.{ltb-true, ltb-false, eqb-true, lt-ltb, le-ltb, eq-eqb, ne_eqb}
+use Rattle.words.proofs.ChoiceLaws.{lt_or_ge}
 use Rattle.key_order.specs.Order.{precedes}
 
 absurd_test : true ≡ false → ⊥
@@ -142,3 +143,20 @@ module _ (a b : List ℕ) (i : ℕ) where
           let past : length a ≤ i = omega arith in
           let none : length b ≤ i = omega (arith, ltb-false (length a) (length b) e) in
           rw (drop_of_length-le a past, drop_of_length-le b none)
+
+  -- two bytes that differ decide, and where one of the texts has ended their lengths
+  pub turn_other : i < length a → i < length b → (get_or a i 0 ≡ get_or b i 0 → ⊥) → precedes (drop i a) (drop i b) ≡ ltb (get_or a i 0) (get_or b i 0)
+  turn_other ha hb other = go (ltb (get_or a i 0) (get_or b i 0)) refl
+    where
+      go : (t : Bool) → ltb (get_or a i 0) (get_or b i 0) ≡ t → precedes (drop i a) (drop i b) ≡ t
+      go true e = turn_less ha hb (ltb-true _ _ e)
+      go false e =
+          let least : get_or b i 0 ≤ get_or a i 0 = ltb-false _ _ e in
+          turn_more ha hb (omega arith)
+
+  pub ended : i ≤ length a → i ≤ length b → (i < length a → length b ≤ i) → precedes (drop i a) (drop i b) ≡ ltb (length a) (length b)
+  ended ha hb over = on (lt_or_ge i (length a))
+    where
+      on : (i < length a) ⊎ (length a ≤ i) → precedes (drop i a) (drop i b) ≡ ltb (length a) (length b)
+      on (inl more) = end_right more (over more) ∙ sym (le-ltb _ _ (omega (arith, over more)))
+      on (inr past) = end_left (omega arith) hb

@@ -10,12 +10,10 @@ pub fn next_end(key: &[u8], from: usize, sep: usize) -> usize
     ensures value { result ≡ next_end sep key.now from }
     ensures within { (from ≤ result) × (result ≤ length key.now) }
 {
-    let mut i = from;
-    while i < key.len() {
+    for i in from..key.len() {
         if byte_size(key[i]) == sep {
             return i + 1;
         }
-        i += 1;
     }
-    i
+    key.len()
 }

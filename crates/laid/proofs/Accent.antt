@@ -1,5 +1,6 @@
 -- The forms differ. The image of the key C3 A9, which is 'é', with the value 01 02 has 66 bytes; in the base form the hash at 36 is 11 84 59 00, in the signed
 -- form 11 62 59 00, and all else is equal. Read in its own form the key is found and the table is sound; in the other the key is not found, and rule 2 is broken.
+use Rattle.std.specs.Prelude.{Ok}
 use Prim.Native.Nat.{ℕ}
 use mathlib.Core.Path.{◌≡◌, refl}
 use mathlib.Core.List.{List, [], ◌∷◌, ◌++◌}
@@ -17,7 +18,6 @@ use Rattle.layout.specs.Pointer.{open_pointer}
 use Rattle.layout.specs.Table.{table_of, table_in, open_table}
 use Rattle.layout.specs.Item.{no_item, item_at}
 use Rattle.layout.specs.Sizes.{chunk_size}
-use Rattle.read.specs.declared.lookup.Looked.{Looked}
 use Rattle.read_chain.specs.Chain.{fragment_of, parent_of, after_pointer, climb_from, append, join_step, key_of, names}
 use Rattle.read_find.specs.Find as find
 use Rattle.read_find.specs.Find.{rust, bloom_passes, bucket_word, run_of, item_matches, first_from, find_item}
@@ -52,7 +52,7 @@ pub laid_signed : image_of signed 0 accent 0 ≡ accent_file 0x62
 unfolding accent accent_file signed pick copies spelled hash_by hash_from aligned precedes entry_at is_child fragment_at members_below rows_of insert_key sort_keys key_order hashes_of bucket_of run runs_below by_bucket bucket_start by_index item_of index_in laid_index words_of chunk_size value_start item_bytes payload place record_bytes records plan_bytes children_in children_of parent_index child_words value_of covers_of plan_of table_bytes image_of
 laid_signed = refl
 
-pub found : (lookup_value rust (accent_file 0x84) 24 60 (0xC3 ∷ 0xA9 ∷ []) ≡ Looked.Pointer 64 66) × (lookup_value glib (accent_file 0x62) 24 60 (0xC3 ∷ 0xA9 ∷ []) ≡ Looked.Pointer 64 66)
+pub found : (lookup_value rust (accent_file 0x84) 24 60 (0xC3 ∷ 0xA9 ∷ []) ≡ Ok (record { start = 64; end = 66 })) × (lookup_value glib (accent_file 0x62) 24 60 (0xC3 ∷ 0xA9 ∷ []) ≡ Ok (record { start = 64; end = 66 }))
 unfolding accent_file signed open_table open_pointer table_in table_of bloom_count field fields.little_endian pick key_of join_step append climb_from after_pointer parent_of fragment_of is_utf8 first_bad good_from one_more step_len sequence_len first_of is_two starts_three starts_four tail between same_bytes item_at names hash_by hash_from bloom_passes bucket_word run_of item_matches first_from find.first_of find_item at_found lookup_in at_opened lookup_item at_item at_pointer lookup.value_of lookup_value
 found = (refl, refl)
 

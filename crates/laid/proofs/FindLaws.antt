@@ -1,4 +1,5 @@
 -- In an image that holds a plan, a key is found at its index, and a key that no item has is not found.
+use Rattle.std.specs.Prelude.{Option, Some, None}
 use mathlib.Core.Path.{◌≡◌, refl, sym, ap, ◌∙◌}
 use mathlib.Core.Logic.{◌⊎◌, ⊎_elim}
 use mathlib.Core.Bool.{Bool, true, false, ◌&&◌}
@@ -16,7 +17,6 @@ use Rattle.words.specs.Bits.{bit_set}
 use Rattle.layout.specs.declared.table.Table.{Table}
 use Rattle.layout.specs.Limits.{longest_file}
 use Rattle.layout.specs.Item.{item_at}
-use Rattle.read_find.specs.declared.find.Found.{Found}
 use Rattle.read_chain.specs.Chain.{Joined, key_of}
 use Rattle.read_find.specs.Find.{Manner, bloom_passes, bucket_word, run_of, find_item}
 use Rattle.read_listing.proofs.Plain.{run_for, found_names, not_found}
@@ -57,19 +57,19 @@ module _ (manner : Manner) (img : List ℕ) (p : Plan) (at : ℕ) (held : Holds 
   key_found_lem i l = key_whole img p at held short fits key rank keys i l
 
   -- what is found is an item with the key
-  pub found_index : (x : List ℕ) (i : ℕ) → find_item manner img table x ≡ Found.At i → (i < p.count) × (key i ≡ x)
+  pub found_index : (x : List ℕ) (i : ℕ) → find_item manner img table x ≡ Some i → (i < p.count) × (key i ≡ x)
   unfolding opened_as
   found_index x i e =
       let n = found_names manner img table x i e in
       (n.0, same_key (key_found_lem i n.0) n.2)
 
   -- a key that no item has is not found
-  pub find_nothing : (x : List ℕ) → ((k : ℕ) → k < p.count → key k ≡ x → ⊥) → find_item manner img table x ≡ Found.Nothing
+  pub find_nothing : (x : List ℕ) → ((k : ℕ) → k < p.count → key k ≡ x → ⊥) → find_item manner img table x ≡ None
   find_nothing x none = by (find_item manner img table x) refl
     where
-      by : (f : Found) → find_item manner img table x ≡ f → find_item manner img table x ≡ Found.Nothing
-      by (Found.At i) e = let n = found_index x i e in absurd (none i n.0 n.1)
-      by Found.Nothing e = e
+      by : (f : Option ℕ) → find_item manner img table x ≡ f → find_item manner img table x ≡ None
+      by (Some i) e = let n = found_index x i e in absurd (none i n.0 n.1)
+      by None e = e
 
   module _ (runs : PlanRuns manner.byte p key) (shifts : (manner.shift (first_word p.filter) ≡ 0) ⊎ (manner.shift (first_word p.filter) ≡ 5)) where
     -- the second bit is the first, or the one that was laid for it
@@ -117,13 +117,13 @@ module _ (manner : Manner) (img : List ℕ) (p : Plan) (at : ℕ) (held : Holds 
         (rw (bucket_reads b (mod-lt (hash_by manner.byte (key k)) some)) low, rw (last_reads b) high)
 
     -- a key is found at its index
-    pub find_there : (k : ℕ) → k < p.count → find_item manner img table (key k) ≡ Found.At k
+    pub find_there : (k : ℕ) → k < p.count → find_item manner img table (key k) ≡ Some k
     unfolding opened_as
     find_there k l = by (find_item manner img table (key k)) refl
       where
-        by : (f : Found) → find_item manner img table (key k) ≡ f → find_item manner img table (key k) ≡ Found.At k
-        by (Found.At i) e = let n = found_index (key k) i e in e ∙ ap Found.At (runs.distinct i k n.0 l n.1)
-        by Found.Nothing e =
+        by : (f : Option ℕ) → find_item manner img table (key k) ≡ f → find_item manner img table (key k) ≡ Some k
+        by (Some i) e = let n = found_index (key k) i e in e ∙ ap Some (runs.distinct i k n.0 l n.1)
+        by None e =
             let r = in_run k l in
             let passes = ap (λ (h : ℕ). bloom_passes manner.shift img table h) (sym (runs.hashed k l)) ∙ laid_passes k l in
             absurd (not_found manner img table (key k) e (λ z. omega arith) passes k r.0 r.1 l (laid_hash k l) (key_found_lem k l))

@@ -1,4 +1,5 @@
 -- Each item of a table that an image holds reads back: its index, its key, its record, and what it holds.
+use Rattle.std.specs.Prelude.{Ok, Some, None}
 use mathlib.Core.Path.{◌≡◌, refl, sym, ap, ◌∙◌}
 use mathlib.Core.List.{List}
 use Prim.Native.Nat.{ℕ, zero, suc, ◌+◌, ◌%◌, ◌^◌, ◌≤◌, ◌<◌}
@@ -6,12 +7,10 @@ use native.Mathlib.Omega.{arith}
 use lib.ListN.{length}
 use Rattle.words.specs.Align.{aligned}
 use Rattle.key_hash.specs.Hash.{hash_by}
-use Rattle.layout.specs.declared.table.Opened.{Opened}
 use Rattle.layout.specs.Limits.{longest_file}
 use Rattle.layout.specs.Table.{open_table}
 use Rattle.layout.specs.Item.{item_at}
 use Rattle.layout.specs.Kind.{kind_byte}
-use Rattle.read_find.specs.declared.find.Found.{Found}
 use Rattle.read_chain.specs.Chain.{Joined, key_of}
 use Rattle.read_find.specs.Find.{find_item}
 use Rattle.model.specs.Table.{Content, State, Has, kind_of}
@@ -87,7 +86,7 @@ module _ (lay : Lay) (img : List ℕ) (state : State) (d t at : ℕ) (held : Hol
   fits = fits_plan state d t good lay.manner.byte lay.filter lay.few
 
   -- the table opens with all its items
-  pub opens : open_table img at (end_of lay.filter state t at) ≡ Opened.Table (table_opened lay.filter state t at)
+  pub opens : open_table img at (end_of lay.filter state t at) ≡ Ok (table_opened lay.filter state t at)
   unfolding plan_of
   opens = laid_opens img (plan_at lay.manner.byte lay.filter state d t) at plan_held short lay.few even
 
@@ -104,28 +103,28 @@ module _ (lay : Lay) (img : List ℕ) (state : State) (d t at : ℕ) (held : Hol
       ∙ ap (λ (j : ℕ). Joined.joined ((state t).key j)) (indexed_item state d t good lay.manner.byte i l)
 
   -- the key of an item is found at its index, and a key that no item has is not found
-  pub found_back : (i : ℕ) → Has (state t).members i → find_item lay.manner img (table_opened lay.filter state t at) ((state t).key i) ≡ Found.At (laid_index lay.manner.byte (state t) i)
+  pub found_back : (i : ℕ) → Has (state t).members i → find_item lay.manner img (table_opened lay.filter state t at) ((state t).key i) ≡ Some (laid_index lay.manner.byte (state t) i)
   unfolding plan_of
   found_back i l =
       ap (λ (j : ℕ). find_item lay.manner img (table_opened lay.filter state t at) ((state t).key j)) (sym (indexed_item state d t good lay.manner.byte i l))
       ∙ find_there lay.manner img (plan_at lay.manner.byte lay.filter state d t) at plan_held short fits _ _ (keys_plan state d t good lay.manner.byte lay.filter) (runs_plan state d t good lay.manner.byte lay.filter) lay.shifts
       (laid_index lay.manner.byte (state t) i) (index_small state d t good lay.manner.byte i l)
 
-  pub not_found_back : (x : List ℕ) → ((i : ℕ) → Has (state t).members i → (state t).key i ≡ x → ⊥) → find_item lay.manner img (table_opened lay.filter state t at) x ≡ Found.Nothing
+  pub not_found_back : (x : List ℕ) → ((i : ℕ) → Has (state t).members i → (state t).key i ≡ x → ⊥) → find_item lay.manner img (table_opened lay.filter state t at) x ≡ None
   unfolding plan_of
   not_found_back x none =
       find_nothing lay.manner img (plan_at lay.manner.byte lay.filter state d t) at plan_held short fits _ _ (keys_plan state d t good lay.manner.byte lay.filter) x
       (λ k l e. none (item_of lay.manner.byte (state t) k) (item_within lay.manner.byte (state t) (well_formed_lem state d t good).once k l) e)
 
   -- what is found is an item's index; and the key at an index is found there
-  pub found_is : (x : List ℕ) (k : ℕ) → find_item lay.manner img (table_opened lay.filter state t at) x ≡ Found.At k
+  pub found_is : (x : List ℕ) (k : ℕ) → find_item lay.manner img (table_opened lay.filter state t at) x ≡ Some k
       → (k < length (state t).members) × ((state t).key (item_of lay.manner.byte (state t) k) ≡ x)
   unfolding plan_of
   found_is x k e =
       found_index lay.manner img (plan_at lay.manner.byte lay.filter state d t) at plan_held short fits _ _ (keys_plan state d t good lay.manner.byte lay.filter) x k e
 
   pub found_again : (k : ℕ) → k < length (state t).members
-      → find_item lay.manner img (table_opened lay.filter state t at) ((state t).key (item_of lay.manner.byte (state t) k)) ≡ Found.At k
+      → find_item lay.manner img (table_opened lay.filter state t at) ((state t).key (item_of lay.manner.byte (state t) k)) ≡ Some k
   unfolding plan_of
   found_again k l =
       find_there lay.manner img (plan_at lay.manner.byte lay.filter state d t) at plan_held short fits _ _ (keys_plan state d t good lay.manner.byte lay.filter)
@@ -198,7 +197,7 @@ module _ (lay : Lay) (img : List ℕ) (state : State) (d t at : ℕ) (held : Hol
 
 -- a nested table opens, with all its items
 pub nested_opens : (lay : Lay) (img : List ℕ) (state : State) (d u from : ℕ) → length img ≤ longest_file → NestedBack lay.manner.byte lay.filter img state d u from
-    → open_table img from (end_of lay.filter state u from) ≡ Opened.Table (table_opened lay.filter state u from)
+    → open_table img from (end_of lay.filter state u from) ≡ Ok (table_opened lay.filter state u from)
 unfolding Writable
 nested_opens lay img state zero u from short n = absurd n.writable
 nested_opens lay img state (suc d) u from short n = opens lay img state d u from n.held short n.even n.writable

@@ -1,4 +1,5 @@
 -- A laid table is sound, index by index: what the check's rules ask of the item at each index.
+use Rattle.std.specs.Prelude.{Some}
 use mathlib.Core.Path.{◌≡◌, refl, sym, ap, ◌∙◌, subst}
 use mathlib.Core.Logic.{⊎_elim, ◌⊎◌, inl, inr}
 use mathlib.Core.Bool.{true}
@@ -12,7 +13,6 @@ use Rattle.layout.specs.Limits.{longest_file}
 use Rattle.layout.specs.Item.{item_at, no_item}
 use Rattle.layout.specs.Kind.{kind_byte}
 use Rattle.layout.proofs.AnswerLaws.{pointer_inside_is}
-use Rattle.read_find.specs.declared.find.Found.{Found}
 use Rattle.read_listing.specs.Children.{child_at, child_count}
 use Rattle.check_rules.specs.Rules.{index_of}
 use Rattle.check_table.specs.Sound.{ValueGood, InList, SoundIn}
@@ -64,9 +64,9 @@ module _ (lay : Lay) (file : List ℕ) (state : State) (d t at : ℕ) (held : Ho
   back k l = subst (λ (n : ℕ). ItemBack lay.manner.byte lay.filter file state d t at (of k) (item n)) (again k l) (item_back lay file state d t at held short even good (of k) (has k l))
 
   -- ---- rules 1 and 2: lookup of its key answers this index
-  key_finds_lem : (k : ℕ) → k < count → index_of lay.manner file (table_opened lay.filter state t at) ((state t).key (of k)) ≡ Found.At k
+  key_finds_lem : (k : ℕ) → k < count → index_of lay.manner file (table_opened lay.filter state t at) ((state t).key (of k)) ≡ Some k
   unfolding index_of pick
-  key_finds_lem k l = rw (well.utf8 (of k) (has k l)) (found_back lay file state d t at held short even good (of k) (has k l) ∙ ap Found.At (again k l))
+  key_finds_lem k l = rw (well.utf8 (of k) (has k l)) (found_back lay file state d t at held short even good (of k) (has k l) ∙ ap Some (again k l))
 
   -- ---- rules 3 and 4: the kind is known, and the value pointer opens
   value_good : (k : ℕ) → k < count → ValueGood file (item k)

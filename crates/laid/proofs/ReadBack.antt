@@ -1,5 +1,8 @@
 -- WHATEVER IS LAID, READS BACK: in any file of at most 16,777,216 bytes that holds a table of the model at a multiple of 4, for every rule
 -- for a byte of the hash.
+use Rattle.std.specs.Prelude.{Result, Ok}
+use Rattle.layout.specs.declared.refusal.Refusal.{Refusal}
+use Rattle.layout.specs.declared.pointer.Pointer.{Pointer}
 use mathlib.Core.Path.{◌≡◌, sym, ◌∙◌}
 use mathlib.Core.Bool.{true, false}
 use mathlib.Core.List.{List}
@@ -7,13 +10,11 @@ use Prim.Native.Nat.{ℕ, zero, suc, ◌+◌, ◌-◌, ◌%◌, ◌≤◌}
 use native.Mathlib.Omega.{arith}
 use lib.ListN.{length}
 use Rattle.text.specs.Utf8.{is_utf8}
-use Rattle.layout.specs.declared.table.Opened.{Opened}
 use Rattle.layout.specs.declared.item.Item.{Item}
 use Rattle.layout.specs.Limits.{longest_file}
 use Rattle.layout.specs.Table.{open_table}
 use Rattle.layout.specs.Item.{item_at}
 use Rattle.layout.specs.Kind.{kind_byte}
-use Rattle.read.specs.declared.lookup.Looked.{Looked}
 use Rattle.read_chain.specs.Chain.{Joined}
 use Rattle.read.specs.Lookup.{lookup_value, lookup_table}
 use Rattle.read_listing.specs.Listing.{key_at}
@@ -32,7 +33,7 @@ use Rattle.laid.proofs.LookupLaws.{value_of_lem, nested_of_lem}
 use Rattle.laid.proofs.ItemLaws.{well_formed_lem, index_small, opens, key_back, found_back, not_found_back, item_back, offset_eight, bytes-held, nested-held, nested_opens}
 
 -- the bytes of a view
-pub views_bytes : (file : List ℕ) (looked : Looked) (value : List ℕ) → Views file looked value → looked_bytes file looked ≡ value
+pub views_bytes : (file : List ℕ) (looked : Result Pointer Refusal) (value : List ℕ) → Views file looked value → looked_bytes file looked ≡ value
 unfolding looked_bytes
 views_bytes file looked value v = rw v.place v.view
 
@@ -47,7 +48,7 @@ module _ (lay : Lay) (file : List ℕ) (state : State) (d t at : ℕ) (held : Ho
   item i = item_at file (table_opened lay.filter state t at) (laid_index lay.manner.byte (state t) i)
 
   -- the table opens, with as many items as it has
-  pub opens_back : open_table file at end ≡ Opened.Table (table_opened lay.filter state t at)
+  pub opens_back : open_table file at end ≡ Ok (table_opened lay.filter state t at)
   opens_back = opens lay file state d t at held short even good
 
   text : (i : ℕ) → Has (state t).members i → is_utf8 ((state t).key i) ≡ true
@@ -108,7 +109,7 @@ module _ (lay : Lay) (file : List ℕ) (state : State) (d t at : ℕ) (held : Ho
 
   -- a nested table's key, as a table, answers the pointer of its table chunk
   pub table_looked : (i u : ℕ) → Has (state t).members i → (state t).content i ≡ Content.nested u
-      → lookup_table lay.manner file at end ((state t).key i) ≡ Looked.Pointer (value_offset lay.manner.byte lay.filter state d t at i) (end_of lay.filter state u (value_offset lay.manner.byte lay.filter state d t at i))
+      → lookup_table lay.manner file at end ((state t).key i) ≡ Ok (record { start = value_offset lay.manner.byte lay.filter state d t at i; end = end_of lay.filter state u (value_offset lay.manner.byte lay.filter state d t at i) })
   unfolding covers_of
   table_looked i u l is =
       let b = back i l in

@@ -1,4 +1,5 @@
 -- The conditions of the statements can be met: a table with an item of each kind, laid and looked up.
+use Rattle.std.specs.Prelude.{Ok}
 use mathlib.Core.Path.{◌≡◌, refl}
 use mathlib.Core.Logic.{⊎_elim}
 use mathlib.Core.Bool.{true}
@@ -13,7 +14,6 @@ use Rattle.key_hash.specs.Hash.{hash_from, hash_by, plain}
 use Rattle.words.specs.Align.{aligned}
 use Rattle.key_order.specs.Order.{precedes}
 use Rattle.text.specs.Utf8.{between, tail, is_two, starts_three, starts_four, first_of, sequence_len, step_len, one_more, good_from, first_bad, is_utf8}
-use Rattle.read.specs.declared.lookup.Looked.{Looked}
 use Rattle.read.specs.Lookup.{lookup_value, lookup_table}
 use Rattle.read.specs.Answer.{looked_bytes}
 use Rattle.read_find.specs.declared.manner.Lookup.{Lookup}
@@ -128,7 +128,7 @@ absent_answers = all.0.absent (97 ∷ []) refl (three (λ i. (sample 0).key i �
     (λ e. let z : ◌≡◌ {A = ℕ} 0 1 = cc in omega arith) (λ e. let z : ◌≡◌ {A = ℕ} 0 1 = cc in omega arith) (λ e. let z : ◌≡◌ {A = ℕ} 116 97 = cc in omega arith))
 
 -- "t" answers a table, and there "x" answers 09
-pub nested_answers : (from : ℕ) × (lookup_table rust image 24 116 (116 ∷ []) ≡ Looked.Pointer from (from + 36))
+pub nested_answers : (from : ℕ) × (lookup_table rust image 24 116 (116 ∷ []) ≡ Ok (record { start = from; end = from + 36 }))
     × (looked_bytes image (lookup_value rust image from (from + 36) (120 ∷ [])) ≡ 9 ∷ [])
 unfolding AllBack sample rows_of members_below entry_at times pick chunk_size
 nested_answers =

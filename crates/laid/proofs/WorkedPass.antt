@@ -1,11 +1,11 @@
 -- The conditions of the statements can be met: an image with an item of each kind passes, and so does the table nested in it.
+use Rattle.std.specs.Prelude.{Ok}
 use mathlib.Core.Path.{◌≡◌, refl}
 use mathlib.Core.List.{List, [], ◌∷◌}
 use Prim.Native.Nat.{ℕ, ◌+◌}
 use native.Mathlib.Omega.{arith}
 use Rattle.words.specs.Choice.{pick}
 use Rattle.key_hash.specs.Hash.{plain}
-use Rattle.read.specs.declared.lookup.Looked.{Looked}
 use Rattle.read.specs.Lookup.{lookup_table}
 use Rattle.read_find.specs.declared.manner.Lookup.{Lookup}
 use Rattle.read_find.specs.Find.{rust}
@@ -38,7 +38,7 @@ unfolding AllPass sample rows_of members_below entry_at pick chunk_size
 root_passes = all.0
 
 -- and the table of one item at the pointer that lookup of "t" answers
-pub nested-passes : (from : ℕ) × (lookup_table rust image 24 116 (116 ∷ []) ≡ Looked.Pointer from (from + 36)) × (check_table rust image from (from + 36) ≡ Checked.Sound)
+pub nested-passes : (from : ℕ) × (lookup_table rust image 24 116 (116 ∷ []) ≡ Ok (record { start = from; end = from + 36 })) × (check_table rust image from (from + 36) ≡ Checked.Sound)
 unfolding AllPass sample rows_of members_below entry_at times pick chunk_size
 nested-passes =
     let (from, place, there) = all.1 2 1 (omega arith) refl in

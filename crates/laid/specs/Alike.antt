@@ -1,8 +1,7 @@
 -- BOTH LOOKUPS ANSWER ALIKE on every key of every table that is laid: the filter lets each of its items pass, whichever second bit is asked for.
-use Rattle.std.specs.Prelude.{ℕ, zero, suc, ◌%◌, ◌^◌, ◌≤◌, ◌<◌, ◌≡◌, List, length}
+use Rattle.std.specs.Prelude.{ℕ, zero, suc, ◌%◌, ◌^◌, ◌≤◌, ◌<◌, ◌≡◌, List, length, Ok}
 use Rattle.layout.specs.Limits.{longest_file}
 use Rattle.read_find.specs.declared.manner.Lookup.{Lookup}
-use Rattle.read.specs.declared.lookup.Looked.{Looked}
 use Rattle.read.specs.Lookup.{lookup_value, lookup_table}
 use Rattle.check_table.specs.Strict.{manner_by}
 use Rattle.model.specs.Table.{Content, State, Has}
@@ -22,7 +21,7 @@ AllAlike rule filter file state zero t at = ⊥
 AllAlike rule filter file state (suc d) t at =
     Alike rule file at (end_of filter state t at)
     × ((i u : ℕ) → Has (state t).members i → (state t).content i ≡ Content.nested u
-    → (from : ℕ) × (lookup_table (manner_by rule Lookup.Rust) file at (end_of filter state t at) ((state t).key i) ≡ Looked.Pointer from (end_of filter state u from))
+    → (from : ℕ) × (lookup_table (manner_by rule Lookup.Rust) file at (end_of filter state t at) ((state t).key i) ≡ Ok (record { start = from; end = end_of filter state u from }))
     × AllAlike rule filter file state d u from)
 
 -- the statement, for every rule and every number of filter words that a table's first word can name

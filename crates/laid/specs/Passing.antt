@@ -1,9 +1,8 @@
 -- WHATEVER IS LAID, PASSES THE CHECK: the statements, in the words of document 01 under 'The check's six rules'. Each is for every manner of
 -- reading and every number of filter words that agree, of tables laid by its rule for a byte, and for every file of at most 16,777,216 bytes.
-use Rattle.std.specs.Prelude.{ℕ, zero, suc, ◌%◌, ◌≤◌, ◌≡◌, List, length}
+use Rattle.std.specs.Prelude.{ℕ, zero, suc, ◌%◌, ◌≤◌, ◌≡◌, List, length, Ok}
 use Rattle.words.specs.Store.{put_at}
 use Rattle.layout.specs.Limits.{longest_file, deepest}
-use Rattle.read.specs.declared.lookup.Looked.{Looked}
 use Rattle.read.specs.Lookup.{lookup_table}
 use Rattle.check_rules.specs.declared.checked.Checked.{Checked}
 use Rattle.check_rules.specs.Rules.{check_table}
@@ -25,7 +24,7 @@ AllPass lay file state zero t at = ⊥
 AllPass lay file state (suc d) t at =
     Passes lay file state t at
     × ((i u : ℕ) → Has (state t).members i → (state t).content i ≡ Content.nested u
-    → (from : ℕ) × (lookup_table lay.manner file at (end_of lay.filter state t at) ((state t).key i) ≡ Looked.Pointer from (end_of lay.filter state u from))
+    → (from : ℕ) × (lookup_table lay.manner file at (end_of lay.filter state t at) ((state t).key i) ≡ Ok (record { start = from; end = end_of lay.filter state u from }))
     × AllPass lay file state d u from)
 
 -- a table that may be written, wherever a file holds it at a multiple of 4, passes

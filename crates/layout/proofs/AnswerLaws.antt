@@ -1,4 +1,6 @@
 -- The order of refusals in the document's words: for each number, what was passed before it and what it is given for.
+use Rattle.std.specs.Prelude.{Result, Ok, Err}
+use Rattle.layout.specs.declared.table.Table.{Table}
 use Prim.Native.Nat.{ℕ, ◌+◌, ◌*◌, ◌-◌, ◌%◌, ◌≤◌, ◌<◌}
 use mathlib.Core.Path.{◌≡◌, ap, ◌∙◌, subst}
 use mathlib.Core.List.{List}
@@ -10,8 +12,6 @@ use Rattle.words.specs.Field.{word_at}
 use Rattle.words.specs.Bits.{bloom_count}
 use Rattle.words.proofs.ChoiceLaws.{pick_with}
 use Rattle.layout.specs.declared.refusal.Refusal.{Refusal}
-use Rattle.layout.specs.declared.pointer.Pointed.{Pointed}
-use Rattle.layout.specs.declared.table.Opened.{Opened}
 use Rattle.layout.specs.Refusal.{number}
 use Rattle.layout.specs.Pointer.{open_pointer}
 use Rattle.layout.specs.Limits.{longest_file}
@@ -34,7 +34,7 @@ module _ (size start end alignment : ℕ) where
       unfolding open_pointer pointed_number pick
       pointer_2_past h = simp (le-ltb end start ordered, eq-eqb (start % alignment) 0 even, lt-ltb size end h)
 
-      pub pointer_inside_is : end ≤ size → open_pointer size start end alignment ≡ Pointed.Inside
+      pub pointer_inside_is : end ≤ size → open_pointer size start end alignment ≡ Ok tt
       unfolding open_pointer pick
       pointer_inside_is h = simp (le-ltb end start ordered, eq-eqb (start % alignment) 0 even, le-ltb size end h)
 
@@ -53,11 +53,11 @@ module _ (file : List ℕ) (start end : ℕ) where
     unfolding open_table opened_number pointed_number pick
     open_pointer-refused n e some = rw (le-ltb longest_file (length file) short) (by_pointer (open_pointer (length file) start end 4) e)
       where
-        by_pointer : (p : Pointed) → pointed_number p ≡ n → opened_number (where_inside p (table_in file start end)) ≡ n
-        by_pointer Pointed.Inside f = absurd (let z : ◌≡◌ {A = ℕ} 0 n = f in omega arith)
-        by_pointer (Pointed.Refused why) f = f
+        by_pointer : (p : Result (Unit {0}) Refusal) → pointed_number p ≡ n → opened_number (where_inside p (table_in file start end)) ≡ n
+        by_pointer (Ok _) f = absurd (let z : ◌≡◌ {A = ℕ} 0 n = f in omega arith)
+        by_pointer (Err why) f = f
 
-    module _ (opens : open_pointer (length file) start end 4 ≡ Pointed.Inside) where
+    module _ (opens : open_pointer (length file) start end 4 ≡ Ok tt) where
       inside : open_table file start end ≡ table_in file start end
       unfolding open_table pick
       inside = simp (le-ltb longest_file (length file) short, opens)
@@ -94,34 +94,34 @@ module _ (file : List ℕ) (start end : ℕ) where
 pub pointed_below : (size start end alignment : ℕ) → pointed_number (open_pointer size start end alignment) < 4
 unfolding open_pointer pointed_number
 pointed_below size start end alignment =
-    let P : Pointed → Type 0 = λ p. pointed_number p < 4 in
+    let P : Result (Unit {0}) Refusal → Type 0 = λ p. pointed_number p < 4 in
     pick_with P _ _ _ (λ _. omega arith)
     (λ _. pick_with P _ _ _ (λ _. pick_with P _ _ _ (λ _. omega arith) (λ _. omega arith)) (λ _. omega arith))
 
 table_below : (start size blooms buckets : ℕ) → opened_number (table_of start size blooms buckets) < 8
 unfolding table_of opened_number
 table_below start size blooms buckets =
-    let P : Opened → Type 0 = λ o. opened_number o < 8 in
+    let P : Result Table Refusal → Type 0 = λ o. opened_number o < 8 in
     pick_with P _ _ _ (λ _. omega arith)
     (λ _. pick_with P _ _ _ (λ _. omega arith) (λ _. pick_with P _ _ _ (λ _. omega arith) (λ _. omega arith)))
 
-inside_below : (file : List ℕ) (start end : ℕ) (p : Pointed) → pointed_number p < 4 → opened_number (where_inside p (table_in file start end)) < 8
+inside_below : (file : List ℕ) (start end : ℕ) (p : Result (Unit {0}) Refusal) → pointed_number p < 4 → opened_number (where_inside p (table_in file start end)) < 8
 unfolding table_in opened_number pointed_number
-inside_below file start end Pointed.Inside h =
-    let P : Opened → Type 0 = λ o. opened_number o < 8 in
+inside_below file start end (Ok _) h =
+    let P : Result Table Refusal → Type 0 = λ o. opened_number o < 8 in
     pick_with P _ _ _ (λ _. omega arith) (λ _. table_below start (end - start) _ _)
-inside_below file start end (Pointed.Refused why) h = omega arith
+inside_below file start end (Err why) h = omega arith
 
 pub opened_below : (file : List ℕ) (start end : ℕ) → opened_number (open_table file start end) < 8
 unfolding open_table opened_number
 opened_below file start end =
-    let P : Opened → Type 0 = λ o. opened_number o < 8 in
+    let P : Result Table Refusal → Type 0 = λ o. opened_number o < 8 in
     pick_with P _ _ _ (λ _. omega arith) (λ _. inside_below file start end _ (pointed_below (length file) start end 4))
 
-pub pointed_low : (size start end alignment : ℕ) {why : Refusal} → open_pointer size start end alignment ≡ Pointed.Refused why → number why < 4
+pub pointed_low : (size start end alignment : ℕ) {why : Refusal} → open_pointer size start end alignment ≡ Err why → number why < 4
 unfolding pointed_number
-pointed_low size start end alignment e = subst (λ (p : Pointed). pointed_number p < 4) e (pointed_below size start end alignment)
+pointed_low size start end alignment e = subst (λ (p : Result (Unit {0}) Refusal). pointed_number p < 4) e (pointed_below size start end alignment)
 
-pub opened_low : (file : List ℕ) (start end : ℕ) {why : Refusal} → open_table file start end ≡ Opened.Refused why → number why < 8
+pub opened_low : (file : List ℕ) (start end : ℕ) {why : Refusal} → open_table file start end ≡ Err why → number why < 8
 unfolding opened_number
-opened_low file start end e = subst (λ (o : Opened). opened_number o < 8) e (opened_below file start end)
+opened_low file start end e = subst (λ (o : Result Table Refusal). opened_number o < 8) e (opened_below file start end)

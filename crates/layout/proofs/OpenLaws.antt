@@ -1,4 +1,6 @@
 -- What opens lies in the file: a predicate by cases on the answer, shown of the definition test by test.
+use Rattle.std.specs.Prelude.{Result, Ok, Err}
+use Rattle.layout.specs.declared.refusal.Refusal.{Refusal}
 use Prim.Native.Nat.{ℕ, ◌+◌, ◌*◌, ◌-◌, ◌≤◌}
 use mathlib.Core.Path.{◌≡◌, subst}
 use mathlib.Core.List.{List}
@@ -6,15 +8,13 @@ use native.Mathlib.Omega.{arith}
 use lib.ListN.{length}
 use borrow.Author.Tests.{ltb-false}
 use Rattle.words.proofs.ChoiceLaws.{pick_with}
-use Rattle.layout.specs.declared.pointer.Pointed.{Pointed}
 use Rattle.layout.specs.declared.table.Table.{Table}
-use Rattle.layout.specs.declared.table.Opened.{Opened}
 use Rattle.layout.specs.Pointer.{open_pointer}
 use Rattle.layout.specs.Table.{table_of, table_in, where_inside, open_table, InFile}
 
-unfoldable pub PointerFits : ℕ → ℕ → ℕ → Pointed → Type 0
-PointerFits size start end Pointed.Inside = (start ≤ end) × (end ≤ size)
-PointerFits size start end (Pointed.Refused why) = Unit
+unfoldable pub PointerFits : ℕ → ℕ → ℕ → Result (Unit {0}) Refusal → Type 0
+PointerFits size start end (Ok _) = (start ≤ end) × (end ≤ size)
+PointerFits size start end (Err why) = Unit
 
 pub pointer_fits : (size start end alignment : ℕ) → PointerFits size start end (open_pointer size start end alignment)
 unfolding open_pointer PointerFits
@@ -26,13 +26,13 @@ pointer_fits size start end alignment =
     (λ _. tt))
 
 -- a pointer that opens lies in the file
-pub pointer_inside : (size start end alignment : ℕ) → open_pointer size start end alignment ≡ Pointed.Inside → (start ≤ end) × (end ≤ size)
+pub pointer_inside : (size start end alignment : ℕ) → open_pointer size start end alignment ≡ Ok tt → (start ≤ end) × (end ≤ size)
 unfolding PointerFits
 pointer_inside size start end alignment e = subst (PointerFits size start end) e (pointer_fits size start end alignment)
 
-unfoldable pub TableFits : List ℕ → Opened → Type 0
-TableFits file (Opened.Table t) = InFile file t
-TableFits file (Opened.Refused why) = Unit
+unfoldable pub TableFits : List ℕ → Result Table Refusal → Type 0
+TableFits file (Ok t) = InFile file t
+TableFits file (Err why) = Unit
 
 table_of_fits : (file : List ℕ) (start size blooms buckets : ℕ) → length file ≤ 16777216 → start + size ≤ length file → TableFits file (table_of start size blooms buckets)
 unfolding table_of TableFits
@@ -43,12 +43,12 @@ table_of_fits file start size blooms buckets short fits =
     (λ _. let l : 8 + 4 * blooms + 4 * buckets ≤ size = ltb-false _ _ room in record { short = short; head = omega arith; items = omega arith })
     (λ _. tt)))
 
-table_at_fits : (file : List ℕ) (start end : ℕ) (p : Pointed) → PointerFits (length file) start end p → length file ≤ 16777216
+table_at_fits : (file : List ℕ) (start end : ℕ) (p : Result (Unit {0}) Refusal) → PointerFits (length file) start end p → length file ≤ 16777216
     → TableFits file (where_inside p (table_in file start end))
 unfolding table_in TableFits PointerFits
-table_at_fits file start end Pointed.Inside inside short =
+table_at_fits file start end (Ok _) inside short =
     pick_with (TableFits file) _ _ _ (λ _. tt) (λ _. table_of_fits file start (end - start) _ _ short (omega arith))
-table_at_fits file start end (Pointed.Refused why) inside short = tt
+table_at_fits file start end (Err why) inside short = tt
 
 pub table_fits : (file : List ℕ) (start end : ℕ) → TableFits file (open_table file start end)
 unfolding open_table TableFits
@@ -56,6 +56,6 @@ table_fits file start end =
     pick_with (TableFits file) _ _ _ (λ _. tt) (λ short. table_at_fits file start end _ (pointer_fits _ _ _ _) (ltb-false _ _ short))
 
 -- a table that opens lies in the file
-pub opened_in_file : (file : List ℕ) (start end : ℕ) {t : Table} → open_table file start end ≡ Opened.Table t → InFile file t
+pub opened_in_file : (file : List ℕ) (start end : ℕ) {t : Table} → open_table file start end ≡ Ok t → InFile file t
 unfolding TableFits
 opened_in_file file start end e = subst (TableFits file) e (table_fits file start end)

@@ -1,13 +1,13 @@
 -- The number of document 01 that each answer stands for; 0 for a success.
-use Rattle.std.specs.Prelude.{ℕ}
-use Rattle.layout.specs.declared.pointer.Pointed.{Pointed}
-use Rattle.layout.specs.declared.table.Opened.{Opened}
+use Rattle.std.specs.Prelude.{ℕ, Result, Ok, Err}
+use Rattle.layout.specs.declared.table.Table.{Table}
+use Rattle.layout.specs.declared.refusal.Refusal.{Refusal}
 use Rattle.layout.specs.Refusal.{number}
 
-unfoldable pub pointed_number : Pointed → ℕ
-pointed_number Pointed.Inside = 0
-pointed_number (Pointed.Refused why) = number why
+unfoldable pub pointed_number : Result (Unit {0}) Refusal → ℕ
+pointed_number (Ok _) = 0
+pointed_number (Err why) = number why
 
-unfoldable pub opened_number : Opened → ℕ
-opened_number (Opened.Table t) = 0
-opened_number (Opened.Refused why) = number why
+unfoldable pub opened_number : Result Table Refusal → ℕ
+opened_number (Ok t) = 0
+opened_number (Err why) = number why

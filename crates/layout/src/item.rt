@@ -5,7 +5,8 @@ ghost use Rattle.layout.specs.Pointer.{open_pointer};
 ghost use Rattle.layout.specs.Table.{InFile};
 ghost use Rattle.layout.specs.Item.{item_at};
 
-use crate::pointer::{Pointed, open_pointer};
+use crate::pointer::open_pointer;
+use crate::refusal::Refusal;
 use crate::sizes::RECORD_SIZE;
 use crate::table::Table;
 use words::align::Alignment;
@@ -32,7 +33,7 @@ pub const NO_ITEM: u32 = 0xFFFF_FFFF;
 //     +--------+-------+----------------------------------------------+
 //
 // To the right: the names that HashItem has for it. A value is its bytes ('v'), a nested table ('H'), or the indices of a container's children,
-// a word each ('L').
+// a word each ('L'). `kind` is a byte and no `Kind`: a file may have any.
 #[derive(Clone, Copy)]
 pub struct Item {
     pub hash: u32,
@@ -46,6 +47,7 @@ pub struct Item {
 
 // gvdb-rs: get_hash_item_for_index.
 // The item at an index of a table that lies in the file.
+#[tactic(auto, unfolding(crate::specs::Item::item_at))]
 pub fn item_at(file: &[u8], table: Table, index: usize) -> Item
     requires { InFile file.now table × (index < table.count) }
     ensures { result ≡ item_at file.now table index }
@@ -64,7 +66,7 @@ pub fn item_at(file: &[u8], table: Table, index: usize) -> Item
 
 // gvdb-rs: value_ptr.
 // Whether an item's value pointer opens in the file.
-pub fn open_value(file: &[u8], item: Item, alignment: Alignment) -> Pointed
+pub fn open_value(file: &[u8], item: Item, alignment: Alignment) -> Result<(), Refusal>
     ensures { result ≡ open_pointer (length file.now) item.from item.to (alignment_of alignment) }
 {
     open_pointer(

@@ -23,7 +23,7 @@ pub enum Kind {
 }
 
 // gvdb-rs: u8::from of a HashItemType.
-// The byte of a kind: 'v', 'H', 'L'.
+// The byte of a kind: 'v', 'H', 'L'. No `From` for `u8`, for the reason of `refusal::number_of`.
 pub fn byte_of(kind: Kind) -> u8
     ensures { result ≡ kind_byte kind }
 {

@@ -6,27 +6,33 @@ ghost use Rattle.layout.specs.Pointer.{open_pointer};
 use crate::refusal::Refusal;
 use words::align::{Alignment, bytes_of};
 
-// Whether a pointer opens.
+// Start and end of a stretch of a file.
 #[derive(Clone, Copy)]
-pub enum Pointed {
-    Inside,
-    Refused(Refusal),
+pub struct Pointer {
+    pub start: u32,
+    pub end: u32,
 }
 
 // gvdb-rs: Data::dereference, File::dereference.
 // Whether the pointer from start to end opens in a file of `size` bytes: 2 for a start above the end, then 3, then 2 for an end past the file.
-pub fn open_pointer(size: usize, start: usize, end: usize, alignment: Alignment) -> Pointed
+#[tactic(auto, unfolding(crate::specs::Pointer::open_pointer, words::specs::Choice::pick))]
+pub fn open_pointer(
+    size: usize,
+    start: usize,
+    end: usize,
+    alignment: Alignment,
+) -> Result<(), Refusal>
     ensures { result ≡ open_pointer size start end (alignment_of alignment) }
 {
     let multiple = bytes_of(alignment);
     if end < start {
-        return Pointed::Refused(Refusal::PointerOutside);
+        return Err(Refusal::PointerOutside);
     }
     if start % multiple != 0 {
-        return Pointed::Refused(Refusal::Misaligned);
+        return Err(Refusal::Misaligned);
     }
     if size < end {
-        return Pointed::Refused(Refusal::PointerOutside);
+        return Err(Refusal::PointerOutside);
     }
-    Pointed::Inside
+    Ok(())
 }

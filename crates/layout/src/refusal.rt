@@ -42,6 +42,7 @@ pub enum Refusal {
 }
 
 // The number that document 01 gives a refusal.
+// No `From` for `u32`: docs/PROMISES.md names this function, and its uniqueness theorem does (`crates/promises`); two ways to one number are no plainer.
 pub fn number_of(why: Refusal) -> u32
     ensures { result ≡ number why }
 {
@@ -89,8 +90,7 @@ pub fn bad_at(why: Refusal) -> usize
     ensures { result ≡ bad_at why }
 {
     match why {
-        Refusal::KeyNotUtf8(at) => at,
-        Refusal::FragmentNotUtf8(at) => at,
+        Refusal::KeyNotUtf8(at) | Refusal::FragmentNotUtf8(at) => at,
         _ => 0,
     }
 }

@@ -3,7 +3,7 @@ ghost use Rattle.std.specs.Prelude.{◌≡◌, ◌≤◌, length};
 ghost use Rattle.layout.specs.Table.{table_in, open_table};
 
 use crate::limits::LONGEST_FILE;
-use crate::pointer::{Pointed, open_pointer};
+use crate::pointer::open_pointer;
 use crate::refusal::Refusal;
 use crate::sizes::{BUCKET_SIZE, HEAD_SIZE, RECORD_SIZE};
 use words::align::Alignment;
@@ -37,37 +37,32 @@ pub struct Table {
     pub count: usize,
 }
 
-#[derive(Clone, Copy)]
-pub enum Opened {
-    Table(Table),
-    Refused(Refusal),
-}
-
 // gvdb-rs: HashTable::for_bytes, with try_from_bytes, read_bloom_words, read_buckets and read_items of HashHeader.
 // The table that fills the bytes from start to end: 4, 5, 6, 7, or its parts.
-fn table_in(file: &[u8], start: usize, end: usize) -> Opened
+#[tactic(auto, unfolding(crate::specs::Table::table_in, crate::specs::Table::table_of, words::specs::Choice::pick))]
+fn table_in(file: &[u8], start: usize, end: usize) -> Result<Table, Refusal>
     requires { (start ≤ end) × (end ≤ length file.now) }
     ensures { result ≡ table_in file.now start end }
 {
     let size = end - start;
     if size < HEAD_SIZE {
-        return Opened::Refused(Refusal::TableTooShort);
+        return Err(Refusal::TableTooShort);
     }
     let blooms = word_size(bloom_count(word_at(file, start)));
     let buckets = word_size(word_at(file, start + 4));
     let buckets_from = HEAD_SIZE + 4 * blooms;
     if size < buckets_from {
-        return Opened::Refused(Refusal::BloomTooLong);
+        return Err(Refusal::BloomTooLong);
     }
     let items_from = buckets_from + BUCKET_SIZE * buckets;
     if size < items_from {
-        return Opened::Refused(Refusal::BucketsTooLong);
+        return Err(Refusal::BucketsTooLong);
     }
     let item_bytes = size - items_from;
     if item_bytes % RECORD_SIZE != 0 {
-        return Opened::Refused(Refusal::ItemsUneven);
+        return Err(Refusal::ItemsUneven);
     }
-    Opened::Table(Table {
+    Ok(Table {
         start,
         blooms,
         buckets,
@@ -78,16 +73,15 @@ fn table_in(file: &[u8], start: usize, end: usize) -> Opened
 
 // gvdb-rs: File::read_hash_table, and File::hash_table for the root pointer.
 // The table at the pointer from start to end: 1, the pointer's errors, 4, 5, 6, 7.
-pub fn open_table(file: &[u8], start: u32, end: u32) -> Opened
+#[tactic(auto, using(crate::proofs::OpenLaws::pointer_inside), unfolding(crate::specs::Table::open_table, words::specs::Choice::pick))]
+pub fn open_table(file: &[u8], start: u32, end: u32) -> Result<Table, Refusal>
     ensures { result ≡ open_table file.now start end }
 {
     if LONGEST_FILE < file.len() {
-        return Opened::Refused(Refusal::FileTooLong);
+        return Err(Refusal::FileTooLong);
     }
     let from = start as usize;
     let to = end as usize;
-    match open_pointer(file.len(), from, to, Alignment::Table) {
-        Pointed::Refused(why) => Opened::Refused(why),
-        Pointed::Inside => table_in(file, from, to),
-    }
+    open_pointer(file.len(), from, to, Alignment::Table)?;
+    table_in(file, from, to)
 }

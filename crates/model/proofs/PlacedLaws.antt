@@ -1,4 +1,6 @@
 -- A table that was put into another stays placed, whatever is inserted: also once the item that held it holds something else.
+use Rattle.std.specs.Prelude.{Ok, Err, Some, None}
+use Rattle.model.specs.Inserted.{Inserted}
 use Prim.Native.Nat.{ℕ}
 use mathlib.Core.Path.{◌≡◌, refl, sym, ap, ◌∙◌}
 use mathlib.Core.Bool.{Bool, true, false, not}
@@ -9,17 +11,16 @@ use lib.ListN.{length, get_or}
 use lib.Seq.{get_or-set_other}
 use Rattle.words.specs.Choice.{pick}
 use Rattle.words.proofs.ChoiceLaws.{pick_with, both}
-use Rattle.model.specs.declared.Inserted.{Inserted}
 use Rattle.model.specs.Walk.{Walked}
-use Rattle.model.specs.Builder.{Builder, Standing, no_standing, Result, result, standing_at, free_standing, counted, at_walked, put, keyed, insert_value, place, when_accepted, settled, insert_table}
+use Rattle.model.specs.Builder.{Builder, Standing, no_standing, Reply, result, standing_at, free_standing, counted, at_walked, put, keyed, insert_value, place, when_accepted, settled, insert_table}
 
 -- ---- the insert itself changes no table
 
 module _ (m : Builder) where
-  abbrev SameTables : Result Inserted → Type 0
+  abbrev SameTables : Reply Inserted → Type 0
   SameTables r = r.after.tables ≡ m.tables
 
-  same : (test : Bool) (r s : Result Inserted) → SameTables r → SameTables s → SameTables (pick test r s)
+  same : (test : Bool) (r s : Reply Inserted) → SameTables r → SameTables s → SameTables (pick test r s)
   same test r s e f = pick_with SameTables test r s (λ _. e) (λ _. f)
 
   walked_same : (w : Walked) (deep : Bool) (t : ℕ) (key : List ℕ) (size : ℕ) → SameTables (at_walked w deep m t key size)
@@ -34,14 +35,14 @@ module _ (m : Builder) where
 -- ---- a placed table stays placed
 
 module _ (m : Builder) (u : ℕ) (placed : (standing_at m u).placed ≡ true) where
-  abbrev Stays : Result Inserted → Type 0
+  abbrev Stays : Reply Inserted → Type 0
   Stays r = (standing_at r.after u).placed ≡ true
 
-  unchanged : (r : Result Inserted) → r.after.tables ≡ m.tables → Stays r
+  unchanged : (r : Reply Inserted) → r.after.tables ≡ m.tables → Stays r
   unfolding standing_at
   unchanged r e = ap (λ (tables : List Standing). (get_or tables u no_standing).placed) e ∙ placed
 
-  stays : (test : Bool) (r s : Result Inserted) → (test ≡ true → Stays r) → Stays s → Stays (pick test r s)
+  stays : (test : Bool) (r s : Reply Inserted) → (test ≡ true → Stays r) → Stays s → Stays (pick test r s)
   stays test r s e f = pick_with Stays test r s e (λ _. f)
 
   pub value_stays_placed : (t : ℕ) (key value : List ℕ) → (standing_at (insert_value m t key value).after u).placed ≡ true
@@ -58,9 +59,8 @@ module _ (m : Builder) (u : ℕ) (placed : (standing_at m u).placed ≡ true) wh
 
   settled_stays : (guest : ℕ) → (u ≡ guest → ⊥) → (answer : Inserted) (after : Builder) → (standing_at after u).placed ≡ true → Stays (settled guest (result answer after))
   unfolding settled when_accepted place standing_at
-  settled_stays guest apart Inserted.New after e = ap (λ (s : Standing). s.placed) (get_or-set_other after.tables guest u _ no_standing apart) ∙ e
-  settled_stays guest apart (Inserted.Replaced kind) after e = ap (λ (s : Standing). s.placed) (get_or-set_other after.tables guest u _ no_standing apart) ∙ e
-  settled_stays guest apart (Inserted.Refused why) after e = e
+  settled_stays guest apart (Ok _) after e = ap (λ (s : Standing). s.placed) (get_or-set_other after.tables guest u _ no_standing apart) ∙ e
+  settled_stays guest apart (Err why) after e = e
 
   pub table_stays_placed : (t : ℕ) (key : List ℕ) (guest : ℕ) → (standing_at (insert_table m t key guest).after u).placed ≡ true
   unfolding insert_table keyed put

@@ -3,3 +3,4 @@ pub mod Walk
 pub mod Builder
 pub mod Worked
 pub mod Bad
+pub mod Inserted

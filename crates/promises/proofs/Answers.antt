@@ -3,8 +3,8 @@ use mathlib.Core.Path.{sym, ◌∙◌}
 use Rattle.promises.specs.One.{OneAnswer}
 use Rattle.answers.proofs.header.order_of.Kinds as order-of-kinds
 use Rattle.answers.proofs.header.order_of.Reads as order-of-reads
-use Rattle.answers.proofs.header.headed_of.Kinds as headed-of-kinds
-use Rattle.answers.proofs.header.headed_of.Reads as headed-of-reads
+use Rattle.answers.proofs.header.GvdbHeaderFromResultHeaderRefusal.from.Kinds as headed-of-kinds
+use Rattle.answers.proofs.header.GvdbHeaderFromResultHeaderRefusal.from.Reads as headed-of-reads
 use Rattle.answers.proofs.header.header_laid_of.Kinds as header-laid-of-kinds
 use Rattle.answers.proofs.header.header_laid_of.Reads as header-laid-of-reads
 use Rattle.answers.proofs.manner.form_of.Kinds as form-of-kinds
@@ -13,26 +13,26 @@ use Rattle.answers.proofs.manner.manner_of.Kinds as manner-of-kinds
 use Rattle.answers.proofs.manner.manner_of.Reads as manner-of-reads
 use Rattle.answers_build.proofs.building.started_of.Kinds as started-of-kinds
 use Rattle.answers_build.proofs.building.started_of.Reads as started-of-reads
-use Rattle.answers_build.proofs.building.added_of.Kinds as added-of-kinds
-use Rattle.answers_build.proofs.building.added_of.Reads as added-of-reads
-use Rattle.answers_build.proofs.building.inserted_of.Kinds as inserted-of-kinds
-use Rattle.answers_build.proofs.building.inserted_of.Reads as inserted-of-reads
-use Rattle.answers_build.proofs.building.counted_of.Kinds as counted-of-kinds
-use Rattle.answers_build.proofs.building.counted_of.Reads as counted-of-reads
-use Rattle.answers.proofs.checking.checked_of.Kinds as checked-of-kinds
-use Rattle.answers.proofs.checking.checked_of.Reads as checked-of-reads
-use Rattle.answers.proofs.reading.looked_of.Kinds as looked-of-kinds
-use Rattle.answers.proofs.reading.looked_of.Reads as looked-of-reads
-use Rattle.answers.proofs.reading.layered_of.Kinds as layered-of-kinds
-use Rattle.answers.proofs.reading.layered_of.Reads as layered-of-reads
-use Rattle.answers.proofs.reading.listed_of.Kinds as listed-of-kinds
-use Rattle.answers.proofs.reading.listed_of.Reads as listed-of-reads
-use Rattle.answers.proofs.reading.valued_of.Kinds as valued-of-kinds
-use Rattle.answers.proofs.reading.valued_of.Reads as valued-of-reads
-use Rattle.answers.proofs.reading.childed_of.Kinds as childed-of-kinds
-use Rattle.answers.proofs.reading.childed_of.Reads as childed-of-reads
-use Rattle.answers_build.proofs.writing.written_of.Kinds as written-of-kinds
-use Rattle.answers_build.proofs.writing.written_of.Reads as written-of-reads
+use Rattle.answers_build.proofs.building.GvdbTableFromResultU32Refusal.from.Kinds as added-of-kinds
+use Rattle.answers_build.proofs.building.GvdbTableFromResultU32Refusal.from.Reads as added-of-reads
+use Rattle.answers_build.proofs.building.GvdbInsertedFromResultOptionKindRefusal.from.Kinds as inserted-of-kinds
+use Rattle.answers_build.proofs.building.GvdbInsertedFromResultOptionKindRefusal.from.Reads as inserted-of-reads
+use Rattle.answers_build.proofs.building.GvdbCountFromResultU32Refusal.from.Kinds as counted-of-kinds
+use Rattle.answers_build.proofs.building.GvdbCountFromResultU32Refusal.from.Reads as counted-of-reads
+use Rattle.answers.proofs.checking.GvdbCheckFromChecked.from.Kinds as checked-of-kinds
+use Rattle.answers.proofs.checking.GvdbCheckFromChecked.from.Reads as checked-of-reads
+use Rattle.answers.proofs.reading.GvdbPlaceFromResultPointerRefusal.from.Kinds as looked-of-kinds
+use Rattle.answers.proofs.reading.GvdbPlaceFromResultPointerRefusal.from.Reads as looked-of-reads
+use Rattle.answers.proofs.reading.GvdbLayeredFromLayered.from.Kinds as layered-of-kinds
+use Rattle.answers.proofs.reading.GvdbLayeredFromLayered.from.Reads as layered-of-reads
+use Rattle.answers.proofs.reading.GvdbKeyFromResultWrittenKeyRefusal.from.Kinds as listed-of-kinds
+use Rattle.answers.proofs.reading.GvdbKeyFromResultWrittenKeyRefusal.from.Reads as listed-of-reads
+use Rattle.answers.proofs.reading.GvdbValueFromValued.from.Kinds as valued-of-kinds
+use Rattle.answers.proofs.reading.GvdbValueFromValued.from.Reads as valued-of-reads
+use Rattle.answers.proofs.reading.GvdbChildFromResultChildRefusal.from.Kinds as childed-of-kinds
+use Rattle.answers.proofs.reading.GvdbChildFromResultChildRefusal.from.Reads as childed-of-reads
+use Rattle.answers_build.proofs.writing.GvdbImageFromResultImageRefusal.from.Kinds as written-of-kinds
+use Rattle.answers_build.proofs.writing.GvdbImageFromResultImageRefusal.from.Reads as written-of-reads
 
 pub order-of-unique : OneAnswer order-of-kinds.ps order-of-kinds.r order-of-reads.Post
 order-of-unique κs a s t x y p q = p ∙ sym q

@@ -1,8 +1,9 @@
 -- A value lookup over two tables, from document 02, §6: the owner's table is asked first, and every answer of it but 12 is final; where it answers 12 the
 -- answer is the district's, its own 12 included. Each table is read in a manner of its own.
-use Rattle.std.specs.Prelude.{ℕ, ◌≡◌, ◌↔◌, List, eqb}
+use Rattle.std.specs.Prelude.{ℕ, ◌≡◌, ◌↔◌, List, eqb, Result}
+use Rattle.layout.specs.declared.refusal.Refusal.{Refusal}
+use Rattle.layout.specs.declared.pointer.Pointer.{Pointer}
 use Rattle.words.specs.Choice.{pick}
-use Rattle.read.specs.declared.lookup.Looked.{Looked}
 use Rattle.read.specs.declared.layered.Source.{Source}
 use Rattle.read.specs.declared.layered.Layered.{Layered}
 use Rattle.read_find.specs.Find.{Manner}
@@ -10,11 +11,11 @@ use Rattle.read.specs.Lookup.{lookup_value}
 use Rattle.read.specs.Answer.{looked_number}
 
 -- an answer, with the mark of the table that gave it
-abbrev pub marked : Looked → Source → Layered
+abbrev pub marked : Result Pointer Refusal → Source → Layered
 marked looked from = record { looked = looked; from = from }
 
 -- from what the owner's table and the district's answer, each alone
-unfoldable pub layered_of : Looked → Looked → Layered
+unfoldable pub layered_of : Result Pointer Refusal → Result Pointer Refusal → Layered
 layered_of own under = pick (eqb (looked_number own) 12) (marked under Source.District) (marked own Source.Owner)
 
 unfoldable pub layered_value : Manner → Manner → List ℕ → ℕ → ℕ → List ℕ → ℕ → ℕ → List ℕ → Layered

@@ -6,11 +6,12 @@ ghost use Rattle.read_find.specs.Find.{manner_of};
 ghost use Rattle.read.specs.Lookup.{lookup_in, value_of, lookup_value, at_item};
 ghost use Rattle.read.specs.Layered.{layered_of, layered_value};
 
-use crate::lookup::{Looked, value_of};
+use crate::lookup::value_of;
 use layout::item::item_at;
-use layout::refusal::{Refusal, number_of};
-use layout::table::{Opened, Table, open_table};
-use read_find::find::{Found, find_item};
+use layout::pointer::Pointer;
+use layout::refusal::Refusal;
+use layout::table::{Table, open_table};
+use read_find::find::find_item;
 use read_find::manner::Manner;
 use text::utf8::{first_bad, is_utf8};
 
@@ -24,27 +25,30 @@ pub enum Source {
 // What a lookup over two tables answers; the pointer is one into the file of the table that answered.
 #[derive(Clone, Copy)]
 pub struct Layered {
-    pub looked: Looked,
+    pub looked: Result<Pointer, Refusal>,
     pub from: Source,
 }
 
 // The value of a key, which is UTF-8, in the district's table: `lookup::lookup_value` again. Each of the two has one caller, so the compiler takes it into it; with
 // a second caller it would be a call, which costs a lookup forty instructions more.
-fn lookup_under(file: &[u8], start: u32, end: u32, key: &[u8], manner: Manner) -> Looked
+#[tactic(auto, using(layout::proofs::OpenLaws::opened_in_file, crate::proofs::LookupLaws::finds), unfolding(crate::specs::Lookup::lookup_value, crate::specs::Lookup::lookup_item, crate::specs::Lookup::lookup_in, crate::specs::Lookup::at_opened, crate::specs::Lookup::at_found, crate::specs::Lookup::at_item, words::specs::Choice::pick))]
+fn lookup_under(
+    file: &[u8],
+    start: u32,
+    end: u32,
+    key: &[u8],
+    manner: Manner,
+) -> Result<Pointer, Refusal>
     requires { is_utf8 key.now ≡ true }
     ensures { result ≡ lookup_value (manner_of manner) file.now start end key.now }
 {
-    match open_table(file, start, end) {
-        Opened::Refused(unopened) => Looked::Refused(unopened),
-        Opened::Table(table) => match find_item(file, table, key, manner) {
-            Found::Nothing => Looked::Refused(Refusal::KeyNotFound),
-            Found::At(index) => value_of(file, item_at(file, table, index)),
-        },
-    }
+    let table = open_table(file, start, end)?;
+    let index = find_item(file, table, key, manner).ok_or(Refusal::KeyNotFound)?;
+    value_of(file, item_at(file, table, index))
 }
 
-// The pointer of a key's value, in the owner's table once it is open, or in the district's. What the owner's table answers is taken apart where it is made, so that
-// a pointer is handed on as it is.
+// The pointer of a key's value, in the owner's table once it is open, or in the district's. The owner's table answers 12 just where its search finds no item.
+#[tactic(auto, using(read_find::proofs::FindLaws::found_below, crate::proofs::LayeredLaws::value_told), unfolding(crate::specs::Layered::layered_of, crate::specs::Answer::looked_number, crate::specs::Lookup::lookup_in, crate::specs::Lookup::at_found, crate::specs::Lookup::at_item, words::specs::Choice::pick))]
 fn layered_in<'a, 'k>(
     owner: &'a [u8],
     table: Table,
@@ -60,35 +64,24 @@ fn layered_in<'a, 'k>(
 {
     if !is_utf8(key) {
         return Layered {
-            looked: Looked::Refused(Refusal::KeyNotUtf8(first_bad(key))),
+            looked: Err(Refusal::KeyNotUtf8(first_bad(key))),
             from: Source::Owner,
         };
     }
-    let own = match find_item(owner, table, key, omanner) {
-        Found::Nothing => Looked::Refused(Refusal::KeyNotFound),
-        Found::At(index) => value_of(owner, item_at(owner, table, index)),
+    let Some(index) = find_item(owner, table, key, omanner) else {
+        return Layered {
+            looked: lookup_under(district, dstart, dend, key, dmanner),
+            from: Source::District,
+        };
     };
-    match own {
-        Looked::Pointer { start, end } => Layered {
-            looked: Looked::Pointer { start, end },
-            from: Source::Owner,
-        },
-        Looked::Refused(why) => {
-            if number_of(why) == 12 {
-                return Layered {
-                    looked: lookup_under(district, dstart, dend, key, dmanner),
-                    from: Source::District,
-                };
-            }
-            Layered {
-                looked: Looked::Refused(why),
-                from: Source::Owner,
-            }
-        }
+    Layered {
+        looked: value_of(owner, item_at(owner, table, index)),
+        from: Source::Owner,
     }
 }
 
 // The pointer of a key's value, in the owner's table or in the district's. Both files are lent for one lifetime: a view is a part of either.
+#[tactic(auto, using(layout::proofs::OpenLaws::opened_in_file), unfolding(crate::specs::Layered::layered_value, crate::specs::Lookup::lookup_value, crate::specs::Lookup::lookup_item, crate::specs::Lookup::at_opened))]
 pub fn lookup_layered<'a, 'k>(
     owner: &'a [u8],
     ostart: u32,
@@ -103,12 +96,10 @@ pub fn lookup_layered<'a, 'k>(
     ensures { result ≡ layered_value (manner_of omanner) (manner_of dmanner) owner.now ostart oend district.now dstart dend key.now }
 {
     match open_table(owner, ostart, oend) {
-        Opened::Refused(unopened) => Layered {
-            looked: Looked::Refused(unopened),
+        Ok(table) => layered_in(owner, table, district, dstart, dend, key, omanner, dmanner),
+        Err(why) => Layered {
+            looked: Err(why),
             from: Source::Owner,
         },
-        Opened::Table(table) => {
-            layered_in(owner, table, district, dstart, dend, key, omanner, dmanner)
-        }
     }
 }

@@ -1,4 +1,5 @@
 -- Laws about an item's key: what a step of its chain tells, one turn of the definition and its end.
+use Rattle.std.specs.Prelude.{Result, Ok, Err, Option, Some, None}
 use Prim.Native.Nat.{ℕ, suc, ◌+◌, ◌-◌, ◌≤◌, ◌<◌}
 use mathlib.Core.Path.{◌≡◌, refl, sym, ap, ◌∙◌}
 use mathlib.Core.List.{List}
@@ -15,13 +16,11 @@ use Rattle.text.specs.Utf8.{first_bad, is_utf8}
 use Rattle.key_order.proofs.CompareLaws.{same_equal, same_refl}
 use Rattle.layout.specs.declared.refusal.Refusal.{Refusal}
 use Rattle.layout.specs.declared.refusal.Refusal.TheVariants.{FragmentNotUtf8, ParentOutside, ParentsEndless}
-use Rattle.layout.specs.declared.pointer.Pointed.{Pointed}
 use Rattle.layout.specs.declared.table.Table.{Table}
 use Rattle.layout.specs.declared.item.Item.{Item}
 use Rattle.layout.specs.Pointer.{open_pointer}
 use Rattle.layout.specs.Item.{item_at, no_item}
 use Rattle.layout.proofs.OpenLaws.{pointer_inside}
-use Rattle.read_chain.specs.declared.chain.Step.{Step}
 use Rattle.read_chain.specs.Chain.{fragment_of, parent_of, after_pointer, climb_from, Joined, join_step, key_of, names}
 
 -- ---- a fragment
@@ -45,24 +44,24 @@ fragment_size file item l = length_part file item.key item.size l
 
 -- the parent that an item names, test by test
 module _ (count parent : ℕ) where
-  pub parent_root : parent ≡ no_item → parent_of count parent ≡ Step.Root
+  pub parent_root : parent ≡ no_item → parent_of count parent ≡ Ok None
   unfolding parent_of pick
   parent_root root = rw (eq-eqb parent no_item root)
 
   module _ (some : parent ≡ no_item → ⊥) {at : ℕ} (is : at ≡ parent) where
-    pub parent_up : at < count → parent_of count parent ≡ Step.Up at
+    pub parent_up : at < count → parent_of count parent ≡ Ok (Some at)
     unfolding parent_of pick
     parent_up below = rw (ne_eqb parent no_item some, ← is, lt-ltb at count below)
 
-    pub parent_outside : count ≤ at → parent_of count parent ≡ Step.Refused ParentOutside
+    pub parent_outside : count ≤ at → parent_of count parent ≡ Err ParentOutside
     unfolding parent_of pick
     parent_outside past = rw (ne_eqb parent no_item some, ← is, le-ltb at count past)
 
 -- what a step of an item tells: its fragment lies in the file, and its parent is an item
-unfoldable pub StepFits : List ℕ → ℕ → Item → Step → Type 0
-StepFits file count item Step.Root = item.key + item.size ≤ length file
-StepFits file count item (Step.Up parent) = (item.key + item.size ≤ length file) × (parent < count)
-StepFits file count item (Step.Refused why) = Unit
+unfoldable pub StepFits : List ℕ → ℕ → Item → Result (Option ℕ) Refusal → Type 0
+StepFits file count item (Ok None) = item.key + item.size ≤ length file
+StepFits file count item (Ok (Some parent)) = (item.key + item.size ≤ length file) × (parent < count)
+StepFits file count item (Err why) = Unit
 
 parent_fits : (file : List ℕ) (count : ℕ) (item : Item) → item.key + item.size ≤ length file → StepFits file count item (parent_of count item.parent)
 unfolding parent_of StepFits
@@ -74,54 +73,54 @@ pub climb_fits : (file : List ℕ) (count : ℕ) (item : Item) → StepFits file
 unfolding climb_from StepFits after_pointer
 climb_fits file count item = by_pointer (open_pointer (length file) item.key (item.key + item.size) 1) refl
   where
-    by_pointer : (p : Pointed) → open_pointer (length file) item.key (item.key + item.size) 1 ≡ p
-        → StepFits file count item (after_pointer p (pick (is_utf8 (fragment_of file item)) (parent_of count item.parent) (Step.Refused (FragmentNotUtf8 (first_bad (fragment_of file item))))))
-    by_pointer Pointed.Inside e =
+    by_pointer : (p : Result (Unit {0}) Refusal) → open_pointer (length file) item.key (item.key + item.size) 1 ≡ p
+        → StepFits file count item (after_pointer p (pick (is_utf8 (fragment_of file item)) (parent_of count item.parent) (Err (FragmentNotUtf8 (first_bad (fragment_of file item))))))
+    by_pointer (Ok _) e =
         pick_with (StepFits file count item) _ _ _ (λ _. parent_fits file count item (pointer_inside _ _ _ _ e).1) (λ _. tt)
-    by_pointer (Pointed.Refused why) e = tt
+    by_pointer (Err why) e = tt
 
 -- a step that is not refused is the parent's, and the fragment lies in the file
-pub record Climbs (file : List ℕ) (count : ℕ) (item : Item) (s : Step) : Type 0 where
+pub record Climbs (file : List ℕ) (count : ℕ) (item : Item) (s : Result (Option ℕ) Refusal) : Type 0 where
   pub is : s ≡ parent_of count item.parent
   pub inside : item.key + item.size ≤ length file
   pub text : is_utf8 (fragment_of file item) ≡ true
 
-pub climb_or : (file : List ℕ) (count : ℕ) (item : Item) → ((why : Refusal) → climb_from file count item ≡ Step.Refused why → ⊥)
+pub climb_or : (file : List ℕ) (count : ℕ) (item : Item) → ((why : Refusal) → climb_from file count item ≡ Err why → ⊥)
     → Climbs file count item (climb_from file count item)
 unfolding climb_from after_pointer
 climb_or file count item = by_pointer (open_pointer (length file) item.key (item.key + item.size) 1) refl
   where
-    P : Step → Type 0
-    P s = ((why : Refusal) → s ≡ Step.Refused why → ⊥) → Climbs file count item s
+    P : Result (Option ℕ) Refusal → Type 0
+    P s = ((why : Refusal) → s ≡ Err why → ⊥) → Climbs file count item s
 
-    by_pointer : (p : Pointed) → open_pointer (length file) item.key (item.key + item.size) 1 ≡ p
-        → P (after_pointer p (pick (is_utf8 (fragment_of file item)) (parent_of count item.parent) (Step.Refused (FragmentNotUtf8 (first_bad (fragment_of file item))))))
-    by_pointer Pointed.Inside e =
+    by_pointer : (p : Result (Unit {0}) Refusal) → open_pointer (length file) item.key (item.key + item.size) 1 ≡ p
+        → P (after_pointer p (pick (is_utf8 (fragment_of file item)) (parent_of count item.parent) (Err (FragmentNotUtf8 (first_bad (fragment_of file item))))))
+    by_pointer (Ok _) e =
         pick_with P _ _ _ (λ good n. record { is = refl; inside = (pointer_inside _ _ _ _ e).1; text = good }) (λ _ n. absurd (n (FragmentNotUtf8 (first_bad (fragment_of file item))) refl))
-    by_pointer (Pointed.Refused why) e = λ n. absurd (n why refl)
+    by_pointer (Err why) e = λ n. absurd (n why refl)
 
 -- the fragment of an item that goes on to its parent is a text
-pub up_text : (file : List ℕ) (count : ℕ) (item : Item) {parent : ℕ} → climb_from file count item ≡ Step.Up parent → is_utf8 (fragment_of file item) ≡ true
+pub up_text : (file : List ℕ) (count : ℕ) (item : Item) {parent : ℕ} → climb_from file count item ≡ Ok (Some parent) → is_utf8 (fragment_of file item) ≡ true
 up_text file count item {parent} e =
     (climb_or file count item (λ why r.
-    let z : Step.Up parent ≡ Step.Refused why = sym e ∙ r in
+    let z : Ok (Some parent) ≡ Err why = sym e ∙ r in
     let y : ◌≡◌ {A = ℕ} 0 1 = cc in
     omega arith)).text
 
 -- an item whose fragment opens and is UTF-8 goes on to its parent
-pub climb_on : (file : List ℕ) (count : ℕ) (item : Item) → open_pointer (length file) item.key (item.key + item.size) 1 ≡ Pointed.Inside
+pub climb_on : (file : List ℕ) (count : ℕ) (item : Item) → open_pointer (length file) item.key (item.key + item.size) 1 ≡ Ok tt
     → is_utf8 (fragment_of file item) ≡ true → climb_from file count item ≡ parent_of count item.parent
 unfolding climb_from after_pointer pick
 climb_on file count item opens good = simp (opens, good)
 
 -- the step, test by test, with the fragment's offset and size as the code has them
 module _ (file : List ℕ) (count : ℕ) (item : Item) {start size : ℕ} (s : start ≡ item.key) (z : size ≡ item.size) where
-  pub climb_refused : {why : Refusal} → open_pointer (length file) start (start + size) 1 ≡ Pointed.Refused why → Step.Refused why ≡ climb_from file count item
+  pub climb_refused : {why : Refusal} → open_pointer (length file) start (start + size) 1 ≡ Err why → Err why ≡ climb_from file count item
   unfolding climb_from after_pointer
   climb_refused e = rw (same_place file item s z ∙ e)
 
-  module _ (inside : open_pointer (length file) start (start + size) 1 ≡ Pointed.Inside) where
-    pub climb_inside : climb_from file count item ≡ pick (is_utf8 (fragment_of file item)) (parent_of count item.parent) (Step.Refused (FragmentNotUtf8 (first_bad (fragment_of file item))))
+  module _ (inside : open_pointer (length file) start (start + size) 1 ≡ Ok tt) where
+    pub climb_inside : climb_from file count item ≡ pick (is_utf8 (fragment_of file item)) (parent_of count item.parent) (Err (FragmentNotUtf8 (first_bad (fragment_of file item))))
     unfolding climb_from after_pointer
     climb_inside = rw (same_place file item s z ∙ inside)
 
@@ -137,15 +136,18 @@ module _ (file : List ℕ) (count : ℕ) (item : Item) {start size : ℕ} (s : s
       unfolding pick
       climb_text whole = climb_inside ∙ rw (is_text ∙ eq-eqb bad size whole)
 
-      pub climb_no_text : (bad ≡ size → ⊥) → Step.Refused (FragmentNotUtf8 bad) ≡ climb_from file count item
+      pub climb_no_text : (bad ≡ size → ⊥) → Err (FragmentNotUtf8 bad) ≡ climb_from file count item
       unfolding pick
       climb_no_text cut =
-          ap (λ (n : ℕ). Step.Refused (FragmentNotUtf8 n)) (e ∙ ap first_bad (fragment_taken file item s z)) ∙ sym (climb_inside ∙ rw (is_text ∙ ne_eqb bad size cut))
+          ap (λ (n : ℕ). Err (FragmentNotUtf8 n)) (e ∙ ap first_bad (fragment_taken file item s z)) ∙ sym (climb_inside ∙ rw (is_text ∙ ne_eqb bad size cut))
+
+-- what `climb` needs
+pub ruleset climbing = (pointer_inside, climb_text, climb_no_text)
 
 -- ---- a key
 
 -- one step of the definition, with steps left, and its end
-pub key_turn : (file : List ℕ) (t : Table) (left index : ℕ) (item : Item) (s : Step) → 0 < left → item ≡ item_at file t index → climb_from file t.count item ≡ s
+pub key_turn : (file : List ℕ) (t : Table) (left index : ℕ) (item : Item) (s : Result (Option ℕ) Refusal) → 0 < left → item ≡ item_at file t index → climb_from file t.count item ≡ s
     → key_of file t left index ≡ join_step s (fragment_of file item) (λ parent. key_of file t (left - 1) parent)
 unfolding key_of
 key_turn file t left index item s h is e =

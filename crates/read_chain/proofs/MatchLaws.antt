@@ -1,5 +1,7 @@
 -- The loop over a chain decides what the definition says: a chain of one item more names a key just where the key ends in the item's
 -- fragment and the parent's chain names the front.
+use Rattle.std.specs.Prelude.{Result, Ok, Err, Option, Some, None}
+use Rattle.std.specs.Result.{is_err}
 use Prim.Native.Nat.{ℕ, suc, ◌+◌, ◌-◌, ◌≤◌, ◌<◌}
 use mathlib.Core.Path.{◌≡◌, refl, sym, ap, ◌∙◌, subst}
 use mathlib.Core.List.{List, [], ◌∷◌, ◌++◌}
@@ -17,15 +19,14 @@ use Rattle.text.proofs.Utf8Parts.{front_text, end_text}
 use Rattle.key_order.proofs.CompareLaws.{same_equal, same_refl, equal_same, same_lengths, ends_split}
 use Rattle.layout.specs.declared.refusal.Refusal.{Refusal}
 use Rattle.layout.specs.declared.refusal.Refusal.TheVariants.{FragmentNotUtf8}
-use Rattle.layout.specs.declared.pointer.Pointed.{Pointed}
 use Rattle.layout.specs.declared.table.Table.{Table}
 use Rattle.layout.specs.declared.item.Item.{Item}
 use Rattle.layout.specs.Pointer.{open_pointer}
 use Rattle.layout.specs.Item.{item_at}
-use Rattle.read_chain.specs.declared.chain.Step.{Step}
 use Rattle.read_chain.specs.declared.chain.Matched.{Matched}
 use Rattle.read_chain.specs.Chain.{parent_of, Joined, append, join_step, key_of, names, match_tail, match_step, match_text, match_item}
-use Rattle.read_chain.proofs.ChainLaws.{fragment_taken, climb_refused, climb_inside, up_text, StepFits, climb_fits}
+use Rattle.layout.proofs.OpenLaws.{pointer_inside}
+use Rattle.read_chain.proofs.ChainLaws.{fragment_taken, parent_root, parent_up, parent_outside, climb_refused, climb_inside, up_text, StepFits, climb_fits}
 
 -- ---- two keys with one tail
 
@@ -75,13 +76,13 @@ unfolding after_match pick
 after_pick file t steps key true parent size = refl
 after_pick file t steps key false parent size = refl
 
-match_step_lem : (file : List ℕ) (t : Table) (steps : ℕ) (s : Step) (f key : List ℕ)
+match_step_lem : (file : List ℕ) (t : Table) (steps : ℕ) (s : Result (Option ℕ) Refusal) (f key : List ℕ)
     → names (join_step s f (λ parent. key_of file t steps parent)) key ≡ after_match file t steps key (match_step s f key)
 unfolding join_step match_step match_tail after_match names
-match_step_lem file t steps Step.Root f key = refl
-match_step_lem file t steps (Step.Up parent) f key =
+match_step_lem file t steps (Ok None) f key = refl
+match_step_lem file t steps (Ok (Some parent)) f key =
     names-tail (key_of file t steps parent) f key ∙ sym (after_pick file t steps key (ends_at key (length key) f) parent (length key - length f))
-match_step_lem file t steps (Step.Refused why) f key = refl
+match_step_lem file t steps (Err why) f key = refl
 
 match_law : (file : List ℕ) (t : Table) (steps index : ℕ) (key : List ℕ)
     → names (key_of file t (suc steps) index) key ≡ after_match file t steps key (match_item file t index key)
@@ -91,19 +92,19 @@ match_law file t steps index key = match_step_lem file t steps _ _ key
 -- what a fragment says, test by test
 module _ (f key : List ℕ) where
   -- a key that does not end in the fragment is no match, whatever the step
-  step_other : ends_at key (length key) f ≡ false → (s : Step) → Matched.Ended false ≡ match_step s f key
+  step_other : ends_at key (length key) f ≡ false → (s : Result (Option ℕ) Refusal) → Matched.Ended false ≡ match_step s f key
   unfolding match_step match_tail pick
-  step_other other Step.Root = ap Matched.Ended (sym (unequal (same_bytes f key) refl))
+  step_other other (Ok None) = ap Matched.Ended (sym (unequal (same_bytes f key) refl))
     where
       unequal : (q : Bool) → same_bytes f key ≡ q → q ≡ false
       unequal true e = sym (subst (λ (l : List ℕ). ends_at l (length l) f ≡ true) (same_equal f key e) (ends_joined [] f)) ∙ other
       unequal false e = refl
-  step_other other (Step.Up parent) = rw other
-  step_other other (Step.Refused why) = refl
+  step_other other (Ok (Some parent)) = rw other
+  step_other other (Err why) = refl
 
-  pub match_other : (step : Step) → ends_at key (length key) f ≡ false → Matched.Ended false ≡ match_text step f key
+  pub match_other : (step : Result (Option ℕ) Refusal) → ends_at key (length key) f ≡ false → Matched.Ended false ≡ match_text step f key
   unfolding match_text
-  match_other step other = step_other other (pick (is_utf8 f) step (Step.Refused (FragmentNotUtf8 (first_bad f))))
+  match_other step other = step_other other (pick (is_utf8 f) step (Err (FragmentNotUtf8 (first_bad f))))
 
   -- the key ends in the fragment
   module _ (ends : ends_at key (length key) f ≡ true) where
@@ -128,7 +129,7 @@ module _ (f key : List ℕ) where
       ends_front : is_utf8 f ≡ true → is_utf8 (take (length key - length f) key) ≡ true
       ends_front good = front_text (take (length key - length f) key) f (sym (ap is_utf8 joins) ∙ text) (ends_text ∙ good)
 
-      pub match_cut : (step : Step) → starts_whole f ≡ false → Matched.Ended false ≡ match_text step f key
+      pub match_cut : (step : Result (Option ℕ) Refusal) → starts_whole f ≡ false → Matched.Ended false ≡ match_text step f key
       unfolding match_text match_step pick
       match_cut step cuts = rw (sym ends_text ∙ cuts)
 
@@ -136,40 +137,54 @@ module _ (f key : List ℕ) where
         good : is_utf8 f ≡ true
         good = sym ends_text ∙ whole
 
-        pub text_refused : {step : Step} {why : Refusal} → step ≡ Step.Refused why → Matched.Ended false ≡ match_text step f key
+        pub text_refused : {step : Result (Option ℕ) Refusal} {why : Refusal} → step ≡ Err why → Matched.Ended false ≡ match_text step f key
         unfolding match_text match_step pick
         text_refused e = rw (good, e)
 
-        pub text_root : {step : Step} → step ≡ Step.Root → Matched.Ended (eqb (length f) (length key)) ≡ match_text step f key
+        pub text_root : {step : Result (Option ℕ) Refusal} → step ≡ Ok None → Matched.Ended (eqb (length f) (length key)) ≡ match_text step f key
         unfolding match_text match_step pick
         text_root e = rw (good, e, root_length)
 
-        pub text_up : {step : Step} {parent : ℕ} → step ≡ Step.Up parent → Matched.Rest parent (length key - length f) ≡ match_text step f key
+        pub text_up : {step : Result (Option ℕ) Refusal} {parent : ℕ} → step ≡ Ok (Some parent) → Matched.Rest parent (length key - length f) ≡ match_text step f key
         unfolding match_text match_step match_tail pick
         text_up e = rw (good, e, ends)
 
+-- a pointer that is refused, and one that is not
+refused : {p : Result (Unit {0}) Refusal} → is_err p ≡ true → (why : Refusal) × (p ≡ Err why)
+refused {p = Ok _} err = let z : ◌≡◌ {A = ℕ} 0 1 = cc in absurd (omega arith)
+refused {p = Err why} err = (why, refl)
+
+pub opens : {p : Result (Unit {0}) Refusal} → is_err p ≡ false → p ≡ Ok tt
+opens {p = Ok _} good = refl
+opens {p = Err why} good = let z : ◌≡◌ {A = ℕ} 0 1 = cc in absurd (omega arith)
+
 -- what the item at hand says, with its fragment's offset and size as the code has them
 module _ (file : List ℕ) (t : Table) (index : ℕ) (key : List ℕ) {item : Item} (is : item ≡ item_at file t index) {start size : ℕ} (s : start ≡ item.key) (z : size ≡ item.size) where
-  pub match_refused : {why : Refusal} → open_pointer (length file) start (start + size) 1 ≡ Pointed.Refused why → Matched.Ended false ≡ match_item file t index key
+  pub match_refused : is_err (open_pointer (length file) start (start + size) 1) ≡ true → Matched.Ended false ≡ match_item file t index key
   unfolding match_item match_step
-  match_refused e = rw (← is, ← climb_refused file t.count item s z e)
+  match_refused err = let e = refused err in rw (← is, ← climb_refused file t.count item s z e.1)
 
-  pub match_inside : open_pointer (length file) start (start + size) 1 ≡ Pointed.Inside
+  pub match_inside : open_pointer (length file) start (start + size) 1 ≡ Ok tt
       → match_text (parent_of t.count item.parent) (take (start + size - start) (drop start file)) key ≡ match_item file t index key
   unfolding match_item match_text
   match_inside e = rw (← is, climb_inside file t.count item s z e, fragment_taken file item s z)
+
+-- what `match_fragment` and `match_item` need
+pub ruleset fragment_says = (parent_root, parent_up, parent_outside, match_other, match_cut, text_refused, text_root, text_up)
+
+pub ruleset item_says = (pointer_inside, opens, match_refused, match_inside)
 
 -- what a match that goes on tells
 unfoldable pub MatchFits : ℕ → List ℕ → Matched → Type 0
 MatchFits count key (Matched.Ended answer) = Unit
 MatchFits count key (Matched.Rest parent rest) = (parent < count) × (rest ≤ length key) × (is_utf8 key ≡ true → is_utf8 (take rest key) ≡ true)
 
-match_step_fits : (file : List ℕ) (count : ℕ) (item : Item) (s : Step) (f key : List ℕ) → StepFits file count item s → ((parent : ℕ) → s ≡ Step.Up parent → is_utf8 f ≡ true)
+match_step_fits : (file : List ℕ) (count : ℕ) (item : Item) (s : Result (Option ℕ) Refusal) (f key : List ℕ) → StepFits file count item s → ((parent : ℕ) → s ≡ Ok (Some parent) → is_utf8 f ≡ true)
     → MatchFits count key (match_step s f key)
 unfolding match_step match_tail StepFits MatchFits
-match_step_fits file count item Step.Root f key h text = tt
-match_step_fits file count item (Step.Refused why) f key h text = tt
-match_step_fits file count item (Step.Up parent) f key h text =
+match_step_fits file count item (Ok None) f key h text = tt
+match_step_fits file count item (Err why) f key h text = tt
+match_step_fits file count item (Ok (Some parent)) f key h text =
     pick_with (MatchFits count key) _ _ _ (λ ends. (h.1, omega arith, λ good. ends_front f key ends good (text parent refl))) (λ _. tt)
 
 match_fits : (file : List ℕ) (t : Table) (index : ℕ) (key : List ℕ) → MatchFits t.count key (match_item file t index key)
@@ -186,39 +201,40 @@ pub record Climbing (file : List ℕ) (t : Table) (index : ℕ) (key : List ℕ)
   pub same : names (key_of file t left at) (take end key) ≡ names (key_of file t t.count index) key
 
 module _ (file : List ℕ) (t : Table) (index : ℕ) (key : List ℕ) where
-  pub start : index < t.count → is_utf8 key ≡ true → Climbing file t index key index (length key) t.count
-  start h good = record { below = h; within = omega arith; text = ap is_utf8 (take-length key) ∙ good; same = rw take-length }
+  pub start : index < t.count → is_utf8 key ≡ true → {left : ℕ} → left ≡ t.count → Climbing file t index key index (length key) left
+  start h good all = record { below = h; within = omega arith; text = ap is_utf8 (take-length key) ∙ good; same = rw (take-length, all) }
 
   module _ {at end left : ℕ} (i : Climbing file t index key at end left) where
-    turn : 0 < left → {m : Matched} → m ≡ match_item file t at (take end key) → after_match file t (left - 1) (take end key) m ≡ names (key_of file t t.count index) key
-    turn h e =
-        let one : left ≡ suc (left - 1) = omega arith in
-        ap (after_match file t (left - 1) (take end key)) e
-        ∙ sym (ap (λ (n : ℕ). names (key_of file t n at) (take end key)) one ∙ match_law file t (left - 1) at (take end key))
-        ∙ i.same
+    module _ {next : ℕ} (one : left ≡ suc next) {m : Matched} (is : m ≡ match_item file t at (take end key)) where
+      turn : after_match file t next (take end key) m ≡ names (key_of file t t.count index) key
+      turn =
+          ap (after_match file t next (take end key)) is
+          ∙ sym (ap (λ (n : ℕ). names (key_of file t n at) (take end key)) one ∙ match_law file t next at (take end key))
+          ∙ i.same
 
-    pub ended : 0 < left → {m : Matched} → m ≡ match_item file t at (take end key) → {answer : Bool} → m ≡ Matched.Ended answer
-        → answer ≡ names (key_of file t t.count index) key
-    unfolding after_match
-    ended h is e = rw e at (turn h is)
+      pub ended : {answer : Bool} → m ≡ Matched.Ended answer → answer ≡ names (key_of file t t.count index) key
+      unfolding after_match
+      ended e = rw e at turn
 
-    pub up : 0 < left → {m : Matched} → m ≡ match_item file t at (take end key) → {parent size : ℕ} → m ≡ Matched.Rest parent size
-        → Climbing file t index key parent size (left - 1)
-    unfolding after_match MatchFits
-    up h is {parent} {size} told =
-        let e : match_item file t at (take end key) ≡ Matched.Rest parent size = sym is ∙ told in
-        let fits = subst (MatchFits t.count (take end key)) e (match_fits file t at (take end key)) in
-        let shorter : length (take end key) ≡ end = length-take-le end key i.within in
-        let le : size ≤ end = omega (arith, fits.1) in
-        record {
-          below = fits.0;
-          within = omega (arith, i.within);
-          text = sym (ap is_utf8 (take-take size end key le)) ∙ fits.2 i.text;
-          same = ap (names (key_of file t (left - 1) parent)) (sym (take-take size end key le)) ∙ turn h (sym e);
-        }
+      pub up : {parent size : ℕ} → m ≡ Matched.Rest parent size → Climbing file t index key parent size next
+      unfolding after_match MatchFits
+      up {parent} {size} told =
+          let e : match_item file t at (take end key) ≡ Matched.Rest parent size = sym is ∙ told in
+          let fits = subst (MatchFits t.count (take end key)) e (match_fits file t at (take end key)) in
+          let shorter : length (take end key) ≡ end = length-take-le end key i.within in
+          let le : size ≤ end = omega (arith, fits.1) in
+          record {
+            below = fits.0;
+            within = omega (arith, i.within);
+            text = sym (ap is_utf8 (take-take size end key le)) ∙ fits.2 i.text;
+            same = ap (names (key_of file t next parent)) (sym (take-take size end key le)) ∙ (rw told at turn);
+          }
 
     pub over : left ≤ 0 → false ≡ names (key_of file t t.count index) key
     unfolding key_of names
     over h =
         let none : left ≡ 0 = omega arith in
         ap (λ (n : ℕ). names (key_of file t n at) (take end key)) (sym none) ∙ i.same
+
+-- what `chain_names` needs
+pub ruleset chain_says = (start, over)

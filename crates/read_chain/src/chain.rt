@@ -6,22 +6,14 @@ ghost use Rattle.read_chain.specs.Chain.{parent_of, climb_from, match_text, matc
 
 use key_order::compare::ends_with;
 use layout::item::{Item, NO_ITEM, item_at};
-use layout::pointer::{Pointed, open_pointer};
+use layout::pointer::open_pointer;
 use layout::refusal::Refusal;
 use layout::table::Table;
 use text::utf8::{first_bad, starts_whole};
 use words::align::Alignment;
 use words::wide::{half_size, word_size};
 
-// Where an item's chain goes on: it is a root, it has a parent, or the item is refused.
-#[derive(Clone, Copy)]
-pub enum Step {
-    Root,
-    Up(usize),
-    Refused(Refusal),
-}
-
-// What an item says of a key: yes or no, or that its parent has to name the front of the key.
+// What an item says of a key: yes or no, or that its parent has to name the front of the key. An enum: neither is a failure or an absence.
 #[derive(Clone, Copy)]
 pub enum Matched {
     Ended(bool),
@@ -30,42 +22,40 @@ pub enum Matched {
 
 // gvdb-rs: HashItem::parent.
 // The parent that an item names, in a table of so many items.
-pub fn parent_of(count: usize, parent: u32) -> Step
+#[tactic(auto, unfolding(crate::specs::Chain::parent_of, words::specs::Choice::pick))]
+pub fn parent_of(count: usize, parent: u32) -> Result<Option<usize>, Refusal>
     ensures { result ≡ parent_of count parent }
 {
     if parent == NO_ITEM {
-        return Step::Root;
+        return Ok(None);
     }
     let at = word_size(parent);
     if at < count {
-        return Step::Up(at);
+        return Ok(Some(at));
     }
-    Step::Refused(Refusal::ParentOutside)
+    Err(Refusal::ParentOutside)
 }
 
 // gvdb-rs: key_for_item.
 // The step from an item, whose fragment has to open and be UTF-8: 2, 9 with the offset in the fragment, then 10 for its parent.
-pub fn climb(file: &[u8], count: usize, item: Item) -> Step
+#[tactic(auto, using(crate::proofs::ChainLaws::climbing))]
+pub fn climb(file: &[u8], count: usize, item: Item) -> Result<Option<usize>, Refusal>
     ensures { result ≡ climb_from file.now count item }
 {
     let start = word_size(item.key);
     let size = half_size(item.size);
     let end = start + size;
-    match open_pointer(file.len(), start, end, Alignment::Key) {
-        Pointed::Refused(why) => Step::Refused(why),
-        Pointed::Inside => {
-            let bad = first_bad(&file[start..end]);
-            if bad == size {
-                parent_of(count, item.parent)
-            } else {
-                Step::Refused(Refusal::FragmentNotUtf8(bad))
-            }
-        }
+    open_pointer(file.len(), start, end, Alignment::Key)?;
+    let bad = first_bad(&file[start..end]);
+    if bad != size {
+        return Err(Refusal::FragmentNotUtf8(bad));
     }
+    parent_of(count, item.parent)
 }
 
 // What a fragment says of a key, with the parent that the item names. That the key, which is UTF-8, ends in it is tested first: then the fragment is UTF-8 just
-// where it cuts no character. It asks for the parent by itself: a `Step` handed on costs as much as comparing a short fragment.
+// where it cuts no character. It asks for the parent by itself: the `Result` of `parent_of` handed on costs as much as comparing a short fragment.
+#[tactic(auto, using(crate::proofs::MatchLaws::fragment_says))]
 fn match_fragment(fragment: &[u8], count: usize, parent: u32, key: &[u8]) -> Matched
     requires { is_utf8 key.now ≡ true }
     ensures { result ≡ match_text (parent_of count parent) fragment.now key.now }
@@ -90,6 +80,7 @@ fn match_fragment(fragment: &[u8], count: usize, parent: u32, key: &[u8]) -> Mat
 }
 
 // What the item at an index says of a key.
+#[tactic(auto, using(crate::proofs::MatchLaws::item_says))]
 fn match_item(file: &[u8], table: Table, index: usize, key: &[u8]) -> Matched
     requires { InFile file.now table × (index < table.count) × (is_utf8 key.now ≡ true) }
     ensures { result ≡ match_item file.now table index key.now }
@@ -97,32 +88,31 @@ fn match_item(file: &[u8], table: Table, index: usize, key: &[u8]) -> Matched
     let item = item_at(file, table, index);
     let start = word_size(item.key);
     let end = start + half_size(item.size);
-    match open_pointer(file.len(), start, end, Alignment::Key) {
-        Pointed::Refused(_) => Matched::Ended(false),
-        Pointed::Inside => match_fragment(&file[start..end], table.count, item.parent, key),
+    if open_pointer(file.len(), start, end, Alignment::Key).is_err() {
+        return Matched::Ended(false);
     }
+    match_fragment(&file[start..end], table.count, item.parent, key)
 }
 
 // gvdb-rs: check_key.
 // Whether the chain of the item at an index names a key. The key's tail is compared with each fragment on the way up.
+#[tactic(auto, using(crate::proofs::MatchLaws::chain_says))]
 pub fn chain_names(file: &[u8], table: Table, index: usize, key: &[u8]) -> bool
     requires { InFile file.now table × (index < table.count) × (is_utf8 key.now ≡ true) }
     ensures { result ≡ names (key_of file.now table table.count index) key.now }
 {
     let mut at = index;
-    let mut end = key.len();
-    let mut left = table.count;
-    while 0 < left {
-        match match_item(file, table, at, &key[..end]) {
+    let mut rest = key.len();
+    for _ in 0..table.count {
+        match match_item(file, table, at, &key[..rest]) {
             Matched::Ended(answer) => {
                 return answer;
             }
             Matched::Rest { parent, size } => {
                 at = parent;
-                end = size;
+                rest = size;
             }
         }
-        left -= 1;
     }
     false
 }

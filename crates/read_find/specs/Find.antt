@@ -1,5 +1,5 @@
 -- Finding the item that a key names, from document 01, 'Lookup'. How a table is read, its manner, is a parameter.
-use Rattle.std.specs.Prelude.{◌≡◌, refl, ℕ, zero, suc, ◌+◌, ◌*◌, ◌-◌, ◌/◌, ◌%◌, ◌^◌, List, Bool, true, false, ◌&&◌, ltb, leb, eqb}
+use Rattle.std.specs.Prelude.{◌≡◌, refl, ℕ, zero, suc, ◌+◌, ◌*◌, ◌-◌, ◌/◌, ◌%◌, ◌^◌, List, Bool, true, false, ◌&&◌, ltb, leb, eqb, Option, Some, None}
 use Rattle.words.specs.Choice.{pick}
 use Rattle.words.specs.Field.{word_at}
 use Rattle.words.specs.Bits.{bit_set, bloom_shift}
@@ -9,7 +9,6 @@ use Rattle.layout.specs.Item.{item_at}
 use Rattle.read_find.specs.declared.manner.Manner as code
 use Rattle.read_find.specs.declared.manner.Lookup.{Lookup}
 use Rattle.read_find.specs.declared.find.Run.{Run}
-use Rattle.read_find.specs.declared.find.Found.{Found}
 use Rattle.read_chain.specs.Chain.{key_of, names}
 
 -- how a table is read: what a byte counts in the hash, and by how much the hash is shifted for the filter's second bit, from the table's first word
@@ -58,20 +57,20 @@ item_matches manner file t key index =
     pick (eqb (item_at file t index).hash (hash_by manner.byte key)) (names (key_of file t t.count index) key) false
 
 -- the first of so many indices, from `at` on, that passes a test; an index past the last item ends the search
-unfoldable pub first_from : (ℕ → Bool) → ℕ → ℕ → ℕ → Found
-first_from test count zero at = Found.Nothing
+unfoldable pub first_from : (ℕ → Bool) → ℕ → ℕ → ℕ → Option ℕ
+first_from test count zero at = None
 first_from test count (suc more) at =
-    pick (leb count at) Found.Nothing (pick (test at) (Found.At at) (first_from test count more (at + 1)))
+    pick (leb count at) None (pick (test at) (Some at) (first_from test count more (at + 1)))
 
-unfoldable pub first_of : Manner → List ℕ → Table → List ℕ → Run → Found
+unfoldable pub first_of : Manner → List ℕ → Table → List ℕ → Run → Option ℕ
 first_of manner file t key run =
     first_from (item_matches manner file t key) t.count (run.last - run.first) run.first
 
 -- no buckets or no items: none; the bloom test; then the run of bucket (hash modulo their number)
-unfoldable pub find_item : Manner → List ℕ → Table → List ℕ → Found
+unfoldable pub find_item : Manner → List ℕ → Table → List ℕ → Option ℕ
 find_item manner file t key =
-    pick (eqb t.buckets 0) Found.Nothing
-    (pick (eqb t.count 0) Found.Nothing
+    pick (eqb t.buckets 0) None
+    (pick (eqb t.count 0) None
     (pick (bloom_passes manner.shift file t (hash_by manner.byte key))
     (first_of manner file t key (run_of file t (hash_by manner.byte key % t.buckets)))
-    Found.Nothing))
+    None))

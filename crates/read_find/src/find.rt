@@ -1,10 +1,10 @@
 // Finding the item of a key: the bloom test, the bucket, its run.
-ghost use Rattle.std.specs.Prelude.{◌≡◌, true, ◌<◌};
+ghost use Rattle.std.specs.Prelude.{◌≡◌, ℕ, Bool, true, ◌<◌, ◌-◌};
 ghost use Rattle.words.specs.Field.{word_at};
 ghost use Rattle.key_hash.specs.Hash.{hash_by, rule_of};
 ghost use Rattle.text.specs.Utf8.{is_utf8};
 ghost use Rattle.layout.specs.Table.{InFile};
-ghost use Rattle.read_find.specs.Find.{shift_of, manner_of, bloom_passes, run_of, item_matches, first_of, find_item};
+ghost use Rattle.read_find.specs.Find.{shift_of, manner_of, bloom_passes, run_of, item_matches, first_from, first_of, find_item};
 
 use crate::manner::{Lookup, Manner};
 use key_hash::hash::hash_key;
@@ -22,15 +22,9 @@ pub struct Run {
     pub last: usize,
 }
 
-// The index of an item, or that there is none.
-#[derive(Clone, Copy)]
-pub enum Found {
-    At(usize),
-    Nothing,
-}
-
 // gvdb-rs: bloom_shift, which is 0 there.
 // By how much a lookup shifts the hash for the filter's second bit.
+#[tactic(auto, unfolding(crate::specs::Find::shift_of, words::specs::Bits::bloom_shift))]
 fn shift_of(file: &[u8], table: Table, lookup: Lookup) -> u32
     requires { InFile file.now table }
     ensures { (result ≡ shift_of lookup (word_at file.now table.start)) × (result < 32) }
@@ -43,6 +37,7 @@ fn shift_of(file: &[u8], table: Table, lookup: Lookup) -> u32
 
 // gvdb-rs: bloom_filter.
 // Whether a hash may be in the table, by its bloom words.
+#[tactic(auto, unfolding(crate::specs::Find::bloom_passes, words::specs::Choice::pick))]
 pub fn bloom_passes(file: &[u8], table: Table, hash: u32, lookup: Lookup) -> bool
     requires { InFile file.now table }
     ensures { result ≡ bloom_passes (shift_of lookup) file.now table hash }
@@ -58,26 +53,23 @@ pub fn bloom_passes(file: &[u8], table: Table, hash: u32, lookup: Lookup) -> boo
 }
 
 // The run of a bucket.
+#[tactic(auto, unfolding(crate::specs::Find::run_of, crate::specs::Find::bucket_word, words::specs::Choice::pick))]
 pub fn run_of(file: &[u8], table: Table, bucket: usize) -> Run
     requires { InFile file.now table × (bucket < table.buckets) }
     ensures { result ≡ run_of file.now table bucket }
 {
     let at = table.start + 8 + 4 * table.blooms + 4 * bucket;
     let first = word_size(word_at(file, at));
-    if bucket + 1 < table.buckets {
-        Run {
-            first,
-            last: word_size(word_at(file, at + 4)),
-        }
+    let last = if bucket + 1 < table.buckets {
+        word_size(word_at(file, at + 4))
     } else {
-        Run {
-            first,
-            last: table.count,
-        }
-    }
+        table.count
+    };
+    Run { first, last }
 }
 
 // Whether the item at an index has the key's hash and its chain names the key.
+#[tactic(auto, unfolding(crate::specs::Find::item_matches, words::specs::Choice::pick))]
 fn item_matches(
     file: &[u8],
     table: Table,
@@ -90,53 +82,58 @@ fn item_matches(
     ensures { result ≡ item_matches (manner_of manner) file.now table key.now index }
 {
     let item = item_at(file, table, index);
-    if item.hash == hash {
-        chain_names(file, table, index, key)
-    } else {
-        false
+    item.hash == hash && chain_names(file, table, index, key)
+}
+
+// The first item of a run that passes a test. An index past the last item ends the search.
+pub fn first_in<F: Fn(usize) -> bool>(run: Run, count: usize, matches: F) -> Option<usize>
+    requires callable { (at : ℕ) → at < count → F.pre matches at }
+    ensures { (test : ℕ → Bool) → ((at : ℕ) → at < count → (told : Bool) → F.post matches at told → told ≡ test at) → result ≡ first_from test count (run.last - run.first) run.first }
+{
+    for at in run.first..run.last {
+        if count <= at {
+            return None;
+        }
+        if matches(at) {
+            return Some(at);
+        }
     }
+    None
 }
 
 // The first item of a run that matches.
-fn first_of(file: &[u8], table: Table, hash: u32, run: Run, key: &[u8], manner: Manner) -> Found
+fn first_of(
+    file: &[u8],
+    table: Table,
+    hash: u32,
+    run: Run,
+    key: &[u8],
+    manner: Manner,
+) -> Option<usize>
     requires { InFile file.now table × (hash ≡ hash_by (rule_of manner.form) key.now) × (is_utf8 key.now ≡ true) }
     ensures { result ≡ first_of (manner_of manner) file.now table key.now run }
 {
-    let last = run.last;
-    let count = table.count;
-    let mut at = run.first;
-    while at < last {
-        if count <= at {
-            return Found::Nothing;
-        }
-        if item_matches(file, table, hash, at, key, manner) {
-            return Found::At(at);
-        }
-        at += 1;
-    }
-    Found::Nothing
+    first_in(
+        run,
+        table.count,
+        |at| item_matches(file, table, hash, at, key, manner),
+    )
 }
 
 // gvdb-rs: get_hash_item.
 // The item that a key names, which is UTF-8.
-pub fn find_item(file: &[u8], table: Table, key: &[u8], manner: Manner) -> Found
+#[tactic(auto, unfolding(crate::specs::Find::find_item, words::specs::Choice::pick))]
+pub fn find_item(file: &[u8], table: Table, key: &[u8], manner: Manner) -> Option<usize>
     requires { InFile file.now table × (is_utf8 key.now ≡ true) }
     ensures { result ≡ find_item (manner_of manner) file.now table key.now }
 {
-    let buckets = table.buckets;
-    if buckets == 0 {
-        return Found::Nothing;
+    if table.buckets == 0 || table.count == 0 {
+        return None;
     }
-    if table.count == 0 {
-        return Found::Nothing;
+    let hash = hash_key(key, manner.form);
+    if !bloom_passes(file, table, hash, manner.lookup) {
+        return None;
     }
-    let form = manner.form;
-    let lookup = manner.lookup;
-    let hash = hash_key(key, form);
-    if bloom_passes(file, table, hash, lookup) {
-        let run = run_of(file, table, word_size(hash) % buckets);
-        first_of(file, table, hash, run, key, manner)
-    } else {
-        Found::Nothing
-    }
+    let run = run_of(file, table, word_size(hash) % table.buckets);
+    first_of(file, table, hash, run, key, manner)
 }

@@ -1,4 +1,5 @@
 -- The order of refusals in the document's words: for each number, what was passed before it and what it is given for.
+use Rattle.std.specs.Prelude.{Result, Ok, Err, Some, None}
 use Prim.Native.Nat.{ℕ, suc, ◌+◌, ◌-◌, ◌%◌, ◌≤◌, ◌<◌}
 use mathlib.Core.Path.{◌≡◌, refl, sym, ap, ◌∙◌}
 use mathlib.Core.List.{List}
@@ -10,8 +11,6 @@ use Rattle.words.specs.Choice.{pick}
 use Rattle.text.specs.Utf8.{first_bad, is_utf8}
 use Rattle.layout.specs.declared.refusal.Refusal.{Refusal}
 use Rattle.layout.specs.declared.refusal.Refusal.TheVariants.{PointerOutside, FragmentNotUtf8, ParentOutside, ParentsEndless, OtherKind, PastTheLast}
-use Rattle.layout.specs.declared.pointer.Pointed.{Pointed}
-use Rattle.layout.specs.declared.table.Opened.{Opened}
 use Rattle.layout.specs.declared.table.Table.{Table}
 use Rattle.layout.specs.declared.item.Item.{Item}
 use Rattle.layout.specs.Refusal.{number}
@@ -21,9 +20,6 @@ use Rattle.layout.specs.Table.{open_table}
 use Rattle.layout.specs.Item.{item_at, no_item}
 use Rattle.layout.specs.Answer.{pointed_number, opened_number}
 use Rattle.layout.proofs.AnswerLaws.{pointer_inside_is}
-use Rattle.read_find.specs.declared.find.Found.{Found}
-use Rattle.read_listing.specs.declared.listing.Listed.{Listed}
-use Rattle.read_listing.specs.declared.children.Childed.{Childed}
 use Rattle.read_chain.specs.Chain.{fragment_of, parent_of, after_pointer, climb_from, Joined, append, join_step, key_of}
 use Rattle.read_find.specs.Find.{Manner, find_item}
 use Rattle.read.specs.Lookup.{at_found, lookup_in, at_opened, lookup_item, at_pointer, at_nested, value_of, nested_of, at_item, lookup_value, lookup_table}
@@ -36,49 +32,49 @@ use Rattle.read_listing.proofs.ChildLaws.{list-refused, list_whole, list_uneven}
 
 -- ---- the number of an answer is that of the pointer or the table behind it
 
-pub pointed_looked : (p : Pointed) (item : Item) → looked_number (at_pointer p item) ≡ pointed_number p
+pub pointed_looked : (p : Result (Unit {0}) Refusal) (item : Item) → looked_number (at_pointer p item) ≡ pointed_number p
 unfolding looked_number at_pointer pointed_number
-pointed_looked Pointed.Inside item = refl
-pointed_looked (Pointed.Refused why) item = refl
+pointed_looked (Ok _) item = refl
+pointed_looked (Err why) item = refl
 
-pub nested_looked : (o : Opened) (item : Item) → looked_number (at_nested o item) ≡ opened_number o
+pub nested_looked : (o : Result Table Refusal) (item : Item) → looked_number (at_nested o item) ≡ opened_number o
 unfolding looked_number at_nested opened_number
-nested_looked (Opened.Table t) item = refl
-nested_looked (Opened.Refused why) item = refl
+nested_looked (Ok t) item = refl
+nested_looked (Err why) item = refl
 
-pointed_valued : (p : Pointed) (index : ℕ) (item : Item) → valued_number (value_opened p index item) ≡ pointed_number p
+pointed_valued : (p : Result (Unit {0}) Refusal) (index : ℕ) (item : Item) → valued_number (value_opened p index item) ≡ pointed_number p
 unfolding valued_number value_opened pointed_number
-pointed_valued Pointed.Inside index item = refl
-pointed_valued (Pointed.Refused why) index item = refl
+pointed_valued (Ok _) index item = refl
+pointed_valued (Err why) index item = refl
 
-item_valued : (p : Pointed) (index : ℕ) (item : Item) → valued_item (value_opened p index item) ≡ (index, index + 1)
+item_valued : (p : Result (Unit {0}) Refusal) (index : ℕ) (item : Item) → valued_item (value_opened p index item) ≡ (index, index + 1)
 unfolding valued_item value_opened
-item_valued Pointed.Inside index item = refl
-item_valued (Pointed.Refused why) index item = refl
+item_valued (Ok _) index item = refl
+item_valued (Err why) index item = refl
 
 -- a fragment's pointer, whose alignment is 1: 2, or it opens
-fragment_outside : (file : List ℕ) (start size : ℕ) → length file < start + size → open_pointer (length file) start (start + size) 1 ≡ Pointed.Refused PointerOutside
+fragment_outside : (file : List ℕ) (start size : ℕ) → length file < start + size → open_pointer (length file) start (start + size) 1 ≡ Err PointerOutside
 unfolding open_pointer pick
 fragment_outside file start size past =
     let ordered : start ≤ start + size = omega arith in
     let even : start % 1 ≡ 0 = omega arith in
     simp (le-ltb _ _ ordered, eq-eqb _ _ even, lt-ltb _ _ past)
 
-fragment_inside : (file : List ℕ) (start size : ℕ) → start + size ≤ length file → open_pointer (length file) start (start + size) 1 ≡ Pointed.Inside
+fragment_inside : (file : List ℕ) (start size : ℕ) → start + size ≤ length file → open_pointer (length file) start (start + size) 1 ≡ Ok tt
 fragment_inside file start size fits = pointer_inside_is (length file) start (start + size) 1 (omega arith) (omega arith) fits
 
 -- ---- lookup: opening, 8, 12, 13, then the value pointer's 2 or 3, or what opening the nested table refuses
 
 module _ (manner : Manner) (file : List ℕ) (start end : ℕ) (key : List ℕ) where
-  pub value-opening : {why : Refusal} → open_table file start end ≡ Opened.Refused why → looked_number (lookup_value manner file start end key) ≡ number why
+  pub value-opening : {why : Refusal} → open_table file start end ≡ Err why → looked_number (lookup_value manner file start end key) ≡ number why
   unfolding lookup_value lookup_item at_opened at_item looked_number
   value-opening shut = rw shut
 
-  pub table-opening : {why : Refusal} → open_table file start end ≡ Opened.Refused why → looked_number (lookup_table manner file start end key) ≡ number why
+  pub table-opening : {why : Refusal} → open_table file start end ≡ Err why → looked_number (lookup_table manner file start end key) ≡ number why
   unfolding lookup_table lookup_item at_opened at_item looked_number
   table-opening shut = rw shut
 
-  module _ {t : Table} (opens : open_table file start end ≡ Opened.Table t) where
+  module _ {t : Table} (opens : open_table file start end ≡ Ok t) where
     pub value_8 : is_utf8 key ≡ false → looked_number (lookup_value manner file start end key) ≡ 8
     unfolding lookup_value lookup_item lookup_in at_opened at_item looked_number pick
     value_8 bad = rw (opens, bad)
@@ -88,15 +84,15 @@ module _ (manner : Manner) (file : List ℕ) (start end : ℕ) (key : List ℕ) 
     table_8 bad = rw (opens, bad)
 
     module _ (text : is_utf8 key ≡ true) where
-      pub value_12 : find_item manner file t key ≡ Found.Nothing → looked_number (lookup_value manner file start end key) ≡ 12
+      pub value_12 : find_item manner file t key ≡ None → looked_number (lookup_value manner file start end key) ≡ 12
       unfolding lookup_value lookup_item lookup_in at_opened at_item at_found looked_number pick
       value_12 none = rw (opens, text, none)
 
-      pub table_12 : find_item manner file t key ≡ Found.Nothing → looked_number (lookup_table manner file start end key) ≡ 12
+      pub table_12 : find_item manner file t key ≡ None → looked_number (lookup_table manner file start end key) ≡ 12
       unfolding lookup_table lookup_item lookup_in at_opened at_item at_found looked_number pick
       table_12 none = rw (opens, text, none)
 
-      module _ {i : ℕ} (found : find_item manner file t key ≡ Found.At i) where
+      module _ {i : ℕ} (found : find_item manner file t key ≡ Some i) where
         pub value_found : lookup_value manner file start end key ≡ value_of file (item_at file t i)
         unfolding lookup_value lookup_item lookup_in at_opened at_item at_found pick
         value_found = rw (opens, text, found)
@@ -162,11 +158,11 @@ module _ (file : List ℕ) (t : Table) (steps i : ℕ) where
 -- ---- key listing: opening, 15, what the key is refused with, 14
 
 module _ (file : List ℕ) (start end at room : ℕ) where
-  pub list-opening : {why : Refusal} → open_table file start end ≡ Opened.Refused why → listed_number (listed (key_at file start end at) room at) ≡ number why
+  pub list-opening : {why : Refusal} → open_table file start end ≡ Err why → listed_number (listed (key_at file start end at) room at) ≡ number why
   unfolding key_at key_opened listed listed_number
   list-opening shut = rw shut
 
-  module _ {t : Table} (opens : open_table file start end ≡ Opened.Table t) where
+  module _ {t : Table} (opens : open_table file start end ≡ Ok t) where
     pub list_15 : t.count ≤ at → listed_number (listed (key_at file start end at) room at) ≡ 15
     unfolding key_at key_opened key_in listed listed_number pick
     list_15 past = rw (opens, le-leb _ _ past)
@@ -199,18 +195,18 @@ module _ (file : List ℕ) (start end at room : ℕ) where
         list_14 short = rw (list_key ∙ key, lt-ltb _ _ short)
 
         -- the key's full length, and the next position
-        pub list_0 : length k ≤ room → listed (key_at file start end at) room at ≡ Listed.Key (length k) (record { at = at + 1 })
+        pub list_0 : length k ≤ room → listed (key_at file start end at) room at ≡ Ok (record { size = length k; next = record { at = at + 1 } })
         unfolding listed pick
         list_0 fits = rw (list_key ∙ key, le-ltb _ _ fits)
 
 -- ---- value listing: opening, 15, then 2 or 3 of the value pointer, with the item's index and the next position
 
 module _ (file : List ℕ) (start end at : ℕ) where
-  pub values_opening : {why : Refusal} → open_table file start end ≡ Opened.Refused why → valued_number (value_at file start end at) ≡ number why
+  pub values_opening : {why : Refusal} → open_table file start end ≡ Err why → valued_number (value_at file start end at) ≡ number why
   unfolding value_at value_in_opened valued_number
   values_opening shut = rw shut
 
-  module _ {t : Table} (opens : open_table file start end ≡ Opened.Table t) where
+  module _ {t : Table} (opens : open_table file start end ≡ Ok t) where
     pub values_15 : t.count ≤ next_value file t at → valued_number (value_at file start end at) ≡ 15
     unfolding value_at value_in_opened value_from valued_number pick
     values_15 past = rw (opens, le-leb _ _ past)
@@ -231,26 +227,26 @@ module _ (file : List ℕ) (start end at : ℕ) where
 -- ---- children of a container: opening, 8, 12; of the container 13, then 2 or 3 of its value pointer, then 13 for its length; 15; of the child 10, 13, then 2 or 9
 
 module _ (manner : Manner) (file : List ℕ) (start end : ℕ) (key : List ℕ) (at : ℕ) where
-  pub children_opening : {why : Refusal} → open_table file start end ≡ Opened.Refused why → childed_number (next_child manner file start end key at) ≡ number why
+  pub children_opening : {why : Refusal} → open_table file start end ≡ Err why → childed_number (next_child manner file start end key at) ≡ number why
   unfolding next_child child_in_opened childed_number
   children_opening shut = rw shut
 
-  module _ {t : Table} (opens : open_table file start end ≡ Opened.Table t) where
+  module _ {t : Table} (opens : open_table file start end ≡ Ok t) where
     pub children_8 : is_utf8 key ≡ false → (childed_number (next_child manner file start end key at) ≡ 8) × (childed_at (next_child manner file start end key at) ≡ first_bad key)
     unfolding next_child child_in_opened child_of_sought lookup_in childed_number childed_at pick
     children_8 bad = (rw (opens, bad), rw (opens, bad))
 
     module _ (text : is_utf8 key ≡ true) where
-      pub children_12 : find_item manner file t key ≡ Found.Nothing → childed_number (next_child manner file start end key at) ≡ 12
+      pub children_12 : find_item manner file t key ≡ None → childed_number (next_child manner file start end key at) ≡ 12
       unfolding next_child child_in_opened child_of_sought lookup_in at_found childed_number pick
       children_12 none = rw (opens, text, none)
 
-      module _ {i : ℕ} (found : find_item manner file t key ≡ Found.At i) where
+      module _ {i : ℕ} (found : find_item manner file t key ≡ Some i) where
         children_found : next_child manner file start end key at ≡ child_from (open_list file (item_at file t i)) file t (item_at file t i) at
         unfolding next_child child_in_opened child_of_sought lookup_in at_found pick
         children_found = rw (opens, text, found)
 
-        children_shut : {why : Refusal} → Pointed.Refused why ≡ open_list file (item_at file t i) → childed_number (next_child manner file start end key at) ≡ number why
+        children_shut : {why : Refusal} → Err why ≡ open_list file (item_at file t i) → childed_number (next_child manner file start end key at) ≡ number why
         unfolding child_from childed_number
         children_shut e = ap childed_number children_found ∙ rw (sym e)
 
@@ -261,19 +257,19 @@ module _ (manner : Manner) (file : List ℕ) (start end : ℕ) (key : List ℕ) 
 
         module _ (kind : (item_at file t i).kind ≡ 76) where
           -- 2 or 3 of the value pointer
-          pub children_pointer : {why : Refusal} → open_pointer (length file) (item_at file t i).from (item_at file t i).to 4 ≡ Pointed.Refused why
+          pub children_pointer : {why : Refusal} → open_pointer (length file) (item_at file t i).from (item_at file t i).to 4 ≡ Err why
               → childed_number (next_child manner file start end key at) ≡ number why
           children_pointer e = children_shut (list-refused file (item_at file t i) kind refl refl e)
 
-          module _ (inside : open_pointer (length file) (item_at file t i).from (item_at file t i).to 4 ≡ Pointed.Inside) where
+          module _ (inside : open_pointer (length file) (item_at file t i).from (item_at file t i).to 4 ≡ Ok tt) where
             pub children_uneven : (((item_at file t i).to - (item_at file t i).from) % 4 ≡ 0 → ⊥) → childed_number (next_child manner file start end key at) ≡ 13
             children_uneven uneven = children_shut (list_uneven file (item_at file t i) kind refl refl inside uneven)
 
             module _ (whole : ((item_at file t i).to - (item_at file t i).from) % 4 ≡ 0) where
-              children_listed : next_child manner file start end key at ≡ child_from Pointed.Inside file t (item_at file t i) at
+              children_listed : next_child manner file start end key at ≡ child_from (Ok tt) file t (item_at file t i) at
               children_listed = children_found ∙ rw (sym (list_whole file (item_at file t i) kind refl refl inside whole))
 
-              pub children_past : child_count (item_at file t i) ≤ at → next_child manner file start end key at ≡ Childed.Refused PastTheLast
+              pub children_past : child_count (item_at file t i) ≤ at → next_child manner file start end key at ≡ Err PastTheLast
               unfolding child_from pick
               children_past past = children_listed ∙ rw (le-ltb _ _ past)
 
@@ -316,6 +312,12 @@ module _ (manner : Manner) (file : List ℕ) (start end : ℕ) (key : List ℕ) 
                       -- the child, its kind, the place of its fragment, and the next position
                       pub children_0 : is_utf8 (fragment_of file (item_at file t child)) ≡ true
                           → next_child manner file start end key at
-                          ≡ Childed.Child child (item_at file t child).kind (item_at file t child).key ((item_at file t child).key + (item_at file t child).size) (record { at = at + 1 })
+                          ≡ Ok (record {
+                            index = child;
+                            kind = (item_at file t child).kind;
+                            start = (item_at file t child).key;
+                            end = (item_at file t child).key + (item_at file t child).size;
+                            next = record { at = at + 1 };
+                          })
                       unfolding child_named at_fragment pick
                       children_0 good = children_named ∙ rw (fragment_inside file (item_at file t child).key (item_at file t child).size fits, good)

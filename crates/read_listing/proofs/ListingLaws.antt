@@ -1,4 +1,6 @@
 -- Laws about the listings: what a key's length says of the answer and of the buffer, and the search for the next value.
+use Rattle.std.specs.Prelude.{Result, Ok, Err}
+use Rattle.read_listing.specs.declared.listing.WrittenKey.{WrittenKey}
 use Prim.Native.Nat.{ℕ, zero, suc, ◌+◌, ◌-◌, ◌≤◌, ◌<◌}
 use mathlib.Core.Path.{◌≡◌, refl, sym, ap, ◌∙◌, subst}
 use mathlib.Core.Bool.{Bool, true, false}
@@ -16,19 +18,15 @@ use Rattle.layout.specs.declared.refusal.Refusal.TheVariants.{PastTheLast, Buffe
 use Rattle.layout.specs.declared.table.Table.{Table}
 use Rattle.layout.specs.declared.item.Item.{Item}
 use Rattle.layout.specs.Item.{item_at}
-use Rattle.layout.specs.declared.pointer.Pointed.{Pointed}
-use Rattle.layout.specs.Pointer.{open_pointer}
 use Rattle.read_listing.specs.declared.listing.Cursor.{Cursor}
-use Rattle.read_listing.specs.declared.listing.Measured.{Measured}
-use Rattle.read_listing.specs.declared.listing.Listed.{Listed}
 use Rattle.read_chain.specs.Chain.{Joined, key_of}
-use Rattle.read_listing.specs.Listing.{measure, key_in, listed, written, next_of, next_value, value_opened, value_from}
+use Rattle.read_listing.specs.Listing.{measure, key_in, listed, written, next_of, next_value}
 use Rattle.read_listing.proofs.WriteLaws.{size_is}
 
 -- ---- a key
 
 -- what is answered and what the buffer holds then
-abbrev pub Told : Joined → List ℕ → ℕ → Listed → List ℕ → Type 0
+abbrev pub Told : Joined → List ℕ → ℕ → Result WrittenKey Refusal → List ℕ → Type 0
 Told j out at said wrote = (said ≡ listed j (length out) at) × (wrote ≡ written j out)
 
 -- the key at the position of an item is the item's
@@ -37,39 +35,39 @@ unfolding key_in pick
 in_range file t at h = simp (lt-leb _ _ h)
 
 module _ (file : List ℕ) (t : Table) (at : ℕ) (out : List ℕ) where
-  pub told_past : t.count ≤ at → Told (key_in file at t) out at (Listed.Refused PastTheLast) out
+  pub told_past : t.count ≤ at → Told (key_in file at t) out at (Err PastTheLast) out
   unfolding key_in pick listed written
   told_past h = (simp (le-leb _ _ h), simp (le-leb _ _ h))
 
-  refused-told : (j : Joined) {why : Refusal} → measure j ≡ Measured.Refused why → Told j out at (Listed.Refused why) out
+  refused-told : (j : Joined) {why : Refusal} → measure j ≡ Err why → Told j out at (Err why) out
   unfolding measure listed written
   refused-told (Joined.joined k) e = let z : ◌≡◌ {A = ℕ} 0 1 = cc in absurd (omega arith)
   refused-told (Joined.broken why) e = (cc, refl)
 
-  long_told : (j : Joined) {size : ℕ} → measure j ≡ Measured.Size size → length out < size → Told j out at (Listed.Refused BufferTooShort) out
+  long_told : (j : Joined) {size : ℕ} → measure j ≡ Ok size → length out < size → Told j out at (Err BufferTooShort) out
   unfolding measure listed written pick
   long_told (Joined.joined k) e h =
       let l : length out < length k = omega (arith, size_is _ _ e) in
       (simp (lt-ltb _ _ l), simp (lt-ltb _ _ l))
   long_told (Joined.broken why) e h = let z : ◌≡◌ {A = ℕ} 0 1 = cc in absurd (omega arith)
 
-  key_said : (j : Joined) {size : ℕ} → measure j ≡ Measured.Size size → size ≤ length out → Listed.Key size (record { at = at + 1 }) ≡ listed j (length out) at
+  key_said : (j : Joined) {size : ℕ} → measure j ≡ Ok size → size ≤ length out → Ok (record { size = size; next = record { at = at + 1 } }) ≡ listed j (length out) at
   unfolding measure listed pick
   key_said (Joined.joined k) {size} e h =
       let same : size ≡ length k = sym (size_is _ _ e) in
       let l : length k ≤ length out = omega arith in
-      simp (le-ltb _ _ l) (ap (λ (n : ℕ). Listed.Key n (record { at = at + 1 })) same)
+      simp (le-ltb _ _ l) (ap (λ (n : ℕ). Ok (record { size = n; next = record { at = at + 1 } })) same)
   key_said (Joined.broken why) e h = cc
 
   module _ (h : at < t.count) where
-    pub told-refused : {why : Refusal} → measure (key_of file t t.count at) ≡ Measured.Refused why → Told (key_in file at t) out at (Listed.Refused why) out
+    pub told-refused : {why : Refusal} → measure (key_of file t t.count at) ≡ Err why → Told (key_in file at t) out at (Err why) out
     told-refused e = rw (in_range file t at h) (refused-told _ e)
 
-    pub told_long : {size : ℕ} → measure (key_of file t t.count at) ≡ Measured.Size size → length out < size → Told (key_in file at t) out at (Listed.Refused BufferTooShort) out
+    pub told_long : {size : ℕ} → measure (key_of file t t.count at) ≡ Ok size → length out < size → Told (key_in file at t) out at (Err BufferTooShort) out
     told_long e l = rw (in_range file t at h) (long_told _ e l)
 
-    pub told_key : {size : ℕ} → measure (key_of file t t.count at) ≡ Measured.Size size → size ≤ length out → {wrote : List ℕ} → wrote ≡ written (key_of file t t.count at) out
-        → Told (key_in file at t) out at (Listed.Key size (record { at = at + 1 })) wrote
+    pub told_key : {size : ℕ} → measure (key_of file t t.count at) ≡ Ok size → size ≤ length out → {wrote : List ℕ} → wrote ≡ written (key_of file t t.count at) out
+        → Told (key_in file at t) out at (Ok (record { size = size; next = record { at = at + 1 } })) wrote
     told_key e l w = rw (in_range file t at h) (key_said _ e l, w)
 
 -- a position past the last item has no key
@@ -97,25 +95,26 @@ front_put k out at fits =
       moved = refl;
     }
 
-pub front : (j : Joined) (out : List ℕ) (at : ℕ) {size : ℕ} {next : Cursor} → listed j (length out) at ≡ Listed.Key size next → Front j out at size next
+pub front : (j : Joined) (out : List ℕ) (at : ℕ) {size : ℕ} {next : Cursor} → listed j (length out) at ≡ Ok (record { size = size; next = next }) → Front j out at size next
 unfolding listed
 front (Joined.broken why) out at = λ e. let z : ◌≡◌ {A = ℕ} 0 1 = cc in absurd (omega arith)
 front (Joined.joined k) out at {size} {next} =
-    let P : Listed → Type 0 = λ l. l ≡ Listed.Key size next → Front (Joined.joined k) out at size next in
+    let P : Result WrittenKey Refusal → Type 0 = λ l. l ≡ Ok (record { size = size; next = next }) → Front (Joined.joined k) out at size next in
     pick_with P _ _ _ (λ _ e. let z : ◌≡◌ {A = ℕ} 0 1 = cc in absurd (omega arith))
     (λ fits e.
-    let sized : length k ≡ size = cc in
-    let moved : record { at = at + 1 } ≡ next = cc in
+    let same : ◌≡◌ {A = WrittenKey} (record { size = length k; next = record { at = at + 1 } }) (record { size = size; next = next }) = cc in
+    let sized = ap (λ (w : WrittenKey). w.size) same in
+    let moved = ap (λ (w : WrittenKey). w.next) same in
     subst (λ (n : ℕ). Front (Joined.joined k) out at n next) sized
     (subst (λ (d : Cursor). Front (Joined.joined k) out at (length k) d) moved (front_put k out at (ltb-false _ _ fits))))
 
 -- a refusal writes nothing
-pub refused_keeps : (j : Joined) (out : List ℕ) (at : ℕ) {why : Refusal} → listed j (length out) at ≡ Listed.Refused why → written j out ≡ out
+pub refused_keeps : (j : Joined) (out : List ℕ) (at : ℕ) {why : Refusal} → listed j (length out) at ≡ Err why → written j out ≡ out
 unfolding listed written pick
 refused_keeps (Joined.broken why) out at e = refl
 refused_keeps (Joined.joined k) out at {why} e = by (ltb (length out) (length k)) refl e
   where
-    by : (q : Bool) → ltb (length out) (length k) ≡ q → pick q (Listed.Refused BufferTooShort) (Listed.Key (length k) (record { at = at + 1 })) ≡ Listed.Refused why
+    by : (q : Bool) → ltb (length out) (length k) ≡ q → pick {A = Result WrittenKey Refusal} q (Err BufferTooShort) (Ok (record { size = length k; next = record { at = at + 1 } })) ≡ Err why
         → pick q out (put_at out 0 k) ≡ out
     by true t e = refl
     by false t e = cc
@@ -161,9 +160,3 @@ next_of-says file t (suc more) at h =
 pub next_says : (file : List ℕ) (t : Table) (at : ℕ) → NextSays file t at (next_value file t at)
 unfolding next_value
 next_says file t at = next_of-says file t (t.count - at) at (omega arith)
-
--- the value of the item at an index, once its pointer is judged
-pub value_judged : (file : List ℕ) (t : Table) (index : ℕ) → index < t.count → {item : Item} → item ≡ item_at file t index
-    → {p : Pointed} → p ≡ open_pointer (length file) item.from item.to 8 → {told : Pointed} → p ≡ told → value_opened told index item ≡ value_from file t index
-unfolding value_from pick
-value_judged file t index h is judged e = rw (lt-leb _ _ h, ← is, ← judged, e)

@@ -1,4 +1,5 @@
 -- What reading promises beside its equations, as a reader of document 01 would say it.
+use Rattle.std.specs.Prelude.{Ok, Err, Some, None}
 use Prim.Native.Nat.{ℕ, zero, suc, ◌+◌, ◌%◌, ◌≤◌, ◌<◌}
 use mathlib.Core.Path.{◌≡◌, refl, sym, ap, ◌∙◌, subst}
 use mathlib.Core.List.{List}
@@ -12,21 +13,14 @@ use Rattle.words.proofs.ChoiceLaws.{pick_same}
 use Rattle.text.specs.Utf8.{is_utf8}
 use Rattle.layout.specs.declared.refusal.Refusal.{Refusal}
 use Rattle.layout.specs.declared.refusal.Refusal.TheVariants.{ParentsEndless}
-use Rattle.layout.specs.declared.pointer.Pointed.{Pointed}
-use Rattle.layout.specs.declared.table.Opened.{Opened}
 use Rattle.layout.specs.declared.table.Table.{Table}
 use Rattle.layout.specs.declared.item.Item.{Item}
 use Rattle.layout.specs.Pointer.{open_pointer}
 use Rattle.layout.specs.Table.{open_table, InFile}
 use Rattle.layout.specs.Item.{item_at, no_item}
-use Rattle.read_chain.specs.declared.chain.Step.{Step}
 use Rattle.read_find.specs.declared.find.Run.{Run}
-use Rattle.read_find.specs.declared.find.Found.{Found}
-use Rattle.read.specs.declared.lookup.Looked.{Looked}
 use Rattle.read_listing.specs.declared.listing.Cursor.{Cursor}
-use Rattle.read_listing.specs.declared.listing.Listed.{Listed}
 use Rattle.read_listing.specs.declared.listing.Valued.{Valued}
-use Rattle.read_listing.specs.declared.children.Childed.{Childed}
 use Rattle.read_chain.specs.Chain.{fragment_of, parent_of, climb_from, Joined, append, join_step, key_of, names}
 use Rattle.read_find.specs.Find.{Manner, bloom_passes, run_of, item_matches, find_item}
 use Rattle.read.specs.Lookup.{lookup_value, lookup_table}
@@ -56,7 +50,7 @@ run_for manner file t key = run_of file t (hash_by manner.byte key % t.buckets)
 
 module _ (manner : Manner) (file : List ℕ) (t : Table) (key : List ℕ) where
   -- what is found is an item of the table, has the key's hash, and its chain joins the key
-  pub found_names : (i : ℕ) → find_item manner file t key ≡ Found.At i
+  pub found_names : (i : ℕ) → find_item manner file t key ≡ Some i
       → (i < t.count) × ((item_at file t i).hash ≡ hash_by manner.byte key) × (key_of file t t.count i ≡ Joined.joined key)
   unfolding FindSays
   found_names i e =
@@ -65,7 +59,7 @@ module _ (manner : Manner) (file : List ℕ) (t : Table) (key : List ℕ) where
       (says.0, named.0, named.1)
 
   -- it lies in the run of the key's bucket, and no item before it in the run has the hash and joins the key
-  pub found_first : (i : ℕ) → find_item manner file t key ≡ Found.At i
+  pub found_first : (i : ℕ) → find_item manner file t key ≡ Some i
       → ((run_for manner file t key).first ≤ i) × (i < (run_for manner file t key).last)
       × ((k : ℕ) → (run_for manner file t key).first ≤ k → k < i
       → (item_at file t k).hash ≡ hash_by manner.byte key → key_of file t t.count k ≡ Joined.joined key → ⊥)
@@ -75,7 +69,7 @@ module _ (manner : Manner) (file : List ℕ) (t : Table) (key : List ℕ) where
       (says.1, says.2, λ k l h. match_false manner file t key k (says.4 k l h))
 
   -- what is not found has no item in its run that has the hash and joins the key
-  pub not_found : find_item manner file t key ≡ Found.Nothing → (t.buckets ≡ 0 → ⊥) → bloom_passes manner.shift file t (hash_by manner.byte key) ≡ true
+  pub not_found : find_item manner file t key ≡ None → (t.buckets ≡ 0 → ⊥) → bloom_passes manner.shift file t (hash_by manner.byte key) ≡ true
       → (i : ℕ) → (run_for manner file t key).first ≤ i → i < (run_for manner file t key).last → i < t.count
       → (item_at file t i).hash ≡ hash_by manner.byte key → key_of file t t.count i ≡ Joined.joined key → ⊥
   unfolding FindSays
@@ -83,7 +77,7 @@ module _ (manner : Manner) (file : List ℕ) (t : Table) (key : List ℕ) where
       let says = subst (FindSays manner file t key (run_for manner file t key)) e (find_says manner file t key) in
       match_false manner file t key i (says some passes i from to below)
 
-named : (manner : Manner) (file : List ℕ) (t : Table) (key : List ℕ) (i : ℕ) {item : Item} {kind from to : ℕ} → find_item manner file t key ≡ Found.At i
+named : (manner : Manner) (file : List ℕ) (t : Table) (key : List ℕ) (i : ℕ) {item : Item} {kind from to : ℕ} → find_item manner file t key ≡ Some i
     → item_at file t i ≡ item → Placed kind item from to → Named manner file t key i kind from to
 named manner file t key i found is placed =
     let names = found_names manner file t key i found in
@@ -97,27 +91,27 @@ named manner file t key i found is placed =
     }
 
 -- a value that is looked up is that of an item of kind 'v' of the table, with the key's hash, whose chain joins the key
-pub value_named : (manner : Manner) (file : List ℕ) (start end : ℕ) (key : List ℕ) {from to : ℕ} → lookup_value manner file start end key ≡ Looked.Pointer from to
-    → (t : Table) × (i : ℕ) × (open_table file start end ≡ Opened.Table t) × Named manner file t key i 118 from to
+pub value_named : (manner : Manner) (file : List ℕ) (start end : ℕ) (key : List ℕ) {from to : ℕ} → lookup_value manner file start end key ≡ Ok (record { start = from; end = to })
+    → (t : Table) × (i : ℕ) × (open_table file start end ≡ Ok t) × Named manner file t key i 118 from to
 value_named manner file start end key e =
     let a = value_answers manner file start end key e in
     (a.seeks.table, a.seeks.index, a.seeks.opens, named manner file a.seeks.table key a.seeks.index a.seeks.found a.seeks.is a.placed)
 
 -- a nested table that is looked up is that of an item of kind 'H', in the same way
-pub table_named : (manner : Manner) (file : List ℕ) (start end : ℕ) (key : List ℕ) {from to : ℕ} → lookup_table manner file start end key ≡ Looked.Pointer from to
-    → (t : Table) × (i : ℕ) × (open_table file start end ≡ Opened.Table t) × Named manner file t key i 72 from to
+pub table_named : (manner : Manner) (file : List ℕ) (start end : ℕ) (key : List ℕ) {from to : ℕ} → lookup_table manner file start end key ≡ Ok (record { start = from; end = to })
+    → (t : Table) × (i : ℕ) × (open_table file start end ≡ Ok t) × Named manner file t key i 72 from to
 table_named manner file start end key e =
     let a = table_answers manner file start end key e in
     (a.seeks.table, a.seeks.index, a.seeks.opens, named manner file a.seeks.table key a.seeks.index a.seeks.found a.seeks.is a.placed)
 
 -- a value that is looked up lies in the file
-pub value_in_file : (manner : Manner) (file : List ℕ) (start end : ℕ) (key : List ℕ) {from to : ℕ} → lookup_value manner file start end key ≡ Looked.Pointer from to
+pub value_in_file : (manner : Manner) (file : List ℕ) (start end : ℕ) (key : List ℕ) {from to : ℕ} → lookup_value manner file start end key ≡ Ok (record { start = from; end = to })
     → (from ≤ to) × (to ≤ length file)
 unfolding LookedFits
 value_in_file manner file start end key e = subst (LookedFits file) e (value_looked_fits manner file start end key)
 
 -- and so does a nested table
-pub table_in_file : (manner : Manner) (file : List ℕ) (start end : ℕ) (key : List ℕ) {from to : ℕ} → lookup_table manner file start end key ≡ Looked.Pointer from to
+pub table_in_file : (manner : Manner) (file : List ℕ) (start end : ℕ) (key : List ℕ) {from to : ℕ} → lookup_table manner file start end key ≡ Ok (record { start = from; end = to })
     → (from ≤ to) × (to ≤ length file)
 unfolding LookedFits
 table_in_file manner file start end key e = subst (LookedFits file) e (table_looked_fits manner file start end key)
@@ -132,7 +126,7 @@ listed_value_in_file file start end at e = subst (ValuedFits file) e (valued_fit
 
 -- so does the fragment of a child that is listed
 pub child_in_file : (manner : Manner) (file : List ℕ) (start end : ℕ) (key : List ℕ) (at : ℕ) {index kind from to : ℕ} {next : Cursor}
-    → next_child manner file start end key at ≡ Childed.Child index kind from to next → (from ≤ to) × (to ≤ length file)
+    → next_child manner file start end key at ≡ Ok (record { index = index; kind = kind; start = from; end = to; next = next }) → (from ≤ to) × (to ≤ length file)
 unfolding ChildedFits
 child_in_file manner file start end key at e = subst (ChildedFits file) e (childed_fits manner file start end key at)
 
@@ -150,8 +144,8 @@ next_value-none file t at past k from below = (next_says file t at).1 k from (om
 
 -- a key that is listed stands at the front of the buffer, is the key that lookup compares, and leaves all behind it as it was
 module _ (file : List ℕ) (start end at : ℕ) (out : List ℕ) {size : ℕ} {next : Cursor}
-    (said : listed (key_at file start end at) (length out) at ≡ Listed.Key size next) where
-  pub listed_key_lem : {t : Table} → open_table file start end ≡ Opened.Table t
+    (said : listed (key_at file start end at) (length out) at ≡ Ok (record { size = size; next = next })) where
+  pub listed_key_lem : {t : Table} → open_table file start end ≡ Ok t
       → (at < t.count) × (key_of file t t.count at ≡ Joined.joined (take size (written (key_at file start end at) out)))
   unfolding key_at key_opened
   listed_key_lem {t} opens =
@@ -160,7 +154,7 @@ module _ (file : List ℕ) (start end at : ℕ) (out : List ℕ) {size : ℕ} {n
       let below : at < t.count = key_in_range file at t key in
       (below, sym (in_range file t at below) ∙ key)
 
-  pub listed_key-names : {t : Table} → open_table file start end ≡ Opened.Table t → names (key_of file t t.count at) (take size (written (key_at file start end at) out)) ≡ true
+  pub listed_key-names : {t : Table} → open_table file start end ≡ Ok t → names (key_of file t t.count at) (take size (written (key_at file start end at) out)) ≡ true
   listed_key-names opens = joined-names _ _ (listed_key_lem opens).1
 
   pub listed_key_rest : drop size (written (key_at file start end at) out) ≡ drop size out
@@ -171,15 +165,15 @@ module _ (file : List ℕ) (start end at : ℕ) (out : List ℕ) {size : ℕ} {n
 
 -- a refusal writes nothing
 pub refused_writes_nothing : (file : List ℕ) (start end at : ℕ) (out : List ℕ) {why : Refusal}
-    → listed (key_at file start end at) (length out) at ≡ Listed.Refused why → written (key_at file start end at) out ≡ out
+    → listed (key_at file start end at) (length out) at ≡ Err why → written (key_at file start end at) out ≡ out
 refused_writes_nothing file start end at out e = refused_keeps (key_at file start end at) out at e
 
 -- ---- an item whose parent is itself
 
 module _ (file : List ℕ) (t : Table) (i : ℕ) (lies : InFile file t) (below : i < t.count) (own : (item_at file t i).parent ≡ i)
-    (opens : open_pointer (length file) (item_at file t i).key ((item_at file t i).key + (item_at file t i).size) 1 ≡ Pointed.Inside)
+    (opens : open_pointer (length file) (item_at file t i).key ((item_at file t i).key + (item_at file t i).size) 1 ≡ Ok tt)
     (text : is_utf8 (fragment_of file (item_at file t i)) ≡ true) where
-  own_step : climb_from file t.count (item_at file t i) ≡ Step.Up i
+  own_step : climb_from file t.count (item_at file t i) ≡ Ok (Some i)
   unfolding parent_of pick
   own_step =
       let no-root : (i ≡ no_item → ⊥) = λ e. omega (arith, lies.short, lies.items) in
@@ -192,7 +186,7 @@ module _ (file : List ℕ) (t : Table) (i : ℕ) (lies : InFile file t) (below :
   self_parent_ends (suc steps) = rw (own_step, self_parent_ends steps)
 
   -- listing it is refused with 11
-  pub self_parent_listed : (start end : ℕ) (room : ℕ) → open_table file start end ≡ Opened.Table t
+  pub self_parent_listed : (start end : ℕ) (room : ℕ) → open_table file start end ≡ Ok t
       → listed_number (listed (key_at file start end i) room i) ≡ 11
   unfolding key_at key_opened listed listed_number
   self_parent_listed start end room table = rw (table, in_range file t i below, self_parent_ends t.count)

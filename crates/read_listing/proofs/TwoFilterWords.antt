@@ -1,5 +1,6 @@
 -- A file of 81 bytes with two filter words that differ: "A" has its bit in the second and is found; "a" has the same bit of the first, which is
 -- not set, and is not found though its item is there.
+use Rattle.std.specs.Prelude.{Ok}
 use Prim.Native.Nat.{ℕ}
 use mathlib.Core.Path.{◌≡◌, refl}
 use mathlib.Core.List.{List, [], ◌∷◌, ◌++◌}
@@ -13,7 +14,6 @@ use Rattle.text.specs.Utf8.{between, tail, is_two, starts_three, starts_four, fi
 use Rattle.layout.specs.Pointer.{open_pointer}
 use Rattle.layout.specs.Table.{table_of, table_in, open_table}
 use Rattle.layout.specs.Item.{item_at}
-use Rattle.read.specs.declared.lookup.Looked.{Looked}
 use Rattle.read_chain.specs.Chain.{fragment_of, parent_of, after_pointer, climb_from, append, join_step, key_of, names}
 use Rattle.read_find.specs.Find as find
 use Rattle.read_find.specs.Find.{rust, bloom_passes, bucket_word, run_of, item_matches, first_from, find_item}
@@ -28,7 +28,7 @@ filtered =
     ++ (0xE6 ∷ 0xB5 ∷ 0x02 ∷ 0 ∷ 255 ∷ 255 ∷ 255 ∷ 255 ∷ 69 ∷ 0 ∷ 0 ∷ 0 ∷ 1 ∷ 0 ∷ 118 ∷ 0 ∷ 80 ∷ 0 ∷ 0 ∷ 0 ∷ 81 ∷ 0 ∷ 0 ∷ 0 ∷ [])
     ++ (97 ∷ 65 ∷ 0 ∷ 0 ∷ 1 ∷ 0 ∷ 0 ∷ 0 ∷ 0 ∷ 0 ∷ 0 ∷ 0 ∷ 2 ∷ [])
 
-pub second_word : lookup_value rust filtered 0 68 (65 ∷ []) ≡ Looked.Pointer 80 81
+pub second_word : lookup_value rust filtered 0 68 (65 ∷ []) ≡ Ok (record { start = 80; end = 81 })
 unfolding filtered open_table open_pointer table_in table_of bloom_count bit_set field fields.little_endian pick key_of join_step append climb_from after_pointer parent_of fragment_of is_utf8 first_bad good_from one_more step_len sequence_len first_of is_two starts_three starts_four tail between same_bytes item_at names hash_by hash_from bloom_passes bucket_word run_of item_matches first_from find.shift_of find.first_of find_item at_found lookup_in at_opened lookup_item at_item at_pointer value_of lookup_value
 second_word = refl
 

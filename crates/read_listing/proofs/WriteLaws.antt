@@ -1,4 +1,5 @@
 -- The loop that writes a measured key from its last fragment to its first: with a fragment written, the key above it is left to write.
+use Rattle.std.specs.Prelude.{Result, Ok, Err, Option, Some, None}
 use Prim.Native.Nat.{ℕ, ◌+◌, ◌-◌, ◌≤◌, ◌<◌}
 use mathlib.Core.Path.{◌≡◌, refl, sym, ap, ◌∙◌, subst}
 use mathlib.Core.List.{List, [], ◌++◌}
@@ -15,8 +16,6 @@ use Rattle.layout.specs.declared.refusal.Refusal.TheVariants.{ParentsEndless}
 use Rattle.layout.specs.declared.table.Table.{Table}
 use Rattle.layout.specs.declared.item.Item.{Item}
 use Rattle.layout.specs.Item.{item_at}
-use Rattle.read_chain.specs.declared.chain.Step.{Step}
-use Rattle.read_listing.specs.declared.listing.Measured.{Measured}
 use Rattle.read_chain.specs.Chain.{Joined, append, join_step, key_of, climb_from, parent_of, fragment_of}
 use Rattle.read_listing.specs.Listing.{measure, written}
 use Rattle.read_chain.proofs.ChainLaws.{Climbs, climb_or, StepFits, climb_fits, key_turn, key_over, fragment_taken, fragment_size}
@@ -24,18 +23,18 @@ use Rattle.read_chain.proofs.ChainLaws.{Climbs, climb_or, StepFits, climb_fits, 
 -- ---- one fragment
 
 -- the key above an item: none above a root
-unfoldable pub above : Step → (ℕ → Joined) → Joined
-above Step.Root key_at = Joined.joined []
-above (Step.Up parent) key_at = key_at parent
-above (Step.Refused why) key_at = Joined.broken why
+unfoldable pub above : Result (Option ℕ) Refusal → (ℕ → Joined) → Joined
+above (Ok None) key_at = Joined.joined []
+above (Ok (Some parent)) key_at = key_at parent
+above (Err why) key_at = Joined.broken why
 
-pub joined_above : (s : Step) (f : List ℕ) (key_at : ℕ → Joined) → join_step s f key_at ≡ append (above s key_at) f
+pub joined_above : (s : Result (Option ℕ) Refusal) (f : List ℕ) (key_at : ℕ → Joined) → join_step s f key_at ≡ append (above s key_at) f
 unfolding join_step above append
-joined_above Step.Root f key_at = refl
-joined_above (Step.Up parent) f key_at = refl
-joined_above (Step.Refused why) f key_at = refl
+joined_above (Ok None) f key_at = refl
+joined_above (Ok (Some parent)) f key_at = refl
+joined_above (Err why) f key_at = refl
 
-pub size_is : (m n : ℕ) → Measured.Size m ≡ Measured.Size n → m ≡ n
+pub size_is : (m n : ℕ) → ◌≡◌ {A = Result ℕ Refusal} (Ok m) (Ok n) → m ≡ n
 size_is m n e = cc
 
 -- a key of k bytes whose tail f is written
@@ -53,10 +52,10 @@ written-tail k f out l =
 -- writing a fragment behind the rest of its key leaves the rest to write
 record Behind (j : Joined) (f out : List ℕ) (end : ℕ) : Type 0 where
   pub shorter : length f ≤ end
-  pub sized : measure j ≡ Measured.Size (end - length f)
+  pub sized : measure j ≡ Ok (end - length f)
   pub same : written j (put_at out (end - length f) f) ≡ written (append j f) out
 
-behind : (j : Joined) (f out : List ℕ) (end : ℕ) → measure (append j f) ≡ Measured.Size end → end ≤ length out → Behind j f out end
+behind : (j : Joined) (f out : List ℕ) (end : ℕ) → measure (append j f) ≡ Ok end → end ≤ length out → Behind j f out end
 unfolding measure append
 behind (Joined.broken why) f out end e room = let z : ◌≡◌ {A = ℕ} 0 1 = cc in absurd (omega arith)
 behind (Joined.joined k) f out end e room =
@@ -65,7 +64,7 @@ behind (Joined.joined k) f out end e room =
     let m : length k ≡ end - length f = omega arith in
     record {
       shorter = omega arith;
-      sized = ap Measured.Size m;
+      sized = ap Ok m;
       same = rw (← m) (written-tail k f out (omega arith));
     }
 
@@ -77,22 +76,18 @@ written_none out = rw (put-none out 0) (pick_same _ out)
 
 pub record Writing (file : List ℕ) (t : Table) (index : ℕ) (out₀ : List ℕ) (at end left : ℕ) (out : List ℕ) : Type 0 where
   pub below : at < t.count
-  pub sized : measure (key_of file t left at) ≡ Measured.Size end
+  pub sized : measure (key_of file t left at) ≡ Ok end
   pub room : end ≤ length out
   pub long : length out ≡ length out₀
   pub same : written (key_of file t left at) out ≡ written (key_of file t t.count index) out₀
 
 module _ (file : List ℕ) (t : Table) (index : ℕ) (out₀ : List ℕ) where
-  pub write-start : (size : ℕ) → index < t.count → measure (key_of file t t.count index) ≡ Measured.Size size → size ≤ length out₀
-      → Writing file t index out₀ index size t.count out₀
-  write-start size h sized room = record { below = h; sized = sized; room = room; long = refl; same = refl }
-
   module _ {at end left : ℕ} {out : List ℕ} (w : Writing file t index out₀ at end left out) where
     -- a key that is measured has a root
     pub write_over : left ≤ 0 → out ≡ written (key_of file t t.count index) out₀
     unfolding measure
     write_over h =
-        let z : Measured.Refused ParentsEndless ≡ Measured.Size end = sym (ap measure (key_over file t left at h)) ∙ w.sized in
+        let z : Err ParentsEndless ≡ Ok end = sym (ap measure (key_over file t left at h)) ∙ w.sized in
         cc
 
     module _ (h : 0 < left) {item : Item} (is : item ≡ item_at file t at) where
@@ -100,7 +95,7 @@ module _ (file : List ℕ) (t : Table) (index : ℕ) (out₀ : List ℕ) where
       climbs : Climbs file t.count item (climb_from file t.count item)
       unfolding measure join_step
       climbs = climb_or file t.count item (λ why e.
-          let z : Measured.Refused why ≡ Measured.Size end = sym (ap measure (key_turn file t left at item _ h is e)) ∙ w.sized in
+          let z : Err why ≡ Ok end = sym (ap measure (key_turn file t left at item _ h is e)) ∙ w.sized in
           let y : ◌≡◌ {A = ℕ} 0 1 = cc in omega arith)
 
       key_is : key_of file t left at ≡ append (above (parent_of t.count item.parent) (λ parent. key_of file t (left - 1) parent)) (fragment_of file item)
@@ -131,17 +126,17 @@ module _ (file : List ℕ) (t : Table) (index : ℕ) (out₀ : List ℕ) where
         put_same =
             rw (taken, ← taken_size) (turned.same ∙ sym (ap (λ (j : Joined). written j out) key_is) ∙ w.same)
 
-        pub write_root : parent_of t.count item.parent ≡ Step.Root
+        pub write_root : parent_of t.count item.parent ≡ Ok None
             → put_at out (end - size) (take (start + size - start) (drop start file)) ≡ written (key_of file t t.count index) out₀
         unfolding above
         write_root e = sym (written_none _) ∙ rw e at put_same
 
-        pub write-refused : {why : Refusal} → parent_of t.count item.parent ≡ Step.Refused why
+        pub write-refused : {why : Refusal} → parent_of t.count item.parent ≡ Err why
             → put_at out (end - size) (take (start + size - start) (drop start file)) ≡ written (key_of file t t.count index) out₀
         unfolding above measure
-        write-refused {why} e = let z : Measured.Refused why ≡ Measured.Size (end - length (fragment_of file item)) = rw e at turned.sized in cc
+        write-refused {why} e = let z : Err why ≡ Ok (end - length (fragment_of file item)) = rw e at turned.sized in cc
 
-        pub write_up : {parent : ℕ} → parent_of t.count item.parent ≡ Step.Up parent
+        pub write_up : {parent : ℕ} → parent_of t.count item.parent ≡ Ok (Some parent)
             → Writing file t index out₀ parent (end - size) (left - 1) (put_at out (end - size) (take (start + size - start) (drop start file)))
         unfolding above StepFits
         write_up {parent} e =

@@ -1,23 +1,24 @@
 -- The number of document 01 that each answer stands for, 0 for a success, and the values that it carries, 0 where it has none.
-use Rattle.std.specs.Prelude.{ℕ}
+use Rattle.std.specs.Prelude.{ℕ, Result, Ok, Err}
+use Rattle.layout.specs.declared.refusal.Refusal.{Refusal}
+use Rattle.read_listing.specs.declared.listing.WrittenKey.{WrittenKey}
+use Rattle.read_listing.specs.declared.children.Child.{Child}
 use Rattle.layout.specs.Refusal.{number, bad_at}
-use Rattle.read_listing.specs.declared.listing.Listed.{Listed}
 use Rattle.read_listing.specs.declared.listing.Valued.{Valued}
-use Rattle.read_listing.specs.declared.children.Childed.{Childed}
 
-unfoldable pub listed_number : Listed → ℕ
-listed_number (Listed.Key size next) = 0
-listed_number (Listed.Refused why) = number why
+unfoldable pub listed_number : Result WrittenKey Refusal → ℕ
+listed_number (Ok k) = 0
+listed_number (Err why) = number why
 
 -- where the stored fragment is bad, told with 9
-unfoldable pub listed_at : Listed → ℕ
-listed_at (Listed.Key size next) = 0
-listed_at (Listed.Refused why) = bad_at why
+unfoldable pub listed_at : Result WrittenKey Refusal → ℕ
+listed_at (Ok k) = 0
+listed_at (Err why) = bad_at why
 
 -- the key's length, and the next position
-unfoldable pub listed_key : Listed → ℕ × ℕ
-listed_key (Listed.Key size next) = (size, next.at)
-listed_key (Listed.Refused why) = (0, 0)
+unfoldable pub listed_key : Result WrittenKey Refusal → ℕ × ℕ
+listed_key (Ok k) = (k.size, k.next.at)
+listed_key (Err why) = (0, 0)
 
 unfoldable pub valued_number : Valued → ℕ
 valued_number (Valued.Value index start end next) = 0
@@ -36,26 +37,26 @@ valued_pointer (Valued.Value index start end next) = (start, end)
 valued_pointer (Valued.Unopened why index next) = (0, 0)
 valued_pointer (Valued.Refused why) = (0, 0)
 
-unfoldable pub childed_number : Childed → ℕ
-childed_number (Childed.Child index kind start end next) = 0
-childed_number (Childed.Refused why) = number why
+unfoldable pub childed_number : Result Child Refusal → ℕ
+childed_number (Ok x) = 0
+childed_number (Err why) = number why
 
 -- the child's index, and the next position
-unfoldable pub childed_child : Childed → ℕ × ℕ
-childed_child (Childed.Child index kind start end next) = (index, next.at)
-childed_child (Childed.Refused why) = (0, 0)
+unfoldable pub childed_child : Result Child Refusal → ℕ × ℕ
+childed_child (Ok x) = (x.index, x.next.at)
+childed_child (Err why) = (0, 0)
 
 -- the byte of its kind
-unfoldable pub childed_kind : Childed → ℕ
-childed_kind (Childed.Child index kind start end next) = kind
-childed_kind (Childed.Refused why) = 0
+unfoldable pub childed_kind : Result Child Refusal → ℕ
+childed_kind (Ok x) = x.kind
+childed_kind (Err why) = 0
 
 -- start and end of its fragment
-unfoldable pub childed_pointer : Childed → ℕ × ℕ
-childed_pointer (Childed.Child index kind start end next) = (start, end)
-childed_pointer (Childed.Refused why) = (0, 0)
+unfoldable pub childed_pointer : Result Child Refusal → ℕ × ℕ
+childed_pointer (Ok x) = (x.start, x.end)
+childed_pointer (Err why) = (0, 0)
 
 -- where the given key is bad, told with 8, or the child's fragment, told with 9
-unfoldable pub childed_at : Childed → ℕ
-childed_at (Childed.Child index kind start end next) = 0
-childed_at (Childed.Refused why) = bad_at why
+unfoldable pub childed_at : Result Child Refusal → ℕ
+childed_at (Ok x) = 0
+childed_at (Err why) = bad_at why

@@ -1,45 +1,43 @@
 -- Listing keys and values, from document 01, 'Lookup' and 'Order'. Key listing: opening, 15; then 2, 9, 10 from the item towards the
 -- root, 11; then 14. Value listing: opening, 15, then 2 or 3.
-use Rattle.std.specs.Prelude.{ℕ, zero, suc, ◌+◌, ◌-◌, List, length, ltb, leb, eqb}
+use Rattle.std.specs.Prelude.{ℕ, zero, suc, ◌+◌, ◌-◌, List, length, ltb, leb, eqb, Result, Ok, Err}
+use Rattle.layout.specs.declared.refusal.Refusal.{Refusal}
+use Rattle.read_listing.specs.declared.listing.WrittenKey.{WrittenKey}
 use Rattle.words.specs.Choice.{pick}
 use Rattle.words.specs.Store.{put_at}
 use Rattle.layout.specs.declared.refusal.Refusal.TheVariants.{PastTheLast, BufferTooShort}
 use Rattle.layout.specs.declared.kind.Kind.{Kind}
-use Rattle.layout.specs.declared.pointer.Pointed.{Pointed}
-use Rattle.layout.specs.declared.table.Opened.{Opened}
 use Rattle.layout.specs.declared.table.Table.{Table}
 use Rattle.layout.specs.declared.item.Item.{Item}
 use Rattle.layout.specs.Kind.{kind_byte}
 use Rattle.layout.specs.Pointer.{open_pointer}
 use Rattle.layout.specs.Table.{open_table}
 use Rattle.layout.specs.Item.{item_at}
-use Rattle.read_listing.specs.declared.listing.Measured.{Measured}
-use Rattle.read_listing.specs.declared.listing.Listed.{Listed}
 use Rattle.read_listing.specs.declared.listing.Valued.{Valued}
 use Rattle.read_chain.specs.Chain.{Joined, key_of}
 
 -- a key's length
-unfoldable pub measure : Joined → Measured
-measure (Joined.joined k) = Measured.Size (length k)
-measure (Joined.broken why) = Measured.Refused why
+unfoldable pub measure : Joined → Result ℕ Refusal
+measure (Joined.joined k) = Ok (length k)
+measure (Joined.broken why) = Err why
 
 -- the key at a position of an open table: 15 past the last item
 unfoldable pub key_in : List ℕ → ℕ → Table → Joined
 key_in file at t = pick (leb t.count at) (Joined.broken PastTheLast) (key_of file t t.count at)
 
-unfoldable pub key_opened : List ℕ → ℕ → Opened → Joined
-key_opened file at (Opened.Table t) = key_in file at t
-key_opened file at (Opened.Refused why) = Joined.broken why
+unfoldable pub key_opened : List ℕ → ℕ → Result Table Refusal → Joined
+key_opened file at (Ok t) = key_in file at t
+key_opened file at (Err why) = Joined.broken why
 
 -- the key at a position of the table at a pointer
 unfoldable pub key_at : List ℕ → ℕ → ℕ → ℕ → Joined
 key_at file start end at = key_opened file at (open_table file start end)
 
 -- the answer: 14 where the room is too small, else the key's length and the next position
-unfoldable pub listed : Joined → ℕ → ℕ → Listed
+unfoldable pub listed : Joined → ℕ → ℕ → Result WrittenKey Refusal
 listed (Joined.joined k) room at =
-    pick (ltb room (length k)) (Listed.Refused BufferTooShort) (Listed.Key (length k) (record { at = at + 1 }))
-listed (Joined.broken why) room at = Listed.Refused why
+    pick (ltb room (length k)) (Err BufferTooShort) (Ok (record { size = length k; next = record { at = at + 1 } }))
+listed (Joined.broken why) room at = Err why
 
 -- the lent buffer: the key at its front, all else as it was; a refusal writes nothing
 unfoldable pub written : Joined → List ℕ → List ℕ
@@ -56,9 +54,9 @@ unfoldable pub next_value : List ℕ → Table → ℕ → ℕ
 next_value file t at = next_of file t (t.count - at) at
 
 -- with 2 or 3 the index and the next position are told too
-unfoldable pub value_opened : Pointed → ℕ → Item → Valued
-value_opened Pointed.Inside index item = Valued.Value index item.from item.to (record { at = index + 1 })
-value_opened (Pointed.Refused why) index item = Valued.Unopened why index (record { at = index + 1 })
+unfoldable pub value_opened : Result (Unit {0}) Refusal → ℕ → Item → Valued
+value_opened (Ok _) index item = Valued.Value index item.from item.to (record { at = index + 1 })
+value_opened (Err why) index item = Valued.Unopened why index (record { at = index + 1 })
 
 -- the value of the item at an index: 15 past the last item, then 2 or 3 of its pointer, whose alignment is 8
 unfoldable pub value_from : List ℕ → Table → ℕ → Valued
@@ -66,9 +64,9 @@ value_from file t index =
     pick (leb t.count index) (Valued.Refused PastTheLast)
     (value_opened (open_pointer (length file) (item_at file t index).from (item_at file t index).to 8) index (item_at file t index))
 
-unfoldable pub value_in_opened : List ℕ → ℕ → Opened → Valued
-value_in_opened file at (Opened.Table t) = value_from file t (next_value file t at)
-value_in_opened file at (Opened.Refused why) = Valued.Refused why
+unfoldable pub value_in_opened : List ℕ → ℕ → Result Table Refusal → Valued
+value_in_opened file at (Ok t) = value_from file t (next_value file t at)
+value_in_opened file at (Err why) = Valued.Refused why
 
 -- the first value at or after a position of the table at a pointer
 unfoldable pub value_at : List ℕ → ℕ → ℕ → ℕ → Valued

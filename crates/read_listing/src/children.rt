@@ -1,5 +1,5 @@
 // The children of a container, in stored order: a cursor by value that comes back moved on, as in the other listings.
-ghost use Rattle.std.specs.Prelude.{◌≡◌, ◌≤◌, ◌<◌, length};
+ghost use Rattle.std.specs.Prelude.{◌≡◌, ◌≤◌, ◌<◌, length, Ok};
 ghost use Rattle.layout.specs.Limits.{longest_file};
 ghost use Rattle.layout.specs.Table.{InFile};
 ghost use Rattle.read_find.specs.Find.{manner_of};
@@ -8,10 +8,10 @@ ghost use Rattle.read_listing.specs.Children.{child_count, open_list, child_name
 use crate::listing::Cursor;
 use layout::item::{Item, item_at};
 use layout::kind::{CONTAINER_BYTE, kind_known};
-use layout::pointer::{Pointed, open_pointer};
+use layout::pointer::open_pointer;
 use layout::refusal::Refusal;
-use layout::table::{Opened, Table, open_table};
-use read::lookup::{Sought, lookup_in};
+use layout::table::{Table, open_table};
+use read::lookup::lookup_in;
 use read_find::manner::Manner;
 use text::utf8::{first_bad, is_utf8};
 use words::align::Alignment;
@@ -20,18 +20,16 @@ use words::wide::{half_size, word_size};
 
 // A child: its index, the byte of its kind, the pointer of its fragment, and the next position; or why there is none. A refused child can be passed over.
 #[derive(Clone, Copy)]
-pub enum Childed {
-    Child {
-        index: usize,
-        kind: u8,
-        start: u32,
-        end: u32,
-        next: Cursor,
-    },
-    Refused(Refusal),
+pub struct Child {
+    pub index: usize,
+    pub kind: u8,
+    pub start: u32,
+    pub end: u32,
+    pub next: Cursor,
 }
 
 // How many children a container lists.
+#[tactic(auto, unfolding(crate::specs::Children::child_count))]
 pub fn child_count(item: Item) -> usize
     requires { item.from ≤ item.to }
     ensures { result ≡ child_count item }
@@ -40,97 +38,93 @@ pub fn child_count(item: Item) -> usize
 }
 
 // Whether an item is a container whose list opens: 13, 2 or 3 of its value pointer, 13 for a length that is not divisible by 4.
-fn open_list(file: &[u8], item: Item) -> Pointed
+#[tactic(auto, using(layout::proofs::OpenLaws::pointer_inside), unfolding(crate::specs::Children::open_list, crate::specs::Children::whole_words, words::specs::Choice::pick))]
+fn open_list(file: &[u8], item: Item) -> Result<(), Refusal>
     ensures { result ≡ open_list file.now item }
 {
     if item.kind != CONTAINER_BYTE {
-        return Pointed::Refused(Refusal::OtherKind);
+        return Err(Refusal::OtherKind);
     }
     let from = word_size(item.from);
     let to = word_size(item.to);
-    match open_pointer(file.len(), from, to, Alignment::Table) {
-        Pointed::Refused(why) => Pointed::Refused(why),
-        Pointed::Inside => {
-            if (to - from) % 4 == 0 {
-                Pointed::Inside
-            } else {
-                Pointed::Refused(Refusal::OtherKind)
-            }
-        }
+    open_pointer(file.len(), from, to, Alignment::Table)?;
+    if (to - from) % 4 != 0 {
+        return Err(Refusal::OtherKind);
     }
+    Ok(())
 }
 
 // A child of which only the fragment is left to judge: 2, or 9 with the offset in it.
-fn child_named(file: &[u8], index: usize, child: Item, at: usize) -> Childed
+#[tactic(auto, using(layout::proofs::OpenLaws::pointer_inside, read_chain::proofs::ChainLaws::fragment_taken, read_chain::proofs::ChainLaws::same_place), unfolding(crate::specs::Children::child_named, crate::specs::Children::at_fragment, words::specs::Choice::pick))]
+fn child_named(file: &[u8], index: usize, child: Item, at: usize) -> Result<Child, Refusal>
     requires { (length file.now ≤ longest_file) × (at < 4294967296) }
     ensures { result ≡ child_named file.now index child at }
 {
     let start = word_size(child.key);
     let end = start + half_size(child.size);
-    match open_pointer(file.len(), start, end, Alignment::Key) {
-        Pointed::Refused(why) => Childed::Refused(why),
-        Pointed::Inside => {
-            if is_utf8(&file[start..end]) {
-                Childed::Child {
-                    index,
-                    kind: child.kind,
-                    start: child.key,
-                    end: end as u32,
-                    next: Cursor { at: at + 1 },
-                }
-            } else {
-                Childed::Refused(Refusal::FragmentNotUtf8(first_bad(&file[start..end])))
-            }
-        }
+    open_pointer(file.len(), start, end, Alignment::Key)?;
+    let fragment = &file[start..end];
+    if !is_utf8(fragment) {
+        return Err(Refusal::FragmentNotUtf8(first_bad(fragment)));
     }
+    Ok(Child {
+        index,
+        kind: child.kind,
+        start: child.key,
+        end: end as u32,
+        next: Cursor { at: at + 1 },
+    })
 }
 
 // The child with an index, listed at a position: 10, 13, then its fragment.
-fn child_of(file: &[u8], table: Table, index: usize, at: usize) -> Childed
+#[tactic(auto, unfolding(crate::specs::Children::child_of, words::specs::Choice::pick))]
+fn child_of(file: &[u8], table: Table, index: usize, at: usize) -> Result<Child, Refusal>
     requires { InFile file.now table × (at < 4294967296) }
     ensures { result ≡ child_of file.now table index at }
 {
     if table.count <= index {
-        return Childed::Refused(Refusal::ParentOutside);
+        return Err(Refusal::ParentOutside);
     }
     let child = item_at(file, table, index);
-    if kind_known(child.kind) {
-        return child_named(file, index, child, at);
+    if !kind_known(child.kind) {
+        return Err(Refusal::OtherKind);
     }
-    Childed::Refused(Refusal::OtherKind)
+    child_named(file, index, child, at)
 }
 
 // The child at a position of an item: what its list refuses, 15, then the child.
-fn child_from(file: &[u8], table: Table, item: Item, at: usize) -> Childed
+#[tactic(auto, using(crate::proofs::ChildLaws::list_inside), unfolding(crate::specs::Children::child_from, crate::specs::Children::child_at, crate::specs::Children::child_count, words::specs::Choice::pick))]
+fn child_from(file: &[u8], table: Table, item: Item, at: usize) -> Result<Child, Refusal>
     requires { InFile file.now table }
     ensures { result ≡ child_from (open_list file.now item) file.now table item at }
 {
-    match open_list(file, item) {
-        Pointed::Refused(why) => Childed::Refused(why),
-        Pointed::Inside => {
-            if at < child_count(item) {
-                let index = word_size(word_at(file, word_size(item.from) + 4 * at));
-                child_of(file, table, index, at)
-            } else {
-                Childed::Refused(Refusal::PastTheLast)
-            }
-        }
+    open_list(file, item)?;
+    if child_count(item) <= at {
+        return Err(Refusal::PastTheLast);
     }
+    let index = word_size(word_at(file, word_size(item.from) + 4 * at));
+    child_of(file, table, index, at)
 }
 
 // The same of the container under a key, in an open table: 8, 12, then the container.
-fn child_in(file: &[u8], table: Table, key: &[u8], at: usize, manner: Manner) -> Childed
+#[tactic(auto, unfolding(crate::specs::Children::child_in_opened, crate::specs::Children::child_of_sought))]
+fn child_in(
+    file: &[u8],
+    table: Table,
+    key: &[u8],
+    at: usize,
+    manner: Manner,
+) -> Result<Child, Refusal>
     requires { InFile file.now table }
-    ensures { result ≡ child_in_opened (manner_of manner) file.now key.now at (Opened.Table table) }
+    ensures { result ≡ child_in_opened (manner_of manner) file.now key.now at (Ok table) }
 {
-    match lookup_in(file, table, key, manner) {
-        Sought::Refused(why) => Childed::Refused(why),
-        Sought::Item(item) => child_from(file, table, item, at),
-    }
+    let item = lookup_in(file, table, key, manner)?;
+    child_from(file, table, item, at)
 }
 
 impl Cursor {
     // The child at the cursor's position of the container under a key, in the table at a pointer.
+    #[tactic(auto, using(layout::proofs::OpenLaws::opened_in_file), unfolding(crate::specs::Children::next_child, crate::specs::Children::child_in_opened))]
     pub fn next_child(
         self,
         file: &[u8],
@@ -138,12 +132,10 @@ impl Cursor {
         end: u32,
         key: &[u8],
         manner: Manner,
-    ) -> Childed
+    ) -> Result<Child, Refusal>
         ensures { result ≡ next_child (manner_of manner) file.now start end key.now self.at }
     {
-        match open_table(file, start, end) {
-            Opened::Refused(why) => Childed::Refused(why),
-            Opened::Table(table) => child_in(file, table, key, self.at, manner),
-        }
+        let table = open_table(file, start, end)?;
+        child_in(file, table, key, self.at, manner)
     }
 }

@@ -1,55 +1,87 @@
 // A list: records one behind the other. A record is eleven words, lowest byte first, and two strings of bytes behind them: what is asked (its kind),
 // the answer's number, start and end of a table's pointer, five numbers whose meaning is the kind's, and the lengths of the two strings.
-ghost use Rattle.std.specs.Prelude.{◌+◌, ◌≤◌, length};
+ghost use Rattle.std.specs.Prelude.{◌<◌, length, IfSome};
 
-use build_memory::fields::part_of;
-use std::num::wrapping_add_usize;
+use std::fmt;
 use words::field::word_at;
-use words::wide::word_size;
 
 // The bytes of a record's words.
-pub const HEAD: usize = 44;
+const HEAD: usize = 44;
 
-// The kinds.
-pub const FILE: u32 = 0;
-
-pub const OPEN: u32 = 1;
-
-pub const GET: u32 = 2;
-
-pub const GET_TABLE: u32 = 3;
-
-pub const NEXT_KEY: u32 = 4;
-
-pub const NEXT_VALUE: u32 = 5;
-
-pub const HASH: u32 = 6;
-
-pub const FIRST_BAD: u32 = 7;
-
-pub const FRESH: u32 = 8;
-
-pub const NEW_TABLE: u32 = 9;
-
-pub const INSERT: u32 = 10;
-
-pub const INSERT_TABLE: u32 = 11;
-
-pub const ITEM_COUNT: u32 = 12;
-
-pub const WRITE: u32 = 13;
-
-// A stretch of the list.
+// What is asked.
 #[derive(Clone, Copy)]
-pub struct Span {
-    pub at: usize,
-    pub size: usize,
+pub enum Kind {
+    File,
+    Open,
+    Get,
+    GetTable,
+    NextKey,
+    NextValue,
+    Hash,
+    FirstBad,
+    Fresh,
+    NewTable,
+    Insert,
+    InsertTable,
+    ItemCount,
+    Write,
+}
+
+// How many kinds there are.
+pub const KINDS: usize = Kind::Write as usize + 1;
+
+// A number that is no kind's.
+#[derive(Clone, Copy)]
+pub struct UnknownKind(pub u32);
+
+impl TryFrom<u32> for Kind {
+    type Error = UnknownKind;
+
+    fn try_from(number: u32) -> Result<Self, UnknownKind> {
+        match number {
+            0 => Ok(Kind::File),
+            1 => Ok(Kind::Open),
+            2 => Ok(Kind::Get),
+            3 => Ok(Kind::GetTable),
+            4 => Ok(Kind::NextKey),
+            5 => Ok(Kind::NextValue),
+            6 => Ok(Kind::Hash),
+            7 => Ok(Kind::FirstBad),
+            8 => Ok(Kind::Fresh),
+            9 => Ok(Kind::NewTable),
+            10 => Ok(Kind::Insert),
+            11 => Ok(Kind::InsertTable),
+            12 => Ok(Kind::ItemCount),
+            13 => Ok(Kind::Write),
+            _ => Err(UnknownKind(number)),
+        }
+    }
+}
+
+impl fmt::Display for Kind {
+    fn fmt<W: fmt::Write>(&self, f: &mut fmt::Formatter<W>) -> fmt::Result {
+        f.write_str(match self {
+            Kind::File => "file",
+            Kind::Open => "open",
+            Kind::Get => "get",
+            Kind::GetTable => "get_table",
+            Kind::NextKey => "next_key",
+            Kind::NextValue => "next_value",
+            Kind::Hash => "djb_hash",
+            Kind::FirstBad => "first_bad",
+            Kind::Fresh => "fresh",
+            Kind::NewTable => "new_table",
+            Kind::Insert => "insert",
+            Kind::InsertTable => "insert_table",
+            Kind::ItemCount => "item_count",
+            Kind::Write => "write",
+        })
+    }
 }
 
 #[derive(Clone, Copy)]
-pub struct Record {
-    pub at: usize,
-    pub kind: u32,
+pub struct Record<'a> {
+    pub kind: Kind,
     pub number: u32,
     pub start: u32,
     pub end: u32,
@@ -58,71 +90,30 @@ pub struct Record {
     pub three: u32,
     pub four: u32,
     pub five: u32,
-    pub first: Span,
-    pub second: Span,
+    pub first: &'a [u8],
+    pub second: &'a [u8],
 }
 
-// How many bytes the record at an offset has, or 0 where no whole record of a known kind starts there.
-pub fn size_at(list: &[u8], at: usize) -> usize
-    requires { at ≤ length list.now }
-    ensures { at + result ≤ length list.now }
+// The record at a list's front, and the list behind it; none where no whole record of a known kind stands there.
+pub fn split_record(list: &[u8]) -> Option<(Record<'_>, &[u8])>
+    ensures { IfSome result (λ r. length r.1.now < length list.now) }
 {
-    let left = list.len() - at;
-    if left < HEAD {
-        return 0;
-    }
-    if WRITE < word_at(list, at) {
-        return 0;
-    }
-    let first = word_size(word_at(list, at + 36));
-    let second = word_size(word_at(list, at + 40));
-    if left - HEAD < first + second {
-        return 0;
-    }
-    HEAD + first + second
-}
-
-// The strings lie behind the words. In a whole record the sum does not wrap.
-fn first_of(list: &[u8], at: usize) -> Span
-    requires { at + 44 ≤ length list.now }
-{
-    Span {
-        at: at + HEAD,
-        size: word_size(word_at(list, at + 36)),
-    }
-}
-
-fn second_of(list: &[u8], at: usize, first: Span) -> Span
-    requires { at + 44 ≤ length list.now }
-{
-    Span {
-        at: wrapping_add_usize(first.at, first.size),
-        size: word_size(word_at(list, at + 40)),
-    }
-}
-
-pub fn record_at(list: &[u8], at: usize) -> Record
-    requires { at + 44 ≤ length list.now }
-{
-    let first = first_of(list, at);
-    let second = second_of(list, at, first);
-    Record {
-        at,
-        kind: word_at(list, at),
-        number: word_at(list, at + 4),
-        start: word_at(list, at + 8),
-        end: word_at(list, at + 12),
-        one: word_at(list, at + 16),
-        two: word_at(list, at + 20),
-        three: word_at(list, at + 24),
-        four: word_at(list, at + 28),
-        five: word_at(list, at + 32),
+    let (head, rest) = list.split_at_checked(HEAD)?;
+    let kind = Kind::try_from(word_at(head, 0)).ok()?;
+    let (first, rest) = rest.split_at_checked(word_at(head, 36) as usize)?;
+    let (second, rest) = rest.split_at_checked(word_at(head, 40) as usize)?;
+    let record = Record {
+        kind,
+        number: word_at(head, 4),
+        start: word_at(head, 8),
+        end: word_at(head, 12),
+        one: word_at(head, 16),
+        two: word_at(head, 20),
+        three: word_at(head, 24),
+        four: word_at(head, 28),
+        five: word_at(head, 32),
         first,
         second,
-    }
-}
-
-// The bytes of a stretch.
-pub fn bytes(list: &[u8], span: Span) -> &[u8] {
-    part_of(list, span.at, span.size)
+    };
+    Some((record, rest))
 }

@@ -5,16 +5,20 @@
 use std::io;
 
 mod building;
-mod data_file;
 mod list;
 mod reading;
 mod tally;
 mod walk;
 
 fn main(rt: HostRuntime) -> io::Result<()> {
-    walk::replay(&rt, "oracle-1.list")?;
-    walk::replay(&rt, "oracle-2.list")?;
-    walk::replay(&rt, "wrong.list")?;
-    walk::replay(&rt, "cut.list")?;
-    walk::replay(&rt, "unknown.list")
+    for name in [
+        "oracle-1.list",
+        "oracle-2.list",
+        "wrong.list",
+        "cut.list",
+        "unknown.list",
+    ] {
+        walk::replay(&rt, name)?;
+    }
+    Ok(())
 }

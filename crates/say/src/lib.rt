@@ -1,31 +1,9 @@
-// Words and numbers on standard output.
+// What the programs share: words for standard output, and the reading of a file.
 #![tactic(auto)]
 
 use std::io;
 
-pub fn text(rt: &impl Print, s: &[u8]) -> io::Result<()> {
-    rt.write_all(s)
-}
-
-// The first bytes of a slice.
-pub fn front(rt: &impl Print, s: &[u8], size: usize) -> io::Result<()> {
-    if size <= s.len() {
-        rt.write_all(&s[..size])?;
-    }
-    Ok(())
-}
-
-pub fn number(rt: &impl Print, n: u64) -> io::Result<()> {
-    print!(rt; "{n}")
-}
-
-pub fn size(rt: &impl Print, n: usize) -> io::Result<()> {
-    print!(rt; "{n}")
-}
-
-pub fn end(rt: &impl Print) -> io::Result<()> {
-    println!(rt;)
-}
+pub mod file;
 
 // The bytes in hexadecimal, and a space.
 pub fn bytes(rt: &impl Print, s: &[u8]) -> io::Result<()> {
@@ -41,9 +19,5 @@ pub fn place(rt: &impl Print, start: u32, end: u32) -> io::Result<()> {
 }
 
 pub fn yes_no(rt: &impl Print, b: bool) -> io::Result<()> {
-    if b {
-        print!(rt; "yes")
-    } else {
-        print!(rt; "no")
-    }
+    print!(rt; "{}", if b { "yes" } else { "no" })
 }

@@ -1,6 +1,6 @@
 -- Laws about texts of ASCII bytes: they are UTF-8, and so are their parts.
 use mathlib.Core.Path.{◌≡◌, refl, sym, ap, ap₂, ◌∙◌}
-use mathlib.Core.Bool.{Bool, true, false, ◌&&◌}
+use mathlib.Core.Bool.{Bool, true, false, ◌&&◌, and_assoc}
 use mathlib.Core.List.{List, [], ◌∷◌, ◌++◌}
 use Prim.Native.Nat.{ℕ, zero, suc, ◌+◌, ◌*◌, ◌/◌, ◌%◌, ◌^◌, ◌≤◌, ◌<◌}
 use native.Mathlib.Numerals.{add-one}
@@ -36,14 +36,10 @@ ascii_utf8 s e = whole_utf8 s (ascii_good s e)
 
 -- ---- parts
 
-and_assoc : (p q r : Bool) → (p && (q && r)) ≡ ((p && q) && r)
-and_assoc true q r = refl
-and_assoc false q r = refl
-
 pub ascii_append : (a b : List ℕ) → is_ascii (a ++ b) ≡ (is_ascii a && is_ascii b)
 unfolding is_ascii
 ascii_append [] b = refl
-ascii_append (x ∷ a) b = ap (λ (t : Bool). leb x 0x7F && t) (ascii_append a b) ∙ and_assoc (leb x 0x7F) (is_ascii a) (is_ascii b)
+ascii_append (x ∷ a) b = ap (λ (t : Bool). leb x 0x7F && t) (ascii_append a b) ∙ sym (and_assoc (leb x 0x7F) (is_ascii a) (is_ascii b))
 
 ascii_split : (n : ℕ) (s : List ℕ) → is_ascii s ≡ (is_ascii (take n s) && is_ascii (drop n s))
 ascii_split n s = ap is_ascii (sym (take-append-drop n s)) ∙ ascii_append (take n s) (drop n s)

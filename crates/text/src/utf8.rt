@@ -1,4 +1,5 @@
-// UTF-8 as RFC 3629, section 4, has it.
+// UTF-8 as RFC 3629, section 4, has it. `str::from_utf8` does not stand in for this code: it is the grammar of the definitions, rule by rule, and the
+// edits `surrogates_allowed` and `cut_character_passes` each change one of its lines.
 ghost use Rattle.std.specs.Prelude.{◌≡◌, ◌<◌, length, get_or, drop};
 ghost use Rattle.text.specs.Utf8.{between, tail, starts_three, starts_four, sequence_len, step_len, first_bad, is_utf8, starts_whole};
 
@@ -34,7 +35,7 @@ fn starts_four(b0: u8, b1: u8) -> bool
         | ((is_between(0xF1, 0xF3, b0) & is_tail(b1)) | ((b0 == 0xF4) & is_between(0x80, 0x8F, b1)))
 }
 
-// How many of four bytes are one character, or 0.
+// How many of four bytes are one character, or 0. No `Option`, here and in `step_len`: the definitions answer 0.
 fn sequence_len(b0: u8, b1: u8, b2: u8, b3: u8) -> usize
     ensures { result ≡ sequence_len b0 b1 b2 b3 }
 {
@@ -83,6 +84,7 @@ fn scan(s: &[u8]) -> usize
     ensures { result ≡ first_bad s.now }
 {
     let mut at = 0;
+    // A `while`: a step is as long as the character.
     while at < s.len() {
         let step = step_len(s, at);
         if step == 0 {

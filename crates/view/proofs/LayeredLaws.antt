@@ -1,4 +1,6 @@
 -- A view of two tables is the value's view of the one that its mark names.
+use Rattle.std.specs.Prelude.{Result, Ok, Err}
+use Rattle.layout.specs.declared.pointer.Pointer.{Pointer}
 use Prim.Native.Nat.{ℕ, ◌-◌}
 use mathlib.Core.Path.{◌≡◌, refl, sym, ap, subst, ◌∙◌}
 use mathlib.Core.Bool.{Bool, true, false}
@@ -8,7 +10,6 @@ use lib.ListN.{take, drop}
 use borrow.Author.Tests.{eqb-true, eqb-false}
 use denote.Ref.{Bor}
 use Rattle.layout.specs.declared.refusal.Refusal.{Refusal}
-use Rattle.read.specs.declared.lookup.Looked.{Looked}
 use Rattle.read.specs.declared.layered.Source.{Source}
 use Rattle.read.specs.declared.layered.Layered.{Layered}
 use Rattle.read_find.specs.Find.{manner_of}
@@ -24,17 +25,17 @@ use Rattle.view.specs.Views.{ValueOf, LayeredOf}
 use Rattle.view.proofs.Plain.{value_seen, value-refused}
 
 -- the walk's facts, put together
-pub layered_of_lem : (owner district : TableView) (key : List ℕ) (layered : Layered) (answer : Looked) (from : Source) (bytes : Bor (List ℕ))
+pub layered_of_lem : (owner district : TableView) (key : List ℕ) (layered : Layered) (answer : Result Pointer Refusal) (from : Source) (bytes : Bor (List ℕ))
     → layered ≡ layered_value (manner_of owner.manner) (manner_of district.manner) owner.file.now owner.start owner.end district.file.now district.start district.end key
     → answer ≡ layered.looked → from ≡ layered.from → LayeredIn owner.file district.file layered bytes
     → LayeredOf owner district key (record { answer = answer; from = from; bytes = bytes })
 layered_of_lem owner district key layered answer from bytes said is mark seen = record {
-  answered = ap (λ (a : Looked). marked a from) is ∙ ap (marked layered.looked) mark ∙ said;
-  viewed = subst (λ (a : Looked). ValueIn (of_source from owner.file district.file) a bytes) (sym is) (subst (λ (s : Source). ValueIn (of_source s owner.file district.file) layered.looked bytes) (sym mark) seen);
+  answered = ap (λ (a : Result Pointer Refusal). marked a from) is ∙ ap (marked layered.looked) mark ∙ said;
+  viewed = subst (λ (a : Result Pointer Refusal). ValueIn (of_source from owner.file district.file) a bytes) (sym is) (subst (λ (s : Source). ValueIn (of_source s owner.file district.file) layered.looked bytes) (sym mark) seen);
 }
 
 -- what a table answers alone
-abbrev pub alone : TableView → List ℕ → Looked
+abbrev pub alone : TableView → List ℕ → Result Pointer Refusal
 alone t key = lookup_value (manner_of t.manner) t.file.now t.start t.end key
 
 -- the value's view in the table that the mark names
@@ -65,9 +66,9 @@ module _ (owner district : TableView) (key : List ℕ) (r : LayeredView) (said :
       by_test false e = let one = of_owner (eqb-false _ _ e) in subst (λ (s : Source). ValueOf (of_source s owner district) key (value_view r)) (sym one.0) one.1
 
   -- the value's bytes, of the file that the mark names; none on a refusal
-  pub layered_seen : {from to : ℕ} → r.answer ≡ Looked.Pointer from to
+  pub layered_seen : {from to : ℕ} → r.answer ≡ Ok (record { start = from; end = to })
       → Viewed (of_source r.from owner district).file r.bytes from (take (to - from) (drop from (of_source r.from owner district).file.now))
   layered_seen e = value_seen (of_source r.from owner district) key (value_view r) layered_one e
 
-  pub layered_refused : {why : Refusal} → r.answer ≡ Looked.Refused why → Viewed (of_source r.from owner district).file r.bytes 0 []
+  pub layered_refused : {why : Refusal} → r.answer ≡ Err why → Viewed (of_source r.from owner district).file r.bytes 0 []
   layered_refused e = value-refused (of_source r.from owner district) key (value_view r) layered_one e

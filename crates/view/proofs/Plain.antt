@@ -1,4 +1,6 @@
 -- What the views mean, in plain statements: a value's or a fragment's view is the bytes of its pointer, at its offset; a nested view opens; a refusal's view is empty.
+use Rattle.std.specs.Prelude.{Result, Ok, Err}
+use Rattle.layout.specs.declared.pointer.Pointer.{Pointer}
 use Prim.Native.Nat.{ℕ, ◌-◌, ◌≤◌}
 use mathlib.Core.Path.{◌≡◌, refl, sym, ap, subst, ◌∙◌}
 use mathlib.Core.List.{List, []}
@@ -11,16 +13,13 @@ use Rattle.read_find.specs.Find.{Manner, manner_of}
 use Rattle.words.proofs.ChoiceLaws.{pick_with}
 use Rattle.layout.specs.declared.refusal.Refusal.{Refusal}
 use Rattle.layout.specs.declared.refusal.Refusal.TheVariants.{TableTooShort}
-use Rattle.layout.specs.declared.table.Opened.{Opened}
 use Rattle.layout.specs.declared.table.Table.{Table}
 use Rattle.layout.specs.declared.item.Item.{Item}
 use Rattle.layout.specs.Table.{open_table, table_in}
 use Rattle.layout.specs.Pointer.{open_pointer}
-use Rattle.read.specs.declared.lookup.Looked.{Looked}
-use Rattle.read.specs.declared.lookup.Sought.{Sought}
 use Rattle.read_listing.specs.declared.listing.Valued.{Valued}
 use Rattle.read_listing.specs.declared.listing.Cursor.{Cursor}
-use Rattle.read_listing.specs.declared.children.Childed.{Childed}
+use Rattle.read.proofs.SoughtLaws.{same_pointer}
 use Rattle.read.specs.Lookup.{lookup_item, lookup_table, at_item, nested_of, at_nested}
 use Rattle.read_listing.proofs.Plain.{value_in_file, listed_value_in_file, child_in_file}
 use Rattle.view.specs.declared.table.TableView.{TableView}
@@ -56,16 +55,16 @@ seen : (file r : Bor (List ℕ)) (start end from to : ℕ) → start ≡ from �
 seen file r start end from to s e within viewed = stretch_out file r from to within.0 within.1 (stretch_same file r from to start end s e viewed)
 
 -- as a table it opens with 4
-pub empty_refused : (file : Bor (List ℕ)) (table : TableView) → Empty file table → open_table table.file.now table.start table.end ≡ Opened.Refused TableTooShort
+pub empty_refused : (file : Bor (List ℕ)) (table : TableView) → Empty file table → open_table table.file.now table.start table.end ≡ Err TableTooShort
 unfolding open_table open_pointer table_in pick
 empty_refused file table empty = rw (empty.seen.holds, empty.starts, empty.ends)
 
 module _ (t : TableView) (key : List ℕ) (r : ValueView) (said : ValueOf t key r) where
-  pub value_seen : {from to : ℕ} → r.answer ≡ Looked.Pointer from to → Viewed t.file r.bytes from (take (to - from) (drop from t.file.now))
+  pub value_seen : {from to : ℕ} → r.answer ≡ Ok (record { start = from; end = to }) → Viewed t.file r.bytes from (take (to - from) (drop from t.file.now))
   value_seen {from} {to} e =
       seen _ _ _ _ from to (ap pointer_start e) (ap pointer_end e) (value_in_file (manner_of t.manner) t.file.now t.start t.end key (sym said.answered ∙ e)) said.viewed
 
-  pub value-refused : {why : Refusal} → r.answer ≡ Looked.Refused why → Viewed t.file r.bytes 0 []
+  pub value-refused : {why : Refusal} → r.answer ≡ Err why → Viewed t.file r.bytes 0 []
   value-refused e = none _ _ _ _ (ap pointer_start e) (ap pointer_end e) said.viewed
 
 module _ (t : TableView) (at : ℕ) (r : ListedView) (said : ListedOf t at r) where
@@ -81,16 +80,16 @@ module _ (t : TableView) (at : ℕ) (r : ListedView) (said : ListedOf t at r) wh
   listed-refused e = none _ _ _ _ (ap listed_start e) (ap listed_end e) said.viewed
 
 module _ (t : TableView) (key : List ℕ) (at : ℕ) (r : ChildView) (said : ChildOf t key at r) where
-  pub child_seen : {index kind from to : ℕ} {next : Cursor} → r.answer ≡ Childed.Child index kind from to next
+  pub child_seen : {index kind from to : ℕ} {next : Cursor} → r.answer ≡ Ok (record { index = index; kind = kind; start = from; end = to; next = next })
       → Viewed t.file r.fragment from (take (to - from) (drop from t.file.now))
   child_seen {from = from} {to = to} e =
       seen _ _ _ _ from to (ap child_start e) (ap child_end e) (child_in_file _ t.file.now t.start t.end key at (sym said.answered ∙ e)) said.viewed
 
-  pub child_refused : {why : Refusal} → r.answer ≡ Childed.Refused why → Viewed t.file r.fragment 0 []
+  pub child_refused : {why : Refusal} → r.answer ≡ Err why → Viewed t.file r.fragment 0 []
   child_refused e = none _ _ _ _ (ap child_start e) (ap child_end e) said.viewed
 
 module _ (file : Bor (List ℕ)) (start end : ℕ) (manner : code.Manner) (r : OpenedView) (said : OpenedOf file start end manner r) where
-  pub opened_whole : {table : Table} → r.answer ≡ Opened.Table table → Whole file r.table start end manner
+  pub opened_whole : {table : Table} → r.answer ≡ Ok table → Whole file r.table start end manner
   opened_whole e = record {
     seen = viewed_same _ _ _ _ _ _ refl (ap (λ o. opened_file o file.now) e) said.viewed;
     starts = said.starts ∙ ap (λ o. opened_pointer o start) e;
@@ -98,7 +97,7 @@ module _ (file : Bor (List ℕ)) (start end : ℕ) (manner : code.Manner) (r : O
     manners = said.manners;
   }
 
-  pub opened_empty : {why : Refusal} → r.answer ≡ Opened.Refused why → Empty file r.table
+  pub opened_empty : {why : Refusal} → r.answer ≡ Err why → Empty file r.table
   opened_empty e = record {
     seen = viewed_same _ _ _ _ _ _ refl (ap (λ o. opened_file o file.now) e) said.viewed;
     starts = said.starts ∙ ap (λ o. opened_pointer o start) e;
@@ -106,30 +105,31 @@ module _ (file : Bor (List ℕ)) (start end : ℕ) (manner : code.Manner) (r : O
   }
 
 -- a nested table that is looked up opens
-nested_open : (file : List ℕ) (item : Item) {from to : ℕ} → nested_of file item ≡ Looked.Pointer from to → (table : Table) × (open_table file from to ≡ Opened.Table table)
+nested_open : (file : List ℕ) (item : Item) {from to : ℕ} → nested_of file item ≡ Ok (record { start = from; end = to }) → (table : Table) × (open_table file from to ≡ Ok table)
 unfolding nested_of at_nested
 nested_open file item {from} {to} =
-    let P : Looked → Type 0 = λ l. l ≡ Looked.Pointer from to → (table : Table) × (open_table file from to ≡ Opened.Table table) in
+    let P : Result Pointer Refusal → Type 0 = λ l. l ≡ Ok (record { start = from; end = to }) → (table : Table) × (open_table file from to ≡ Ok table) in
     pick_with P _ _ _ (λ _. by_opened (open_table file item.from item.to) refl) (λ _ e. let z : ◌≡◌ {A = ℕ} 0 1 = cc in absurd (omega arith))
   where
-    by_opened : (o : Opened) → open_table file item.from item.to ≡ o → at_nested o item ≡ Looked.Pointer from to → (table : Table) × (open_table file from to ≡ Opened.Table table)
-    by_opened (Opened.Table table) opens e =
-        let f : item.from ≡ from = cc in
-        let g : item.to ≡ to = cc in
-        (table, subst (λ (n : ℕ). open_table file n to ≡ Opened.Table table) f (subst (λ (n : ℕ). open_table file item.from n ≡ Opened.Table table) g opens))
-    by_opened (Opened.Refused why) opens e = let z : ◌≡◌ {A = ℕ} 0 1 = cc in absurd (omega arith)
+    by_opened : (o : Result Table Refusal) → open_table file item.from item.to ≡ o → at_nested o item ≡ Ok (record { start = from; end = to }) → (table : Table) × (open_table file from to ≡ Ok table)
+    by_opened (Ok table) opens e =
+        let same = same_pointer e in
+        let f : item.from ≡ from = same.0 in
+        let g : item.to ≡ to = same.1 in
+        (table, subst (λ (n : ℕ). open_table file n to ≡ Ok table) f (subst (λ (n : ℕ). open_table file item.from n ≡ Ok table) g opens))
+    by_opened (Err why) opens e = let z : ◌≡◌ {A = ℕ} 0 1 = cc in absurd (omega arith)
 
-pub table_opens : (manner : Manner) (file : List ℕ) (start end : ℕ) (key : List ℕ) {from to : ℕ} → lookup_table manner file start end key ≡ Looked.Pointer from to
-    → (table : Table) × (open_table file from to ≡ Opened.Table table)
+pub table_opens : (manner : Manner) (file : List ℕ) (start end : ℕ) (key : List ℕ) {from to : ℕ} → lookup_table manner file start end key ≡ Ok (record { start = from; end = to })
+    → (table : Table) × (open_table file from to ≡ Ok table)
 unfolding lookup_table at_item
 table_opens manner file start end key {from} {to} = by_item (lookup_item manner file start end key)
   where
-    by_item : (s : Sought) → at_item s (λ item. nested_of file item) ≡ Looked.Pointer from to → (table : Table) × (open_table file from to ≡ Opened.Table table)
-    by_item (Sought.Item item) e = nested_open file item e
-    by_item (Sought.Refused why) e = let z : ◌≡◌ {A = ℕ} 0 1 = cc in absurd (omega arith)
+    by_item : (s : Result Item Refusal) → at_item s (λ item. nested_of file item) ≡ Ok (record { start = from; end = to }) → (table : Table) × (open_table file from to ≡ Ok table)
+    by_item (Ok item) e = nested_open file item e
+    by_item (Err why) e = let z : ◌≡◌ {A = ℕ} 0 1 = cc in absurd (omega arith)
 
 module _ (t : TableView) (key : List ℕ) (r : NestedView) (said : NestedOf t key r) where
-  pub nested_whole : {from to : ℕ} → r.answer ≡ Looked.Pointer from to → Whole t.file r.table from to t.manner
+  pub nested_whole : {from to : ℕ} → r.answer ≡ Ok (record { start = from; end = to }) → Whole t.file r.table from to t.manner
   nested_whole e = record {
     seen = viewed_same _ _ _ _ _ _ refl (ap (λ l. nested_file l t.file.now) e) said.viewed;
     starts = said.starts ∙ ap pointer_start e;
@@ -138,13 +138,13 @@ module _ (t : TableView) (key : List ℕ) (r : NestedView) (said : NestedOf t ke
   }
 
   -- and the table at the view opens
-  pub nested_opens : {from to : ℕ} → r.answer ≡ Looked.Pointer from to → (table : Table) × (open_table r.table.file.now r.table.start r.table.end ≡ Opened.Table table)
+  pub nested_opens : {from to : ℕ} → r.answer ≡ Ok (record { start = from; end = to }) → (table : Table) × (open_table r.table.file.now r.table.start r.table.end ≡ Ok table)
   nested_opens {from} {to} e =
       let whole = nested_whole e in
       let opens = table_opens (manner_of t.manner) t.file.now t.start t.end key (sym said.answered ∙ e) in
       (opens.0, rw (whole.seen.holds, whole.starts, whole.ends) opens.1)
 
-  pub nested_empty : {why : Refusal} → r.answer ≡ Looked.Refused why → Empty t.file r.table
+  pub nested_empty : {why : Refusal} → r.answer ≡ Err why → Empty t.file r.table
   nested_empty e = record {
     seen = viewed_same _ _ _ _ _ _ refl (ap (λ l. nested_file l t.file.now) e) said.viewed;
     starts = said.starts ∙ ap pointer_start e;

@@ -1,5 +1,11 @@
 -- Each promise leaves one answer and one part of the file: two results that meet it have equal answers, equal pointers, and slices at the same offset with the same
 -- bytes.
+use Rattle.std.specs.Prelude.{Result}
+use Rattle.layout.specs.declared.table.Table.{Table}
+use Rattle.layout.specs.declared.refusal.Refusal.{Refusal}
+use Rattle.layout.specs.declared.pointer.Pointer.{Pointer}
+use Rattle.read_listing.specs.declared.listing.WrittenKey.{WrittenKey}
+use Rattle.read_listing.specs.declared.children.Child.{Child}
 use Prim.Native.Nat.{ℕ}
 use mathlib.Core.Path.{◌≡◌, sym, ap, subst, ◌∙◌}
 use mathlib.Core.List.{List}
@@ -8,13 +14,9 @@ use Rattle.read_find.specs.declared.manner.Manner.{Manner}
 use Rattle.read_find.specs.Find.{manner_of}
 use Rattle.check_rules.specs.declared.checked.Checked.{Checked}
 use Rattle.check_rules.specs.Rules.{check_table}
-use Rattle.layout.specs.declared.table.Opened.{Opened}
-use Rattle.read.specs.declared.lookup.Looked.{Looked}
 use Rattle.read.specs.declared.layered.Layered.{Layered}
 use Rattle.read.specs.Layered.{marked}
-use Rattle.read_listing.specs.declared.listing.Listed.{Listed}
 use Rattle.read_listing.specs.declared.listing.Valued.{Valued}
-use Rattle.read_listing.specs.declared.children.Childed.{Childed}
 use Rattle.view.specs.declared.table.TableView.{TableView}
 use Rattle.view.specs.declared.table.OpenedView.{OpenedView}
 use Rattle.view.specs.declared.table.ValueView.{ValueView}
@@ -51,7 +53,7 @@ open_view_unique file start end manner r s p q =
     let same : r.answer ≡ s.answer = p.answered ∙ sym q.answered in (
       same,
       record {
-        file = viewed_unique file _ _ _ _ (subst (λ (o : Opened). OpenedIn file o r.table.file) same p.viewed) q.viewed;
+        file = viewed_unique file _ _ _ _ (subst (λ (o : Result Table Refusal). OpenedIn file o r.table.file) same p.viewed) q.viewed;
         start = p.starts ∙ ap (λ o. opened_pointer o start) same ∙ sym q.starts;
         end = p.ends ∙ ap (λ o. opened_pointer o end) same ∙ sym q.ends;
         manner = p.manners ∙ sym q.manners;
@@ -62,7 +64,7 @@ module _ (t : TableView) where
   pub value_unique : (key : List ℕ) (r s : ValueView) → ValueOf t key r → ValueOf t key s → (r.answer ≡ s.answer) × Same r.bytes s.bytes
   value_unique key r s p q =
       let same : r.answer ≡ s.answer = p.answered ∙ sym q.answered in
-      (same, viewed_unique t.file _ _ _ _ (subst (λ (l : Looked). ValueIn t.file l r.bytes) same p.viewed) q.viewed)
+      (same, viewed_unique t.file _ _ _ _ (subst (λ (l : Result Pointer Refusal). ValueIn t.file l r.bytes) same p.viewed) q.viewed)
 
   pub layered_unique : (district : TableView) (key : List ℕ) (r s : LayeredView) → LayeredOf t district key r → LayeredOf t district key s
       → (r.answer ≡ s.answer) × (r.from ≡ s.from) × Same r.bytes s.bytes
@@ -78,7 +80,7 @@ module _ (t : TableView) where
       let same : r.answer ≡ s.answer = p.answered ∙ sym q.answered in (
         same,
         record {
-          file = viewed_unique t.file _ _ _ _ (subst (λ (l : Looked). NestedIn t.file l r.table.file) same p.viewed) q.viewed;
+          file = viewed_unique t.file _ _ _ _ (subst (λ (l : Result Pointer Refusal). NestedIn t.file l r.table.file) same p.viewed) q.viewed;
           start = p.starts ∙ ap pointer_start same ∙ sym q.starts;
           end = p.ends ∙ ap pointer_end same ∙ sym q.ends;
           manner = p.manners ∙ sym q.manners;
@@ -93,9 +95,9 @@ module _ (t : TableView) where
   pub next_child_unique : (key : List ℕ) (at : ℕ) (r s : ChildView) → ChildOf t key at r → ChildOf t key at s → (r.answer ≡ s.answer) × Same r.fragment s.fragment
   next_child_unique key at r s p q =
       let same : r.answer ≡ s.answer = p.answered ∙ sym q.answered in
-      (same, viewed_unique t.file _ _ _ _ (subst (λ (c : Childed). ChildIn t.file c r.fragment) same p.viewed) q.viewed)
+      (same, viewed_unique t.file _ _ _ _ (subst (λ (c : Result Child Refusal). ChildIn t.file c r.fragment) same p.viewed) q.viewed)
 
-  pub next_key_unique : (at : ℕ) (buffer : List ℕ) (r s : Listed) (left right : List ℕ) → KeyOf t at buffer r left → KeyOf t at buffer s right → (r ≡ s) × (left ≡ right)
+  pub next_key_unique : (at : ℕ) (buffer : List ℕ) (r s : Result WrittenKey Refusal) (left right : List ℕ) → KeyOf t at buffer r left → KeyOf t at buffer s right → (r ≡ s) × (left ≡ right)
   next_key_unique at buffer r s left right p q = (p.answered ∙ sym q.answered, p.wrote ∙ sym q.wrote)
 
   pub check_unique : (r s : Checked) → r ≡ check_table (manner_of t.manner) t.file.now t.start t.end → s ≡ check_table (manner_of t.manner) t.file.now t.start t.end → r ≡ s

@@ -1,5 +1,7 @@
 -- What each view says: the answer is the definition's, and what stands beside it is that part of the lent file.
-use Rattle.std.specs.Prelude.{ℕ, ◌≡◌, List, length}
+use Rattle.std.specs.Prelude.{ℕ, ◌≡◌, List, length, Result}
+use Rattle.layout.specs.declared.refusal.Refusal.{Refusal}
+use Rattle.read_listing.specs.declared.listing.WrittenKey.{WrittenKey}
 use Rattle.std.specs.Borrow.{Bor}
 use Rattle.read_find.specs.declared.manner.Manner.{Manner}
 use Rattle.read_find.specs.Find.{manner_of}
@@ -8,7 +10,6 @@ use Rattle.read.specs.Lookup.{lookup_value, lookup_table}
 use Rattle.read.specs.Layered.{marked, layered_value}
 use Rattle.read_listing.specs.Listing.{value_at, key_at, listed, written}
 use Rattle.read_listing.specs.Children.{next_child}
-use Rattle.read_listing.specs.declared.listing.Listed.{Listed}
 use Rattle.view.specs.declared.table.TableView.{TableView}
 use Rattle.view.specs.declared.table.OpenedView.{OpenedView}
 use Rattle.view.specs.declared.table.ValueView.{ValueView}
@@ -55,6 +56,6 @@ pub record ChildOf (t : TableView) (key : List ℕ) (at : ℕ) (r : ChildView) :
   pub viewed : ChildIn t.file r.answer r.fragment
 
 -- a key listing of the table t at a position, into a lent buffer; `left` is what the buffer then holds
-pub record KeyOf (t : TableView) (at : ℕ) (buffer : List ℕ) (r : Listed) (left : List ℕ) : Type 0 where
+pub record KeyOf (t : TableView) (at : ℕ) (buffer : List ℕ) (r : Result WrittenKey Refusal) (left : List ℕ) : Type 0 where
   pub answered : r ≡ listed (key_at t.file.now t.start t.end at) (length buffer) at
   pub wrote : left ≡ written (key_at t.file.now t.start t.end at) buffer

@@ -6,12 +6,17 @@ ghost use Rattle.check_rules.specs.Rules.{check_table};
 ghost use Rattle.view.specs.Views.{OpenedOf, ValueOf, LayeredOf, NestedOf, ListedOf, ChildOf, KeyOf};
 
 use check_rules::checked::Checked;
-use layout::table::Opened;
+use layout::pointer::Pointer;
+use layout::refusal::Refusal;
+use layout::table::Table;
 use read::layered::Source;
-use read::lookup::Looked;
 use read_find::manner::Manner;
-use read_listing::children::Childed;
-use read_listing::listing::{Cursor, Listed, Valued};
+use read_listing::children::Child;
+use read_listing::listing::{Cursor, Valued, WrittenKey};
+use view_part::part::{
+    child_part, layered_from, layered_looked, layered_part, listed_part, nested_part, opened_part,
+    opened_pointer, pointer_end, pointer_start, value_part,
+};
 
 // gvdb-rs: HashTable.
 // A table of a lent file: the file, the pointer to the table, and the manner in which it is read.
@@ -26,21 +31,21 @@ pub struct TableView<'a> {
 // What opening answers, and the table.
 #[derive(Clone, Copy)]
 pub struct OpenedView<'a> {
-    pub answer: Opened,
+    pub answer: Result<Table, Refusal>,
     pub table: TableView<'a>,
 }
 
 // What a lookup answers, and the value's bytes.
 #[derive(Clone, Copy)]
 pub struct ValueView<'a> {
-    pub answer: Looked,
+    pub answer: Result<Pointer, Refusal>,
     pub bytes: &'a [u8],
 }
 
 // What a lookup over two tables answers, which of them did, and the value's bytes, of its file.
 #[derive(Clone, Copy)]
 pub struct LayeredView<'a> {
-    pub answer: Looked,
+    pub answer: Result<Pointer, Refusal>,
     pub from: Source,
     pub bytes: &'a [u8],
 }
@@ -48,7 +53,7 @@ pub struct LayeredView<'a> {
 // What a lookup answers, and the nested table.
 #[derive(Clone, Copy)]
 pub struct NestedView<'a> {
-    pub answer: Looked,
+    pub answer: Result<Pointer, Refusal>,
     pub table: TableView<'a>,
 }
 
@@ -62,25 +67,22 @@ pub struct ListedView<'a> {
 // What a listing of children answers (the child, the next position), and the child's fragment.
 #[derive(Clone, Copy)]
 pub struct ChildView<'a> {
-    pub answer: Childed,
+    pub answer: Result<Child, Refusal>,
     pub fragment: &'a [u8],
 }
 
 // gvdb-rs: File::read_hash_table, HashTable::for_bytes.
 // The table of a file at a pointer, to be read in a manner.
-pub fn open_view<'a>(file: &'a [u8], start: u32, end: u32, manner: Manner) -> OpenedView<'a>
+pub fn open_view(file: &[u8], start: u32, end: u32, manner: Manner) -> OpenedView<'_>
     ensures { OpenedOf file.entry start end manner result }
 {
     let answer = layout::table::open_table(file, start, end);
-    let lent = view_part::part::opened_part(file, answer);
-    let from = view_part::part::opened_pointer(answer, start);
-    let to = view_part::part::opened_pointer(answer, end);
     OpenedView {
         answer,
         table: TableView {
-            file: lent,
-            start: from,
-            end: to,
+            file: opened_part(file, answer),
+            start: opened_pointer(answer, start),
+            end: opened_pointer(answer, end),
             manner,
         },
     }
@@ -93,8 +95,10 @@ impl<'a> TableView<'a> {
         ensures { ValueOf self.entry key.now result }
     {
         let answer = read::lookup::lookup_value(self.file, self.start, self.end, key, self.manner);
-        let bytes = view_part::part::value_part(self.file, answer);
-        ValueView { answer, bytes }
+        ValueView {
+            answer,
+            bytes: value_part(self.file, answer),
+        }
     }
 
     // The value of a key in this table, the owner's, or in the district's under it where this one answers 12.
@@ -112,13 +116,10 @@ impl<'a> TableView<'a> {
             self.manner,
             district.manner,
         );
-        let answer = view_part::part::layered_looked(layered);
-        let from = view_part::part::layered_from(layered);
-        let bytes = view_part::part::layered_part(self.file, district.file, layered);
         LayeredView {
-            answer,
-            from,
-            bytes,
+            answer: layered_looked(layered),
+            from: layered_from(layered),
+            bytes: layered_part(self.file, district.file, layered),
         }
     }
 
@@ -128,17 +129,13 @@ impl<'a> TableView<'a> {
         ensures { NestedOf self.entry key.now result }
     {
         let answer = read::lookup::lookup_table(self.file, self.start, self.end, key, self.manner);
-        let lent = view_part::part::nested_part(self.file, answer);
-        let from = view_part::part::pointer_start(answer);
-        let to = view_part::part::pointer_end(answer);
-        let manner = self.manner;
         NestedView {
             answer,
             table: TableView {
-                file: lent,
-                start: from,
-                end: to,
-                manner,
+                file: nested_part(self.file, answer),
+                start: pointer_start(answer),
+                end: pointer_end(answer),
+                manner: self.manner,
             },
         }
     }
@@ -148,26 +145,30 @@ impl<'a> TableView<'a> {
     pub fn next_value(self, cursor: Cursor) -> ListedView<'a>
         ensures { ListedOf self.entry cursor.at result }
     {
-        let answer = Cursor::next_value(cursor, self.file, self.start, self.end);
-        let bytes = view_part::part::listed_part(self.file, answer);
-        ListedView { answer, bytes }
+        let answer = cursor.next_value(self.file, self.start, self.end);
+        ListedView {
+            answer,
+            bytes: listed_part(self.file, answer),
+        }
     }
 
     // The child at the cursor of the container of a key.
     pub fn next_child(self, key: &[u8], cursor: Cursor) -> ChildView<'a>
         ensures { ChildOf self.entry key.now cursor.at result }
     {
-        let answer = Cursor::next_child(cursor, self.file, self.start, self.end, key, self.manner);
-        let fragment = view_part::part::child_part(self.file, answer);
-        ChildView { answer, fragment }
+        let answer = cursor.next_child(self.file, self.start, self.end, key, self.manner);
+        ChildView {
+            answer,
+            fragment: child_part(self.file, answer),
+        }
     }
 
     // gvdb-rs: Keys::next.
     // The key at the cursor, written to the front of `out`. A refusal writes nothing.
-    pub fn next_key(self, cursor: Cursor, out: &mut [u8]) -> Listed
+    pub fn next_key(self, cursor: Cursor, out: &mut [u8]) -> Result<WrittenKey, Refusal>
         ensures { KeyOf self.entry cursor.at out.old result out.new }
     {
-        Cursor::next_key(cursor, self.file, self.start, self.end, out)
+        cursor.next_key(self.file, self.start, self.end, out)
     }
 
     // The check of the table.

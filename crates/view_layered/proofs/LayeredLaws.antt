@@ -1,4 +1,8 @@
 -- Going through views of two tables is asking at the two pointers.
+use Rattle.std.specs.Prelude.{Result, Ok, Err}
+use Rattle.layout.specs.declared.table.Table.{Table}
+use Rattle.layout.specs.declared.refusal.Refusal.{Refusal}
+use Rattle.layout.specs.declared.pointer.Pointer.{Pointer}
 use Prim.Native.Nat.{ℕ}
 use mathlib.Core.Path.{◌≡◌, refl, sym, ap, subst, ◌∙◌}
 use mathlib.Core.Bool.{Bool, true, false}
@@ -7,10 +11,8 @@ use native.Mathlib.Omega.{arith}
 use lib.Dec.{eqb}
 use borrow.Author.Tests.{eqb-true, eqb-false}
 use denote.Ref.{Bor}
-use Rattle.layout.specs.declared.table.Opened.{Opened}
 use Rattle.layout.proofs.AnswerLaws.{opened_low}
 use Rattle.read_find.specs.declared.manner.Manner as code
-use Rattle.read.specs.declared.lookup.Looked.{Looked}
 use Rattle.read.specs.declared.layered.Layered.{Layered}
 use Rattle.read_find.specs.Find.{manner_of}
 use Rattle.read.specs.Lookup.{lookup_value}
@@ -27,19 +29,19 @@ use Rattle.view.proofs.ThroughLaws.{value_unopened, value_through}
 
 -- a view that was opened answers 12 exactly where the table at the pointer does
 module _ (file : Bor (List ℕ)) (start end : ℕ) (manner : code.Manner) (key : List ℕ) (o : OpenedView) (opened : OpenedOf file start end manner o) where
-  abbrev there : Looked
+  abbrev there : Result Pointer Refusal
   there = lookup_value (manner_of manner) file.now start end key
 
   same_twelve : ((looked_number (alone o.table key) ≡ 12) → looked_number there ≡ 12) × (looked_number there ≡ 12 → looked_number (alone o.table key) ≡ 12)
   unfolding looked_number
   same_twelve = by_answer o.answer refl
     where
-      by_answer : (answer : Opened) → o.answer ≡ answer → ((looked_number (alone o.table key) ≡ 12) → looked_number there ≡ 12) × (looked_number there ≡ 12 → looked_number (alone o.table key) ≡ 12)
-      by_answer (Opened.Table table) e =
+      by_answer : (answer : Result Table Refusal) → o.answer ≡ answer → ((looked_number (alone o.table key) ≡ 12) → looked_number there ≡ 12) × (looked_number there ≡ 12 → looked_number (alone o.table key) ≡ 12)
+      by_answer (Ok table) e =
           let whole = opened_whole file start end manner o opened e in
           let same : alone o.table key ≡ there = rw (whole.seen.holds, whole.starts, whole.ends, whole.manners) refl in
           (λ f. sym (ap looked_number same) ∙ f, λ f. ap looked_number same ∙ f)
-      by_answer (Opened.Refused why) e =
+      by_answer (Err why) e =
           let seen = ap looked_number (value_unopened (manner_of o.table.manner) _ _ _ key (empty_refused file o.table (opened_empty file start end manner o opened e))) in
           let not = ap looked_number (value_unopened (manner_of manner) file.now start end key (sym opened.answered ∙ e)) in
           (λ f. absurd (omega (arith, seen, f)), λ f. absurd (omega (arith, not, f, opened_low file.now start end (sym opened.answered ∙ e))))

@@ -7,14 +7,14 @@ use read_find::manner::Manner;
 use view::table::open_view;
 
 // The bytes of a key's value in the owner's table, or in the district's under it.
-pub fn layered_bytes<'a, 'k>(
+pub fn layered_bytes<'a>(
     owner: &'a [u8],
     ostart: u32,
     oend: u32,
     district: &'a [u8],
     dstart: u32,
     dend: u32,
-    key: &'k [u8],
+    key: &[u8],
     omanner: Manner,
     dmanner: Manner,
 ) -> &'a [u8]

@@ -1,14 +1,12 @@
 -- The stretch of a file in each case, and at equal starts and ends.
-use Prim.Native.Nat.{ℕ, ◌-◌, ◌<◌, ◌≤◌}
-use mathlib.Core.Path.{◌≡◌, sym, subst}
-use mathlib.Core.List.{List, []}
+use Prim.Native.Nat.{ℕ, ◌-◌, ◌≤◌}
+use mathlib.Core.Path.{◌≡◌, subst}
+use mathlib.Core.List.{List}
 use lib.ListN.{length, take, drop}
 use denote.Ref.{Bor}
-use borrow.Author.Tests.{le-ltb, lt-ltb}
+use borrow.Author.Tests.{le-ltb}
 use Rattle.words.specs.Choice.{pick}
-use Rattle.read.specs.declared.layered.Source.{Source}
-use Rattle.read.specs.declared.layered.Layered.{Layered}
-use Rattle.view_part.specs.Part.{Viewed, stretch_at, stretch_of, Stretch, ValueIn, of_source, LayeredIn}
+use Rattle.view_part.specs.Part.{Viewed, stretch_at, stretch_of, Stretch}
 
 pub viewed_same : (file r : Bor (List ℕ)) (at place : ℕ) (bytes content : List ℕ) → at ≡ place → bytes ≡ content → Viewed file r at bytes → Viewed file r place content
 viewed_same file r at place bytes content a b viewed =
@@ -17,10 +15,6 @@ viewed_same file r at place bytes content a b viewed =
 pub stretch_same : (file r : Bor (List ℕ)) (start end from to : ℕ) → from ≡ start → to ≡ end → Stretch file from to r → Stretch file start end r
 stretch_same file r start end from to s e viewed =
     subst (λ (n : ℕ). Stretch file n end r) s (subst (λ (n : ℕ). Stretch file from n r) e viewed)
-
--- the part of the file that the mark names
-pub source_part : (owner district r : Bor (List ℕ)) (layered : Layered) (from : Source) → layered.from ≡ from → ValueIn (of_source from owner district) layered.looked r → LayeredIn owner district layered r
-source_part owner district r layered from mark seen = subst (λ (s : Source). ValueIn (of_source s owner district) layered.looked r) (sym mark) seen
 
 module _ (file : List ℕ) (start end : ℕ) (ordered : start ≤ end) (inside : end ≤ length file) where
   pub stretch_at_lem : stretch_at file start end ≡ start
@@ -31,20 +25,11 @@ module _ (file : List ℕ) (start end : ℕ) (ordered : start ≤ end) (inside :
   unfolding stretch_of pick
   stretch_of_lem = simp (le-ltb _ _ ordered, le-ltb _ _ inside)
 
-module _ (file r : Bor (List ℕ)) (start end : ℕ) where
-  pub stretch_above : end < start → Viewed file r 0 [] → Stretch file start end r
+-- a stretch that lies in the file, both ways
+module _ (file r : Bor (List ℕ)) (start end : ℕ) (ordered : start ≤ end) (inside : end ≤ length file.now) where
+  pub stretch_in : Viewed file r start (take (end - start) (drop start file.now)) → Stretch file start end r
   unfolding stretch_at stretch_of pick
-  stretch_above above none = simp (lt-ltb _ _ above) none
+  stretch_in viewed = simp (le-ltb _ _ ordered, le-ltb _ _ inside) viewed
 
-  pub stretch_past : start ≤ end → length file.now < end → Viewed file r 0 [] → Stretch file start end r
-  unfolding stretch_at stretch_of pick
-  stretch_past ordered past none = simp (le-ltb _ _ ordered, lt-ltb _ _ past) none
-
-  -- a stretch that lies in the file, both ways
-  module _ (ordered : start ≤ end) (inside : end ≤ length file.now) where
-    pub stretch_in : Viewed file r start (take (end - start) (drop start file.now)) → Stretch file start end r
-    unfolding stretch_at stretch_of pick
-    stretch_in viewed = simp (le-ltb _ _ ordered, le-ltb _ _ inside) viewed
-
-    pub stretch_out : Stretch file start end r → Viewed file r start (take (end - start) (drop start file.now))
-    stretch_out viewed = viewed_same file r _ _ _ _ (stretch_at_lem file.now start end ordered inside) (stretch_of_lem file.now start end ordered inside) viewed
+  pub stretch_out : Stretch file start end r → Viewed file r start (take (end - start) (drop start file.now))
+  stretch_out viewed = viewed_same file r _ _ _ _ (stretch_at_lem file.now start end ordered inside) (stretch_of_lem file.now start end ordered inside) viewed

@@ -1,13 +1,14 @@
 -- Parts of a lent file.
-use Rattle.std.specs.Prelude.{ℕ, ◌+◌, ◌-◌, ◌≡◌, List, [], length, take, drop, ltb}
+use Rattle.std.specs.Prelude.{ℕ, ◌+◌, ◌-◌, ◌≡◌, List, [], length, take, drop, ltb, Result, Ok, Err}
+use Rattle.layout.specs.declared.table.Table.{Table}
+use Rattle.layout.specs.declared.refusal.Refusal.{Refusal}
+use Rattle.layout.specs.declared.pointer.Pointer.{Pointer}
+use Rattle.read_listing.specs.declared.children.Child.{Child}
 use Rattle.std.specs.Borrow.{Bor}
 use Rattle.words.specs.Choice.{pick}
-use Rattle.layout.specs.declared.table.Opened.{Opened}
-use Rattle.read.specs.declared.lookup.Looked.{Looked}
 use Rattle.read.specs.declared.layered.Source.{Source}
 use Rattle.read.specs.declared.layered.Layered.{Layered}
 use Rattle.read_listing.specs.declared.listing.Valued.{Valued}
-use Rattle.read_listing.specs.declared.children.Childed.{Childed}
 
 -- a lent slice is a stretch of a lent file, and no copy: it lies in the file's memory, `at` bytes from the file's start, and holds `bytes`
 pub record Viewed (file r : Bor (List ℕ)) (at : ℕ) (bytes : List ℕ) : Type 0 where
@@ -28,16 +29,16 @@ abbrev pub Stretch : Bor (List ℕ) → ℕ → ℕ → Bor (List ℕ) → Type 
 Stretch file start end r = Viewed file r (stretch_at file.now start end) (stretch_of file.now start end)
 
 -- start and end of the pointer that a lookup answers; 0 and 0 on a refusal
-abbrev pub pointer_start : Looked → ℕ
-pointer_start (Looked.Pointer start end) = start
-pointer_start (Looked.Refused why) = 0
+abbrev pub pointer_start : Result Pointer Refusal → ℕ
+pointer_start (Ok p) = p.start
+pointer_start (Err why) = 0
 
-abbrev pub pointer_end : Looked → ℕ
-pointer_end (Looked.Pointer start end) = end
-pointer_end (Looked.Refused why) = 0
+abbrev pub pointer_end : Result Pointer Refusal → ℕ
+pointer_end (Ok p) = p.end
+pointer_end (Err why) = 0
 
 -- a value that was looked up
-abbrev pub ValueIn : Bor (List ℕ) → Looked → Bor (List ℕ) → Type 0
+abbrev pub ValueIn : Bor (List ℕ) → Result Pointer Refusal → Bor (List ℕ) → Type 0
 ValueIn file looked r = Stretch file (pointer_start looked) (pointer_end looked) r
 
 -- the owner's or the district's, as the mark says
@@ -65,34 +66,34 @@ abbrev pub ListedIn : Bor (List ℕ) → Valued → Bor (List ℕ) → Type 0
 ListedIn file valued r = Stretch file (listed_start valued) (listed_end valued) r
 
 -- start and end of a listed child's fragment; 0 and 0 on a refusal
-abbrev pub child_start : Childed → ℕ
-child_start (Childed.Child index kind start end next) = start
-child_start (Childed.Refused why) = 0
+abbrev pub child_start : Result Child Refusal → ℕ
+child_start (Ok x) = x.start
+child_start (Err why) = 0
 
-abbrev pub child_end : Childed → ℕ
-child_end (Childed.Child index kind start end next) = end
-child_end (Childed.Refused why) = 0
+abbrev pub child_end : Result Child Refusal → ℕ
+child_end (Ok x) = x.end
+child_end (Err why) = 0
 
 -- the fragment of a child that was listed
-abbrev pub ChildIn : Bor (List ℕ) → Childed → Bor (List ℕ) → Type 0
+abbrev pub ChildIn : Bor (List ℕ) → Result Child Refusal → Bor (List ℕ) → Type 0
 ChildIn file childed r = Stretch file (child_start childed) (child_end childed) r
 
 -- start or end of the pointer to a table that opened; 0 on a refusal
-abbrev pub opened_pointer : Opened → ℕ → ℕ
-opened_pointer (Opened.Table table) number = number
-opened_pointer (Opened.Refused why) number = 0
+abbrev pub opened_pointer : Result Table Refusal → ℕ → ℕ
+opened_pointer (Ok table) number = number
+opened_pointer (Err why) number = 0
 
 -- the file of a table that opened, or of a nested table; none on a refusal
-abbrev pub opened_file : Opened → List ℕ → List ℕ
-opened_file (Opened.Table table) file = file
-opened_file (Opened.Refused why) file = []
+abbrev pub opened_file : Result Table Refusal → List ℕ → List ℕ
+opened_file (Ok table) file = file
+opened_file (Err why) file = []
 
-abbrev pub nested_file : Looked → List ℕ → List ℕ
-nested_file (Looked.Pointer start end) file = file
-nested_file (Looked.Refused why) file = []
+abbrev pub nested_file : Result Pointer Refusal → List ℕ → List ℕ
+nested_file (Ok p) file = file
+nested_file (Err why) file = []
 
-abbrev pub OpenedIn : Bor (List ℕ) → Opened → Bor (List ℕ) → Type 0
+abbrev pub OpenedIn : Bor (List ℕ) → Result Table Refusal → Bor (List ℕ) → Type 0
 OpenedIn file opened r = Viewed file r 0 (opened_file opened file.now)
 
-abbrev pub NestedIn : Bor (List ℕ) → Looked → Bor (List ℕ) → Type 0
+abbrev pub NestedIn : Bor (List ℕ) → Result Pointer Refusal → Bor (List ℕ) → Type 0
 NestedIn file looked r = Viewed file r 0 (nested_file looked file.now)

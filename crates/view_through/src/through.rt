@@ -8,13 +8,7 @@ use read_find::manner::Manner;
 use view::table::open_view;
 
 // The bytes of a key's value.
-pub fn value_bytes<'a, 'k>(
-    file: &'a [u8],
-    start: u32,
-    end: u32,
-    key: &'k [u8],
-    manner: Manner,
-) -> &'a [u8]
+pub fn value_bytes<'a>(file: &'a [u8], start: u32, end: u32, key: &[u8], manner: Manner) -> &'a [u8]
     ensures { ValueIn file.entry (lookup_value (manner_of manner) file.now start end key.now) result }
 {
     let opened = open_view(file, start, end, manner);
@@ -23,12 +17,12 @@ pub fn value_bytes<'a, 'k>(
 }
 
 // The bytes of a key's value in the nested table of another key.
-pub fn nested_bytes<'a, 't, 'k>(
+pub fn nested_bytes<'a>(
     file: &'a [u8],
     start: u32,
     end: u32,
-    table: &'t [u8],
-    key: &'k [u8],
+    table: &[u8],
+    key: &[u8],
     manner: Manner,
 ) -> &'a [u8]
     ensures { ValueIn file.entry (nested_value (manner_of manner) file.now start end table.now key.now) result }

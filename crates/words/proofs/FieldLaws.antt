@@ -1,15 +1,17 @@
 -- Laws about little-endian fields, each once over the width. Callers cite these and not the definitions' text.
 use mathlib.Core.Path.{◌≡◌, refl, ap, ◌∙◌}
 use mathlib.Core.List.{List, [], ◌∷◌}
-use Prim.Native.Nat.{ℕ, zero, suc, ◌+◌, ◌*◌, ◌/◌, ◌%◌, ◌^◌, ◌≤◌, ◌<◌}
+use Prim.Native.Nat.{ℕ, zero, suc, ◌+◌, ◌*◌, ◌/◌, ◌^◌, ◌≤◌, ◌<◌}
 use native.Mathlib.Nat.{one-le-pow}
 use native.Mathlib.Numerals.{add-one}
 use native.Mathlib.Omega.{arith}
 use mathlib.Core.Bool.{Bool, true, false}
 use lib.Dec.{ltb}
 use borrow.Author.Tests.{ltb-true, ltb-false}
-use lib.ListN.{length, get_or, take, drop, set, length-take, length-drop, get_or-eq_default}
+use lib.ListN.{length, get_or, take, drop, length-take, length-drop, get_or-eq_default}
 use lib.Seq.{drop-cons, get_or-take, get_or-drop}
+use Rattle.std.proofs.Common.{Fits, w8}
+use Rattle.std.specs.Int.{w16, w32, to_le_bytes}
 use Rattle.words.specs.Store.{part, put_at}
 use Rattle.words.specs.Field.{little_endian, spelled, field, half_at, word_at, long_at}
 use Rattle.words.proofs.StoreLaws.{part-put, part-before, part_after, part-part}
@@ -24,7 +26,7 @@ pub field-none : (bytes : List ℕ) (at : ℕ) → field 0 bytes at ≡ 0
 unfolding field little_endian
 field-none bytes at = refl
 
--- a field of two and one of four, byte by byte
+-- a field of two, of four and of eight, byte by byte
 pub half_bytes : (bytes : List ℕ) (at : ℕ) → at + 2 ≤ length bytes → half_at bytes at ≡ get_or bytes at 0 + 256 * get_or bytes (at + 1) 0
 half_bytes bytes at h =
     omega (
@@ -46,16 +48,20 @@ word_bytes bytes at h =
       field-none bytes (at + 4),
     )
 
--- a field of eight is two of four
-pub long_words : (bytes : List ℕ) (at : ℕ) → at + 8 ≤ length bytes → long_at bytes at ≡ word_at bytes at + 4294967296 * word_at bytes (at + 4)
-long_words bytes at h =
+pub long_bytes : (bytes : List ℕ) (at : ℕ) → at + 8 ≤ length bytes
+    → long_at bytes at ≡ get_or bytes at 0 + 256 * get_or bytes (at + 1) 0 + 65536 * get_or bytes (at + 2) 0 + 16777216 * get_or bytes (at + 3) 0 + 4294967296 * get_or bytes (at + 4) 0 + 1099511627776 * get_or bytes (at + 5) 0 + 281474976710656 * get_or bytes (at + 6) 0 + 72057594037927936 * get_or bytes (at + 7) 0
+long_bytes bytes at h =
     omega (
       arith,
       field_step 7 bytes at (at + 1) refl (omega arith),
       field_step 6 bytes (at + 1) (at + 2) (omega arith) (omega arith),
       field_step 5 bytes (at + 2) (at + 3) (omega arith) (omega arith),
       field_step 4 bytes (at + 3) (at + 4) (omega arith) (omega arith),
-      word_bytes bytes at (omega arith),
+      field_step 3 bytes (at + 4) (at + 5) (omega arith) (omega arith),
+      field_step 2 bytes (at + 5) (at + 6) (omega arith) (omega arith),
+      field_step 1 bytes (at + 6) (at + 7) (omega arith) (omega arith),
+      field_step 0 bytes (at + 7) (at + 8) (omega arith) (omega arith),
+      field-none bytes (at + 8),
     )
 
 -- the bytes of a number spell it again
@@ -69,21 +75,17 @@ unfolding little_endian spelled
 little_endian-spelled zero v h = omega arith
 little_endian-spelled (suc n) v h = omega (arith, little_endian-spelled n (v / 256) (omega arith))
 
--- what straight-line code leaves is the definition's store
-pub two_stores : (out : List ℕ) (at v : ℕ) → set (set out at (v % 256)) (at + 1) (v / 256 % 256) ≡ put_at out at (spelled 2 v)
-unfolding put_at spelled
-two_stores out at v = rw add-one
+-- what the library spells of 16 bits and of 32
+pub spelled_half : (v : ℕ) → to_le_bytes w16 v ≡ spelled 2 v
+unfolding spelled
+spelled_half v = refl
 
-pub four_stores : (out : List ℕ) (at v : ℕ)
-    → set (set (set (set out at (v % 256)) (at + 1) (v / 256 % 256)) (at + 2) (v / 65536 % 256)) (at + 3) (v / 16777216 % 256) ≡ put_at out at (spelled 4 v)
-unfolding put_at spelled
-four_stores out at v =
-    let i1 : at + 1 ≡ suc at = omega arith in
-    let i2 : at + 2 ≡ suc (suc at) = omega arith in
-    let i3 : at + 3 ≡ suc (suc (suc at)) = omega arith in
+pub spelled_word : (v : ℕ) → to_le_bytes w32 v ≡ spelled 4 v
+unfolding spelled
+spelled_word v =
     let b2 : v / 65536 ≡ v / 256 / 256 = omega arith in
     let b3 : v / 16777216 ≡ v / 256 / 256 / 256 = omega arith in
-    cc
+    rw (b2, b3) refl
 
 -- reading where a field was stored
 pub field_put : (n : ℕ) (out : List ℕ) (at v : ℕ) → at + n ≤ length out → v < 256 ^ n → field n (put_at out at (spelled n v)) at ≡ v
@@ -105,7 +107,11 @@ pub field-part : (n : ℕ) (bytes : List ℕ) (start size at : ℕ) → at + n �
 unfolding field
 field-part n bytes start size at h = ap little_endian (part-part bytes start size at n h)
 
--- a field of bytes is below 256 ^ n. What is known of every slice gives `all`: `c.shared-slice-known.given` is of this form
+-- what is known of every slice of bytes
+pub bytes_below : (l : List ℕ) → ((i : ℕ) → Fits w8 (get_or l i 0)) → (i : ℕ) → get_or l i 0 < 256
+bytes_below l fits i = omega (arith, fits i)
+
+-- a field of bytes is below 256 ^ n. What is known of every slice gives `all` (`bytes_below`)
 little_endian_below : (bytes : List ℕ) (n : ℕ) → length bytes ≤ n → ((i : ℕ) → get_or bytes i 0 < 256) → little_endian bytes < 256 ^ n
 unfolding little_endian
 little_endian_below [] n h all = one-le-pow n 256 (omega arith)

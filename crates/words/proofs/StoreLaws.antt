@@ -2,21 +2,23 @@
 -- stored asks that it fits.
 use mathlib.Core.Path.{◌≡◌, refl, sym, ap, ◌∙◌}
 use mathlib.Core.List.{List, [], ◌∷◌, ◌++◌, append_assoc}
-use Prim.Native.Nat.{ℕ, zero, suc, ◌+◌, ◌-◌, ◌≤◌, ◌<◌}
-use native.Mathlib.Nat.{add-zero, add-suc, suc-add}
-use native.Mathlib.Numerals.{add-one}
+use Prim.Native.Nat.{ℕ, zero, suc, ◌+◌, ◌-◌, ◌*◌, ◌≤◌, ◌<◌}
+use native.Mathlib.Nat.{add-zero, add-suc, suc-add, suc-mul}
 use native.Mathlib.Omega.{arith}
 use lib.ListN.{length, get_or, take, drop, set, length-set, length-drop, length-replicate, get_or-replicate, take-append-drop}
-use lib.Seq.{sets, sets-eq, set_comm, take-set-lt, take-set-le, drop-set-lt, drop-set-add, take-suc, take_at, drop_at, take_all, take-take, drop-drop, length-take-le, get_or-take, get_or-drop}
+use lib.Seq.{sets, sets-eq, set_comm, take-set-lt, take-set-le, drop-set-lt, drop-set-add, take_at, drop_at, take-take, drop-drop, length-take-le, get_or-take, get_or-drop}
+use Rattle.std.proofs.lemmas.Grind.{replicate_next}
+use borrow.Rule.Slice.PartMut.{put_mid}
+use Rattle.std.specs.Simd.{first_chunks}
 use Rattle.words.specs.Store.{part, put_at, copies, zeros}
 
 -- ---- one store
 
-pub put-none : (l : List ℕ) (at : ℕ) → put_at l at [] ≡ l
+pub put-none : {A : Type 0} (l : List A) (at : ℕ) → put_at l at [] ≡ l
 unfolding put_at
 put-none l at = refl
 
-pub put_one : (l : List ℕ) (at v : ℕ) → put_at l at (v ∷ []) ≡ set l at v
+pub put_one : {A : Type 0} (l : List A) (at : ℕ) (v : A) → put_at l at (v ∷ []) ≡ set l at v
 unfolding put_at
 put_one l at v = refl
 
@@ -26,13 +28,13 @@ unfolding put_at
 length-put l at [] = refl
 length-put l at (v ∷ vs) = length-put (set l at v) (suc at) vs ∙ length-set l at v
 
-put-sets : (l : List ℕ) (at : ℕ) (vs : List ℕ) → put_at l at vs ≡ sets l at vs
+put-sets : {A : Type 0} (l : List A) (at : ℕ) (vs : List A) → put_at l at vs ≡ sets l at vs
 unfolding put_at
 put-sets l at [] = refl
 put-sets l at (v ∷ vs) = put-sets (set l at v) (suc at) vs
 
 -- where it fits: what stood before it, what is stored, and what stood behind it
-pub put_parts : (l : List ℕ) (at : ℕ) (vs : List ℕ) → at + length vs ≤ length l → put_at l at vs ≡ take at l ++ vs ++ drop (at + length vs) l
+pub put_parts : {A : Type 0} (l : List A) (at : ℕ) (vs : List A) → at + length vs ≤ length l → put_at l at vs ≡ take at l ++ vs ++ drop (at + length vs) l
 put_parts l at vs fits = put-sets l at vs ∙ sets-eq vs l at fits
 
 -- ---- reading after a store
@@ -84,7 +86,7 @@ get_after l at vs i h =
 -- ---- several stores
 
 -- a second store directly behind a first is one store of both
-pub put-append : (l : List ℕ) (at : ℕ) (a b : List ℕ) → put_at l at (a ++ b) ≡ put_at (put_at l at a) (at + length a) b
+pub put-append : {A : Type 0} (l : List A) (at : ℕ) (a b : List A) → put_at l at (a ++ b) ≡ put_at (put_at l at a) (at + length a) b
 unfolding put_at
 put-append l at [] b = ap (λ (k : ℕ). put_at l k b) (sym (add-zero at))
 put-append l at (v ∷ a) b =
@@ -96,7 +98,7 @@ pub put_then : (l : List ℕ) (at : ℕ) (a b : List ℕ) {m n : List ℕ} {mid 
 put_then l at a b e p q = q ∙ rw (p, e, put-append)
 
 -- one element more
-pub put_snoc : (l : List ℕ) (at : ℕ) (a : List ℕ) (v : ℕ) → put_at l at (a ++ (v ∷ [])) ≡ set (put_at l at a) (at + length a) v
+pub put_snoc : {A : Type 0} (l : List A) (at : ℕ) (a : List A) (v : A) → put_at l at (a ++ (v ∷ [])) ≡ set (put_at l at a) (at + length a) v
 put_snoc l at a v = put-append l at a (v ∷ []) ∙ put_one (put_at l at a) (at + length a) v
 
 -- one element set before a store
@@ -124,23 +126,15 @@ put_front n l at (v ∷ vs) h =
     ∙ ap (λ (m : List ℕ). put_at (take n (set l at v)) (suc at) vs ++ m) (sym (drop-set-lt n l at v less))
     ∙ put_front n (set l at v) (suc at) vs (omega (arith, add-suc at (length vs), suc-add at (length vs)))
 
--- ---- the copy loop: the first j elements are stored
+-- ---- a store through a part that is lent
 
-pub copy_start : (l : List ℕ) (at : ℕ) (src : List ℕ) → l ≡ put_at l at (take 0 src)
-copy_start l at src = sym (put-none l at)
-
-pub copy_turn : (l : List ℕ) (at : ℕ) (src : List ℕ) (j : ℕ) → j < length src
-    → set (put_at l at (take j src)) (at + j) (get_or src j 0) ≡ put_at l at (take (j + 1) src)
-copy_turn l at src j h =
-    let size : length (take j src) ≡ j = length-take-le j src (omega arith) in
-    rw (add-one, take-suc src j 0 h, put_snoc, size)
-
-pub copy_end : (l : List ℕ) (at : ℕ) (src : List ℕ) (j : ℕ) → length src ≤ j → put_at l at (take j src) ≡ put_at l at src
-copy_end l at src j h = rw (take_all j src h)
+pub put_lent : {A : Type 0} (l : List A) (at k : ℕ) (vs ys : List A) → ys ≡ vs → k ≡ length vs → at + length vs ≤ length l → put_mid at k l ys ≡ put_at l at vs
+put_lent {A = A} l at k vs ys p q fits =
+    rw (p, q) (ap (λ (m : List A). take at l ++ (vs ++ m)) (drop-drop (length vs) at l) ∙ sym (append_assoc (take at l) vs (drop (at + length vs) l)) ∙ sym (put_parts l at vs fits))
 
 -- ---- copies of one element
 
-pub length-copies : (n v : ℕ) → length (copies n v) ≡ n
+pub length-copies : {A : Type 0} (n : ℕ) (v : A) → length (copies n v) ≡ n
 unfolding copies
 length-copies n v = length-replicate n v
 
@@ -148,13 +142,19 @@ pub get_copies : (n v i : ℕ) → i < n → get_or (copies n v) i 0 ≡ v
 unfolding copies
 get_copies n v i h = get_or-replicate n i v 0 h
 
--- one more
-pub fill_turn : (l : List ℕ) (at n v i : ℕ) → i < n → set (put_at l at (take i (copies n v))) (at + i) v ≡ put_at l at (take (i + 1) (copies n v))
-fill_turn l at n v i h =
-    ap (set (put_at l at (take i (copies n v))) (at + i)) (sym (get_copies n v i h)) ∙ copy_turn l at (copies n v) i (omega (arith, length-copies n v))
+-- the loop that fills: none, and one more
+pub fill_start : {A : Type 0} (l : List A) (at : ℕ) (v : A) → l ≡ put_at l at (copies (at - at) v)
+unfolding copies
+fill_start {A = A} l at v =
+    let none : at - at ≡ 0 = omega arith in
+    sym (ap (λ (k : ℕ). put_at l at (copies k v)) none ∙ put-none l at)
 
-pub fill_end : (l : List ℕ) (at n v i : ℕ) → n ≤ i → put_at l at (take i (copies n v)) ≡ put_at l at (copies n v)
-fill_end l at n v i h = copy_end l at (copies n v) i (omega (arith, length-copies n v))
+pub fill_turn : {A : Type 0} (l : List A) (at i : ℕ) (v : A) → at ≤ i → set (put_at l at (copies (i - at) v)) i v ≡ put_at l at (copies (i + 1 - at) v)
+unfolding copies
+fill_turn l at i v h =
+    let more : i + 1 - at ≡ i - at + 1 = omega arith in
+    let there : at + (i - at) ≡ i = omega arith in
+    rw (more, replicate_next (i - at) v, put_snoc, length-replicate (i - at) v, there)
 
 pub length-zeros : (n : ℕ) → length (zeros n) ≡ n
 length-zeros n = length-copies n 0
@@ -173,3 +173,11 @@ part-part l start size at n h = within (drop start l) size at n h ∙ ap (take n
 
 pub length_part : (l : List ℕ) (at n : ℕ) → at + n ≤ length l → length (part l at n) ≡ n
 length_part l at n h = length-take-le n (drop at l) (simp length-drop (omega arith))
+
+-- an element of a chunk
+pub chunk_get : (n k : ℕ) (l : List ℕ) (i j : ℕ) → i < k → j < n → get_or (get_or (first_chunks n k l) i []) j 0 ≡ get_or l (i * n + j) 0
+chunk_get n zero l i j h less = absurd (omega arith)
+chunk_get n (suc k) l zero j h less = get_or-take n l j 0 less ∙ ap (λ (m : ℕ). get_or l m 0) (omega arith)
+chunk_get n (suc k) l (suc i) j h less =
+    let further : n + (i * n + j) ≡ suc i * n + j = omega (arith, suc-mul i n) in
+    chunk_get n k (drop n l) i j (omega arith) less ∙ get_or-drop n l (i * n + j) 0 ∙ ap (λ (m : ℕ). get_or l m 0) further

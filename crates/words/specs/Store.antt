@@ -6,12 +6,12 @@ abbrev pub part : List ℕ → ℕ → ℕ → List ℕ
 part l at n = take n (drop at l)
 
 -- the list with `vs` stored from `at` on; what would fall past its end is left out
-unfoldable pub put_at : List ℕ → ℕ → List ℕ → List ℕ
+unfoldable pub put_at : {A : Type 0} → List A → ℕ → List A → List A
 put_at l at [] = l
 put_at l at (v ∷ vs) = put_at (set l at v) (suc at) vs
 
 -- n times v
-unfoldable pub copies : ℕ → ℕ → List ℕ
+unfoldable pub copies : {A : Type 0} → ℕ → A → List A
 copies n v = replicate n v
 
 abbrev pub zeros : ℕ → List ℕ

@@ -1,27 +1,27 @@
 // The header of a file whose root table stands from 24 to 60, laid in both byte orders and read back, and each refusal.
-use file_header::header::{ByteOrder, Headed, HeaderLaid};
+use file_header::header::{ByteOrder, Header, lay_header, read_header};
 use layout::refusal::number_of;
 use std::io;
 
 fn read(rt: &impl Print, file: &[u8]) -> io::Result<()> {
-    match file_header::header::read_header(file) {
-        Headed::Root { order, start, end } => {
+    match read_header(file) {
+        Ok(Header { order, start, end }) => {
             match order {
                 ByteOrder::Little => print!(rt; "little, root")?,
                 ByteOrder::Big => print!(rt; "big, root")?,
             }
             say::place(rt, start, end)?;
         }
-        Headed::Refused(why) => say::number(rt, number_of(why) as u64)?,
+        Err(why) => print!(rt; "{}", number_of(why))?,
     }
-    say::end(rt)
+    println!(rt;)
 }
 
 fn lay(rt: &impl Print, target: &mut [u8], order: ByteOrder) -> io::Result<()> {
     print!(rt; "header ")?;
-    match file_header::header::lay_header(target, order, 24, 60) {
-        HeaderLaid::Laid => print!(rt; "laid "),
-        HeaderLaid::Refused(why) => say::number(rt, number_of(why) as u64),
+    match lay_header(target, order, 24, 60) {
+        Ok(()) => print!(rt; "laid "),
+        Err(why) => print!(rt; "{}", number_of(why)),
     }
 }
 
@@ -40,7 +40,7 @@ pub fn headers(rt: &impl Print) -> io::Result<()> {
     lay(rt, &mut short, ByteOrder::Little)?;
     print!(rt; " ")?;
     say::bytes(rt, &short)?;
-    say::end(rt)?;
+    println!(rt;)?;
     print!(rt; "23 bytes ")?;
     read(rt, b"GVariant\0\0\0\0\0\0\0\0\x18\0\0\0\x3c\0\0")?;
     print!(rt; "halves of two orders ")?;

@@ -1,13 +1,10 @@
 // A file of data/ over another: which of the two tables answers a key, what it answers, and the value's bytes as a view shows them.
-use crate::data_file;
-use crate::data_file::MOST;
-use key_hash::hash::Form;
+use crate::root::{BASE, HEADER, MOST, Root};
 use read::layered::{Source, lookup_layered};
-use read_find::manner::{Lookup, Manner};
 use std::io;
 use std::rt::Files;
 use view_layered::layered::layered_bytes;
-use words::field::word_at;
+use view_part::part::stretch;
 
 fn source(rt: &impl Print, from: Source) -> io::Result<()> {
     match from {
@@ -17,87 +14,55 @@ fn source(rt: &impl Print, from: Source) -> io::Result<()> {
 }
 
 // A key looked up in the owner's table, and in the district's under it.
-fn lookup<'a, 'k>(
-    rt: &impl Print,
-    owner: &'a [u8],
-    ostart: u32,
-    oend: u32,
-    district: &'a [u8],
-    dstart: u32,
-    dend: u32,
-    key: &'k [u8],
-) -> io::Result<()> {
-    let base = Manner {
-        form: Form::Plain,
-        lookup: Lookup::Rust,
-    };
-    let layered = lookup_layered(owner, ostart, oend, district, dstart, dend, key, base, base);
-    let from = layered.from;
-    let looked = layered.looked;
+fn lookup(rt: &impl Print, owner: Root<'_>, district: Root<'_>, key: &[u8]) -> io::Result<()> {
+    let Root {
+        file: own,
+        start: ostart,
+        end: oend,
+    } = owner;
+    let Root {
+        file: under,
+        start: dstart,
+        end: dend,
+    } = district;
+    let layered = lookup_layered(own, ostart, oend, under, dstart, dend, key, BASE, BASE);
+    let seen = layered_bytes(own, ostart, oend, under, dstart, dend, key, BASE, BASE);
     print!(rt; "  lookup of ")?;
     say::bytes(rt, key)?;
     print!(rt; "in ")?;
-    source(rt, from)?;
-    crate::tour::looked(rt, looked)?;
+    source(rt, layered.from)?;
+    crate::tour::looked(rt, layered.looked)?;
     print!(rt; "; view ")?;
-    say::bytes(
-        rt,
-        layered_bytes(owner, ostart, oend, district, dstart, dend, key, base, base),
-    )?;
-    say::end(rt)
+    say::bytes(rt, seen)?;
+    println!(rt;)
 }
 
-fn lookups<'a>(
-    rt: &impl Print,
-    owner: &'a [u8],
-    ostart: u32,
-    oend: u32,
-    district: &'a [u8],
-    dstart: u32,
-    dend: u32,
-) -> io::Result<()> {
-    lookup(rt, owner, ostart, oend, district, dstart, dend, b"a")?;
-    lookup(rt, owner, ostart, oend, district, dstart, dend, b"a/")?;
-    lookup(rt, owner, ostart, oend, district, dstart, dend, b"a/b")?;
-    lookup(rt, owner, ostart, oend, district, dstart, dend, b"b")?;
-    lookup(rt, owner, ostart, oend, district, dstart, dend, b"\xc3")
-}
-
-fn title(rt: &impl Print, name: &str, over: &str, other: &str) -> io::Result<()> {
-    println!(rt; "{name}{over}{other}")
+fn lookups(rt: &impl Print, owner: Root<'_>, district: Root<'_>) -> io::Result<()> {
+    let keys: [&[u8]; 5] = [b"a", b"a/", b"a/b", b"b", b"\xc3"];
+    for key in keys {
+        lookup(rt, owner, district, key)?;
+    }
+    Ok(())
 }
 
 // A file over another, and over no more than the other's header, whose pointer then leads outside.
-fn over<'a, 'n, 'o>(
-    rt: &impl Print,
-    name: &'n str,
-    owner: &'a [u8],
-    other: &'o str,
-    district: &'a [u8],
-) -> io::Result<()> {
-    if owner.len() < 24 {
+fn over(rt: &impl Print, name: &str, owner: &[u8], other: &str, district: &[u8]) -> io::Result<()> {
+    let (Some(own), Some(under)) = (Root::of(owner), Root::of(district)) else {
         return Ok(());
-    }
-    if district.len() < 24 {
-        return Ok(());
-    }
-    let ostart = word_at(owner, 16);
-    let oend = word_at(owner, 20);
-    let dstart = word_at(district, 16);
-    let dend = word_at(district, 20);
-    title(rt, name, " over ", other)?;
-    lookups(rt, owner, ostart, oend, district, dstart, dend)?;
-    title(rt, name, " over the header of ", other)?;
-    let header = view_part::part::stretch(district, 0, 24);
-    lookups(rt, owner, ostart, oend, header, dstart, dend)
+    };
+    println!(rt; "{name} over {other}")?;
+    lookups(rt, own, under)?;
+    println!(rt; "{name} over the header of {other}")?;
+    let file = stretch(district, 0, HEADER);
+    lookups(rt, own, Root { file, ..under })
 }
 
 // Two files of data/.
 fn pair(rt: &(impl Files + Print), name: &str, other: &str) -> io::Result<()> {
     let mut above = [0u8; MOST];
     let mut below = [0u8; MOST];
-    let size = data_file::read(rt, name, &mut above)?;
-    let rest = data_file::read(rt, other, &mut below)?;
+    let size = say::file::read(rt, name, &mut above)?;
+    let rest = say::file::read(rt, other, &mut below)?;
     over(rt, name, &above[..size], other, &below[..rest])
 }
 

@@ -4,10 +4,10 @@
 
 use std::io;
 
-mod data_file;
 mod header;
 mod layered;
 mod open;
+mod root;
 mod seen;
 mod small;
 mod tour;

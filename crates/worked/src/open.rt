@@ -1,8 +1,9 @@
 // Opening a pointer and a table, each refusal from both sides.
-use layout::pointer::Pointed;
-use layout::table::Opened;
+use layout::pointer::open_pointer;
+use layout::refusal::number_of;
+use layout::table::open_table;
 use std::io;
-use words::align::Alignment;
+use words::align::{Alignment, bytes_of};
 
 fn pointer(
     rt: &impl Print,
@@ -11,13 +12,13 @@ fn pointer(
     end: usize,
     alignment: Alignment,
 ) -> io::Result<()> {
-    let to = words::align::bytes_of(alignment);
+    let to = bytes_of(alignment);
     print!(rt; "pointer {start} to {end} at {to} in {size}: ")?;
-    match layout::pointer::open_pointer(size, start, end, alignment) {
-        Pointed::Inside => print!(rt; "inside")?,
-        Pointed::Refused(why) => say::number(rt, layout::refusal::number_of(why) as u64)?,
+    match open_pointer(size, start, end, alignment) {
+        Ok(()) => print!(rt; "inside")?,
+        Err(why) => print!(rt; "{}", number_of(why))?,
     }
-    say::end(rt)
+    println!(rt;)
 }
 
 // 2 for a start above the end, then 3, then 2 for an end past the file.
@@ -34,19 +35,21 @@ pub fn pointers(rt: &impl Print) -> io::Result<()> {
 
 // What a table opens as; its item count, 0 where it does not open.
 pub fn table(rt: &impl Print, file: &[u8], start: u32, end: u32) -> io::Result<usize> {
-    let mut items = 0;
-    let size = file.len();
-    print!(rt; "table {start} to {end} in {size}: ")?;
-    match layout::table::open_table(file, start, end) {
-        Opened::Table(table) => {
-            let blooms = table.blooms;
-            let buckets = table.buckets;
-            items = table.count;
-            print!(rt; "bloom words {blooms}, buckets {buckets}, items {items}")?;
+    print!(rt; "table {start} to {end} in {}: ", file.len())?;
+    let items = match open_table(file, start, end) {
+        Ok(table) => {
+            print!(rt;
+                "bloom words {}, buckets {}, items {}",
+                table.blooms, table.buckets, table.count
+            )?;
+            table.count
         }
-        Opened::Refused(why) => say::number(rt, layout::refusal::number_of(why) as u64)?,
-    }
-    say::end(rt)?;
+        Err(why) => {
+            print!(rt; "{}", number_of(why))?;
+            0
+        }
+    };
+    println!(rt;)?;
     Ok(items)
 }
 

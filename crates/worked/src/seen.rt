@@ -1,50 +1,30 @@
 // Values as views show them: the bytes themselves, looked up through a view of the file, and none on a refusal.
-use crate::data_file;
-use crate::data_file::MOST;
-use key_hash::hash::Form;
-use read_find::manner::{Lookup, Manner};
+use crate::root::{BASE, MOST, Root};
 use std::io;
 use std::rt::Files;
+use view_through::through::{nested_bytes, value_bytes};
 
 // The value of a key.
-fn value(rt: &impl Print, file: &[u8], start: u32, end: u32, key: &[u8]) -> io::Result<()> {
+fn value(rt: &impl Print, root: Root<'_>, key: &[u8]) -> io::Result<()> {
     print!(rt; "  view of ")?;
-    say::text(rt, key)?;
+    rt.write_all(key)?;
     print!(rt; ": ")?;
-    let base = Manner {
-        form: Form::Plain,
-        lookup: Lookup::Rust,
-    };
-    say::bytes(
-        rt,
-        view_through::through::value_bytes(file, start, end, key, base),
-    )?;
-    say::end(rt)
+    say::bytes(rt, value_bytes(root.file, root.start, root.end, key, BASE))?;
+    println!(rt;)
 }
 
 // The value of a key in a nested table.
-fn nested(
-    rt: &impl Print,
-    file: &[u8],
-    start: u32,
-    end: u32,
-    table: &[u8],
-    key: &[u8],
-) -> io::Result<()> {
+fn nested(rt: &impl Print, root: Root<'_>, table: &[u8], key: &[u8]) -> io::Result<()> {
     print!(rt; "  view of ")?;
-    say::text(rt, key)?;
+    rt.write_all(key)?;
     print!(rt; " in ")?;
-    say::text(rt, table)?;
+    rt.write_all(table)?;
     print!(rt; ": ")?;
-    let base = Manner {
-        form: Form::Plain,
-        lookup: Lookup::Rust,
-    };
     say::bytes(
         rt,
-        view_through::through::nested_bytes(file, start, end, table, key, base),
+        nested_bytes(root.file, root.start, root.end, table, key, BASE),
     )?;
-    say::end(rt)
+    println!(rt;)
 }
 
 // A file of data/, whose header names its root table: a key, and one in a nested table.
@@ -57,13 +37,10 @@ fn file(
 ) -> io::Result<()> {
     println!(rt; "{name}")?;
     let mut space = [0u8; MOST];
-    let size = data_file::read(rt, name, &mut space)?;
-    let read = &space[..size];
-    if 24 <= read.len() {
-        let start = words::field::word_at(read, 16);
-        let end = words::field::word_at(read, 20);
-        value(rt, read, start, end, key)?;
-        nested(rt, read, start, end, table, inner)?;
+    let size = say::file::read(rt, name, &mut space)?;
+    if let Some(root) = Root::of(&space[..size]) {
+        value(rt, root, key)?;
+        nested(rt, root, table, inner)?;
     }
     Ok(())
 }

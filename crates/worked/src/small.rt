@@ -1,41 +1,39 @@
 // P1 to P12, and the order of keys.
+use key_hash::hash::djb_hash;
+use key_order::keyorder::less;
+use key_order::prefix::next_end;
 use std::io;
-use words::align::Alignment;
+use words::align::{Alignment, align_offset};
+use words::bits::{bloom_count, bloom_shift};
 
 fn hash(rt: &impl Print, key: &[u8]) -> io::Result<()> {
     print!(rt; "hash \"")?;
-    say::text(rt, key)?;
-    println!(rt; "\" {}", key_hash::hash::djb_hash(key))
+    rt.write_all(key)?;
+    println!(rt; "\" {}", djb_hash(key))
 }
 
 // P1 to P5.
 pub fn hashes(rt: &impl Print) -> io::Result<()> {
-    hash(rt, b"")?;
-    hash(rt, b"a")?;
-    hash(rt, b"a/")?;
-    hash(rt, b"a/b")?;
-    hash(rt, b"a/bc")?;
-    hash(rt, b"\xc3\xa9")
-}
-
-fn align(rt: &impl Print, offset: usize) -> io::Result<()> {
-    if offset < 1000 {
-        print!(rt; "align {offset} to 1, 4, 8: ")?;
-        say::size(rt, words::align::align_offset(offset, Alignment::Key))?;
-        print!(rt; " ")?;
-        say::size(rt, words::align::align_offset(offset, Alignment::Table))?;
-        print!(rt; " ")?;
-        say::size(rt, words::align::align_offset(offset, Alignment::Value))?;
-        say::end(rt)?;
+    let keys: [&[u8]; 6] = [b"", b"a", b"a/", b"a/b", b"a/bc", b"\xc3\xa9"];
+    for key in keys {
+        hash(rt, key)?;
     }
     Ok(())
 }
 
+fn align(rt: &impl Print, offset: u32) -> io::Result<()> {
+    let at = offset as usize;
+    let key = align_offset(at, Alignment::Key);
+    let table = align_offset(at, Alignment::Table);
+    let value = align_offset(at, Alignment::Value);
+    println!(rt; "align {at} to 1, 4, 8: {key} {table} {value}")
+}
+
 // P6 to P8, and each remainder by 8.
 pub fn alignments(rt: &impl Print) -> io::Result<()> {
-    align(rt, 60)?;
-    align(rt, 89)?;
-    align(rt, 64)?;
+    for offset in [60, 89, 64] {
+        align(rt, offset)?;
+    }
     for offset in 0..9 {
         align(rt, offset)?;
     }
@@ -43,35 +41,36 @@ pub fn alignments(rt: &impl Print) -> io::Result<()> {
 }
 
 fn bloom(rt: &impl Print, first: u32) -> io::Result<()> {
-    let count = words::bits::bloom_count(first);
-    let shift = words::bits::bloom_shift(first);
+    let count = bloom_count(first);
+    let shift = bloom_shift(first);
     println!(rt; "first word {first}: bloom words {count}, shift {shift}")
 }
 
 // P9, and the edge between count and shift.
 pub fn blooms(rt: &impl Print) -> io::Result<()> {
-    bloom(rt, 0x2800_0000)?;
-    bloom(rt, 0x07FF_FFFF)?;
-    bloom(rt, 0x0800_0000)?;
-    bloom(rt, 0xFFFF_FFFF)
+    for first in [0x2800_0000, 0x07FF_FFFF, 0x0800_0000, 0xFFFF_FFFF] {
+        bloom(rt, first)?;
+    }
+    Ok(())
 }
 
 fn prefix(rt: &impl Print, part: &[u8]) -> io::Result<()> {
     print!(rt; " \"")?;
-    say::text(rt, part)?;
+    rt.write_all(part)?;
     print!(rt; "\"")
 }
 
 fn walk(rt: &impl Print, key: &[u8], separator: usize) -> io::Result<()> {
     print!(rt; "prefixes of \"")?;
-    say::text(rt, key)?;
+    rt.write_all(key)?;
     print!(rt; "\":")?;
     let mut end = 0;
+    // A `loop`, since it goes on from where the last prefix ends, and shows one of the empty key too.
     loop {
-        end = key_order::prefix::next_end(key, end, separator);
+        end = next_end(key, end, separator);
         prefix(rt, &key[..end])?;
         if key.len() <= end {
-            return say::end(rt);
+            return println!(rt;);
         }
     }
 }
@@ -87,12 +86,12 @@ pub fn prefixes(rt: &impl Print) -> io::Result<()> {
 
 fn order(rt: &impl Print, a: &[u8], b: &[u8]) -> io::Result<()> {
     print!(rt; "\"")?;
-    say::text(rt, a)?;
+    rt.write_all(a)?;
     print!(rt; "\" before \"")?;
-    say::text(rt, b)?;
+    rt.write_all(b)?;
     print!(rt; "\": ")?;
-    say::yes_no(rt, key_order::keyorder::less(a, b))?;
-    say::end(rt)
+    say::yes_no(rt, less(a, b))?;
+    println!(rt;)
 }
 
 pub fn orders(rt: &impl Print) -> io::Result<()> {

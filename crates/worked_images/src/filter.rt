@@ -17,7 +17,7 @@ fn image(rt: &impl Print, words: &mut [usize], arena: &[u8], filter: u32) -> io:
     filter_words(rt, filter)?;
     laid::said(rt, 120, written)?;
     say::bytes(rt, &buffer)?;
-    say::end(rt)
+    println!(rt;)
 }
 
 // No items and one word: 36 bytes.
@@ -28,24 +28,14 @@ fn empty(rt: &impl Print) -> io::Result<()> {
     image(rt, &mut words, &arena, 1)
 }
 
-// A word of the filter of a table at 24, where it is not zero.
-fn filter_word(rt: &impl Print, image: &[u8], at: usize) -> io::Result<()> {
-    if image.len() < 4128 {
-        return Ok(());
-    }
-    if at < 1024 {
-        let word = words::field::word_at(image, 32 + 4 * at);
+// The words of a filter of 1,024 that are not zero; it lies from 32 to 4128, in a table at 24.
+fn some_words(rt: &impl Print, image: &[u8]) -> io::Result<()> {
+    let (words, _) = image.get(32..4128).unwrap_or(&[]).as_chunks::<4>();
+    for (at, word) in words.iter().enumerate() {
+        let word = u32::from_le_bytes(*word);
         if word != 0 {
             println!(rt; "filter word {at}: {word}")?;
         }
-    }
-    Ok(())
-}
-
-// The words of a filter of 1,024 that are not zero.
-fn some_words(rt: &impl Print, image: &[u8]) -> io::Result<()> {
-    for at in 0..1024 {
-        filter_word(rt, image, at)?;
     }
     Ok(())
 }
@@ -57,10 +47,10 @@ fn full(rt: &impl Print, words: &mut [usize], arena: &[u8]) -> io::Result<()> {
     filter_words(rt, 1024)?;
     laid::said(rt, 4162, written)?;
     say::bytes(rt, view_part::part::stretch(&buffer, 24, 32))?;
-    say::end(rt)?;
+    println!(rt;)?;
     some_words(rt, &buffer)?;
     say::bytes(rt, view_part::part::stretch(&buffer, 4128, 4162))?;
-    say::end(rt)
+    println!(rt;)
 }
 
 // With one word into 73 bytes and into 74: the image's length counts the filter.
@@ -126,7 +116,7 @@ fn judged(rt: &impl Print, image: &[u8], manner: u32) -> io::Result<()> {
     let found = gvdb_get(image, 24, 64, b"a", manner);
     print!(rt; "; \"a\" {}", found.number)?;
     say::place(rt, found.start, found.end)?;
-    say::end(rt)
+    println!(rt;)
 }
 
 fn both(rt: &impl Print, name: &str, image: &[u8]) -> io::Result<()> {

@@ -16,7 +16,7 @@ pub fn room_of_bytes() -> [u8; 8192] {
 
 // An answer's number behind a name.
 pub fn told(rt: &impl Print, name: &[u8], number: u32) -> io::Result<()> {
-    say::text(rt, name)?;
+    rt.write_all(name)?;
     println!(rt; " {number}")
 }
 
@@ -67,7 +67,7 @@ fn image(
     let mut buffer = [b'.'; 112];
     write(rt, words, arena, &mut buffer, room, manner)?;
     say::bytes(rt, &buffer)?;
-    say::end(rt)
+    println!(rt;)
 }
 
 // A fresh start, and a table.
@@ -122,12 +122,12 @@ fn child(rt: &impl Print, image: &[u8], start: u32, end: u32, position: usize) -
     print!(rt; "child {position} of \"a/\": ")?;
     if child.number == 0 {
         print!(rt; "item {}, kind {}, \"", child.index, child.kind)?;
-        say::text(rt, view_part::part::stretch(image, child.start, child.end))?;
+        rt.write_all(view_part::part::stretch(image, child.start, child.end))?;
         print!(rt; "\", next {}", child.next)?;
     } else {
-        say::number(rt, child.number as u64)?;
+        print!(rt; "{}", child.number)?;
     }
-    say::end(rt)
+    println!(rt;)
 }
 
 // "a/c", then "a/b": children are listed in order of arrival.

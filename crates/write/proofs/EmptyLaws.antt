@@ -86,7 +86,7 @@ held-container f = refl
 unfoldable pub found_below_lem : (ℕ → ℕ) → List ℕ → List ℕ → ℕ → ℕ → ℕ → Bool
 found_below_lem rule ws ar t d k = some_below (λ j. item_empty ws ar d (item_of rule (state_of ws ar t) j)) k
 
-module _ {rule : ℕ → ℕ} (ws ar roster : List ℕ) (r : Right ws ar) (ro : Rostered rule ws ar roster) where
+module _ {rule : ℕ → ℕ} {ws ar roster : List ℕ} (r : Right ws ar) (ro : Rostered rule ws ar roster) where
   content_same : (d t i : ℕ) → i < item_total ws
       → empty_held (λ u. has_empty (state_of ws ar) d u) ((state_of ws ar t).content i) ≡ (eqb (item_kind ws i) table_kind && has_empty (state_of ws ar) d (item_guest ws i))
   content_same d t i l =
@@ -113,7 +113,7 @@ module _ {rule : ℕ → ℕ} (ws ar roster : List ℕ) (r : Right ws ar) (ro : 
       let e : length ((state_of ws ar t).key i) ≡ key_size ws i = ap length (state_key ws ar t i l) ∙ key_length ws ar i (r.key i l) in
       rw (e, content_same d t i l)
 
-  module _ (t : ℕ) (known : t < most_tables) where
+  module _ {t : ℕ} (known : t < most_tables) where
     -- the item of a slot
     pub slot_at : (k : ℕ) → k < get_or roster (2 * t + 1) 0 → get_or roster (128 + (get_or roster (2 * t) 0 + k)) 0 ≡ item_of rule (state_of ws ar t) k
     unfolding first_slot slot_count slot_item

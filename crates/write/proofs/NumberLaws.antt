@@ -1,4 +1,5 @@
 -- The order of refusals in the document's words: for each number, what was passed before it and what it is given for.
+use Rattle.std.specs.Prelude.{Ok}
 use Prim.Native.Nat.{ℕ, ◌+◌, ◌*◌, ◌≤◌, ◌<◌}
 use mathlib.Core.Path.{◌≡◌}
 use mathlib.Core.Bool.{true, false}
@@ -11,7 +12,6 @@ use Rattle.build_memory.specs.Memory.{table_total, table_placed}
 use Rattle.build_rules.specs.Valid.{fully_valid}
 use Rattle.layout.specs.Sizes.{chunk_size}
 use Rattle.write_numbers.specs.Roster.{state_of}
-use Rattle.write.specs.declared.Written.{Written}
 use Rattle.build_tables.specs.Table.{free_standing}
 use Rattle.write.specs.Write.{has_empty, too_long, image_for, write_answer, written_number}
 
@@ -54,6 +54,6 @@ module _ (rule : ℕ → ℕ) (filter : ℕ) (ws ar : List ℕ) (t room : ℕ) w
 
               -- the root table stands behind the header, 8 bytes, 4 for each filter word and 28 for each item long
               pub write_0 : length (image_for rule filter ws ar t) ≤ room
-                  → write_answer rule filter ws ar t room ≡ Written.Image 24 (24 + (8 + 4 * filter + 28 * length (state_of ws ar t).members)) (length (image_for rule filter ws ar t))
+                  → write_answer rule filter ws ar t room ≡ Ok (record { start = 24; end = 24 + (8 + 4 * filter + 28 * length (state_of ws ar t).members); length = length (image_for rule filter ws ar t) })
               unfolding write_answer free_standing too_long chunk_size pick
               write_0 h = simp (ok, lt-ltb _ _ known, eq-eqb _ _ loose, le-ltb _ _ few, named, le-ltb _ _ short, le-ltb _ _ h)

@@ -1,4 +1,7 @@
 -- Exactly when a write succeeds, and what it leaves beside the table.
+use Rattle.std.specs.Prelude.{Result, Ok, Err}
+use Rattle.layout.specs.declared.refusal.Refusal.{Refusal}
+use Rattle.write.specs.declared.Image.{Image}
 use Prim.Native.Nat.{ℕ, zero, suc, ◌+◌, ◌*◌, ◌≤◌, ◌<◌}
 use mathlib.Core.Path.{◌≡◌, refl, sym, ap, ◌∙◌}
 use mathlib.Core.Bool.{Bool, true, false, ◌&&◌, ◌||◌}
@@ -24,7 +27,6 @@ use Rattle.image.specs.Index.{index_in}
 use Rattle.image.specs.Image.{table_bytes, image_of}
 use Rattle.image.proofs.TimesLaws.{times_some, index_stands}
 use Rattle.write_numbers.specs.Roster.{state_of}
-use Rattle.write.specs.declared.Written.{Written}
 use Rattle.build_tables.specs.Table.{free_standing}
 use Rattle.write.specs.Write.{empty_held, has_empty, too_long, image_for, write_answer, written_number, laid_by, image_after}
 use Rattle.write.specs.When.{EmptyIn, MayWrite, SucceedsExactly, SuccessKeepsRest, SuccessClearsHeader}
@@ -95,9 +97,12 @@ record Passed (whole free many empty file room : Bool) : Type 0 where
   pub file_is : file ≡ false
   pub room_is : room ≡ false
 
-passed : (whole free many empty file room : Bool) (good : Written)
-    → written_number (pick whole (pick free (pick many (Written.Refused TooManyFilterWords) (pick empty (Written.Refused EmptyKey) (pick (file || room) (Written.Refused ImageTooLong) good)))
-    (Written.Refused TableUnknown)) (Written.Refused MemoryBroken)) ≡ 0
+ok_same : {i j : Image} → ◌≡◌ {A = Result Image Refusal} (Ok i) (Ok j) → i ≡ j
+ok_same e = cc
+
+passed : (whole free many empty file room : Bool) (good : Result Image Refusal)
+    → written_number (pick whole (pick free (pick many (Err TooManyFilterWords) (pick empty (Err EmptyKey) (pick (file || room) (Err ImageTooLong) good)))
+    (Err TableUnknown)) (Err MemoryBroken)) ≡ 0
     → Passed whole free many empty file room
 unfolding written_number pick
 passed false free many empty file room good e = absurd (omega (arith, e))
@@ -128,7 +133,7 @@ module _ (rule : ℕ → ℕ) (filter : ℕ) (ws ar : List ℕ) (t room : ℕ) w
   not_empty none true e = absurd (none (empty_says (state_of ws ar) deepest t e))
   not_empty none false e = e
 
-  written : (m : MayWrite rule filter ws ar t room) → write_answer rule filter ws ar t room ≡ Written.Image 24 (24 + (8 + 4 * filter + 28 * length (state_of ws ar t).members)) (length (image_for rule filter ws ar t))
+  written : (m : MayWrite rule filter ws ar t room) → write_answer rule filter ws ar t room ≡ Ok (record { start = 24; end = 24 + (8 + 4 * filter + 28 * length (state_of ws ar t).members); length = length (image_for rule filter ws ar t) })
   written m = write_0 rule filter ws ar t room m.whole m.known m.loose m.few (not_empty m.named _ refl) m.short m.fits
 
 pub succeeds_exactly : SucceedsExactly
@@ -137,17 +142,20 @@ succeeds_exactly rule filter ws ar t room = (succeeds rule filter ws ar t room, 
 
 -- ---- what it leaves
 
-module _ (rule : ℕ → ℕ) (filter : ℕ) (ws ar buffer : List ℕ) (t start end size : ℕ) (e : write_answer rule filter ws ar t (length buffer) ≡ Written.Image start end size) where
+module _ (rule : ℕ → ℕ) (filter : ℕ) (ws ar buffer : List ℕ) (t start end size : ℕ) (e : write_answer rule filter ws ar t (length buffer) ≡ Ok (record { start = start; end = end; length = size })) where
   may : MayWrite rule filter ws ar t (length buffer)
   unfolding written_number
   may = succeeds rule filter ws ar t (length buffer) (ap written_number e)
 
   size_is : size ≡ length (image_for rule filter ws ar t)
-  size_is = let same = sym e ∙ written rule filter ws ar t (length buffer) may in cc
+  size_is =
+      let said = sym e ∙ written rule filter ws ar t (length buffer) may in
+      let same : ◌≡◌ {A = Image} (record { start = start; end = end; length = size }) _ = ok_same said in
+      ap (λ (i : Image). i.length) same
 
   after_is : image_after rule filter ws ar t buffer ≡ put_at buffer 0 (image_for rule filter ws ar t)
   unfolding image_after laid_by
-  after_is = ap (λ (answer : Written). laid_by answer (image_for rule filter ws ar t) buffer) e
+  after_is = ap (λ (answer : Result Image Refusal). laid_by answer (image_for rule filter ws ar t) buffer) e
 
 image_header : (rule : ℕ → ℕ) (filter : ℕ) (ws ar : List ℕ) (t : ℕ) → (24 ≤ length (image_for rule filter ws ar t)) × (take 24 (image_for rule filter ws ar t) ≡ zeros 24)
 unfolding image_for image_of

@@ -1,12 +1,11 @@
 -- WHEN A WRITE SUCCEEDS, and what it leaves beside the table: the statements, over every memory, every rule for a byte of the hash and every number of filter words.
-use Rattle.std.specs.Prelude.{ℕ, zero, suc, ◌≤◌, ◌<◌, ◌≡◌, true, ◌⊎◌, List, length, take, drop}
+use Rattle.std.specs.Prelude.{ℕ, zero, suc, ◌≤◌, ◌<◌, ◌≡◌, true, ◌⊎◌, List, length, take, drop, Ok}
 use Rattle.words.specs.Store.{zeros}
 use Rattle.layout.specs.Limits.{longest_file, deepest, most_filter}
 use Rattle.model.specs.Table.{Content, State, Has}
 use Rattle.build_memory.specs.Memory.{table_total, table_placed}
 use Rattle.build_rules.specs.Valid.{fully_valid}
 use Rattle.write_numbers.specs.Roster.{state_of}
-use Rattle.write.specs.declared.Written.{Written}
 use Rattle.write.specs.Write.{image_for, write_answer, written_number, image_after}
 
 -- an item of table t, or of a table nested in it, at most d tables deep, has the empty key
@@ -39,11 +38,11 @@ SucceedsExactly =
 -- bytes past the image stay
 abbrev pub SuccessKeepsRest : Type 0
 SuccessKeepsRest =
-    (rule : ℕ → ℕ) (filter : ℕ) (ws ar buffer : List ℕ) (t start end size : ℕ) → write_answer rule filter ws ar t (length buffer) ≡ Written.Image start end size
+    (rule : ℕ → ℕ) (filter : ℕ) (ws ar buffer : List ℕ) (t start end size : ℕ) → write_answer rule filter ws ar t (length buffer) ≡ Ok (record { start = start; end = end; length = size })
     → drop size (image_after rule filter ws ar t buffer) ≡ drop size buffer
 
 -- bytes 0 to 23 are zero
 abbrev pub SuccessClearsHeader : Type 0
 SuccessClearsHeader =
-    (rule : ℕ → ℕ) (filter : ℕ) (ws ar buffer : List ℕ) (t start end size : ℕ) → write_answer rule filter ws ar t (length buffer) ≡ Written.Image start end size
+    (rule : ℕ → ℕ) (filter : ℕ) (ws ar buffer : List ℕ) (t start end size : ℕ) → write_answer rule filter ws ar t (length buffer) ≡ Ok (record { start = start; end = end; length = size })
     → take 24 (image_after rule filter ws ar t buffer) ≡ zeros 24

@@ -33,13 +33,11 @@ pub fn has_empty(
     }
     let first = roster[HEAD_WORDS * table];
     let count = roster[HEAD_WORDS * table + 1];
-    let mut k = 0;
-    while k < count {
+    for k in 0..count {
         let item = roster[SLOTS_FROM + (first + k)];
         if item_empty(words, arena, roster, item, depth - 1, form) {
             return true;
         }
-        k += 1;
     }
     false
 }

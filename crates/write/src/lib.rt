@@ -8,7 +8,8 @@ use layout::refusal::Refusal;
 
 // The root pointer and the image's length, or why nothing was written.
 #[derive(Clone, Copy)]
-pub enum Written {
-    Image { start: u32, end: u32, length: u32 },
-    Refused(Refusal),
+pub struct Image {
+    pub start: u32,
+    pub end: u32,
+    pub length: u32,
 }

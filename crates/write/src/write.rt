@@ -9,7 +9,7 @@ ghost use Rattle.write_numbers.specs.Roster.{Rostered};
 ghost use Rattle.write.specs.Write.{image_for, write_answer, laid_by, image_after};
 ghost use Rattle.write.specs.Answer.{fit_answer, table_answer};
 
-use crate::Written;
+use crate::Image;
 use crate::empty::has_empty;
 use build_rules::judge::judge_fully;
 use build_tables::add::is_free_standing;
@@ -18,7 +18,6 @@ use layout::limits::{DEEPEST, MOST_FILTER};
 use layout::refusal::Refusal;
 use layout::sizes::{CHUNK_STEP, FILTER_SIZE, HEAD_SIZE, HEADER_SIZE};
 use words::wide::word_size;
-use write_bytes::Measured;
 use write_bytes::whole::{lay_image, measure};
 use write_numbers::fill::roster_all;
 use write_numbers::roster::ROSTER_SIZE;
@@ -50,26 +49,26 @@ fn write_if_fits(
     table: usize,
     image: &mut [u8],
     filter: usize,
-) -> Written
+) -> Result<Image, Refusal>
     requires numbered_fits { NumberedFits numbered.now arena.now }
     requires table_lt_most_tables { (table < most_tables) × (filter ≤ most_filter) }
     ensures value { result ≡ fit_answer filter numbered.now arena.now table (length image.old) }
     ensures image_after { image.new ≡ laid_by (fit_answer filter numbered.now arena.now table (length image.old)) (numbered_image filter numbered.now arena.now table) image.old }
 {
-    let Measured::End(size) = measure(numbered, arena, table, filter) else {
-        return Written::Refused(Refusal::ImageTooLong);
+    let Some(size) = measure(numbered, arena, table, filter) else {
+        return Err(Refusal::ImageTooLong);
     };
     if image.len() < size {
-        return Written::Refused(Refusal::ImageTooLong);
+        return Err(Refusal::ImageTooLong);
     }
     lay_into(numbered, arena, table, image, size, filter);
     let chunk = HEAD_SIZE + FILTER_SIZE * filter + CHUNK_STEP * slot_count(numbered, table);
     let end = HEADER_SIZE + chunk;
-    Written::Image {
+    Ok(Image {
         start: HEADER_SIZE as u32,
         end: end as u32,
         length: size as u32,
-    }
+    })
 }
 
 // Lays a table by its roster, unless a key in it or in those nested in it is empty (30).
@@ -81,7 +80,7 @@ fn write_unless_empty(
     image: &mut [u8],
     form: Form,
     filter: usize,
-) -> Written
+) -> Result<Image, Refusal>
     requires arena_value { fully_valid words.now arena.now ≡ true }
     requires rostered { Rostered (rule_of form) words.now arena.now roster.now }
     requires table_lt_most_tables { (table < most_tables) × (filter ≤ most_filter) }
@@ -89,7 +88,7 @@ fn write_unless_empty(
     ensures image_after { image.new ≡ laid_by (table_answer (rule_of form) filter words.now arena.now table (length image.old)) (image_for (rule_of form) filter words.now arena.now table) image.old }
 {
     if has_empty(words, arena, roster, table, DEEPEST, form) {
-        return Written::Refused(Refusal::EmptyKey);
+        return Err(Refusal::EmptyKey);
     }
     let mut numbered = [0usize; NUMBERED_SIZE];
     fill_numbered(words, arena, roster, &mut numbered, form);
@@ -105,7 +104,7 @@ fn index_and_write(
     image: &mut [u8],
     form: Form,
     filter: usize,
-) -> Written
+) -> Result<Image, Refusal>
     requires arena_value { fully_valid words.old arena.now ≡ true }
     requires table_lt_most_tables { (table < most_tables) × (filter ≤ most_filter) }
     ensures words_unchanged { words.new ≡ words.old }
@@ -126,21 +125,21 @@ pub fn write(
     image: &mut [u8],
     form: Form,
     filter: u32,
-) -> Written
+) -> Result<Image, Refusal>
     ensures words_unchanged { words.new ≡ words.old }
     ensures value { result ≡ write_answer (rule_of form) filter words.old arena.now table (length image.old) }
     ensures image_after { image.new ≡ image_after (rule_of form) filter words.old arena.now table image.old }
 {
     if !judge_fully(words, arena) {
-        return Written::Refused(Refusal::MemoryBroken);
+        return Err(Refusal::MemoryBroken);
     }
     let known = word_size(table);
     if !is_free_standing(words, arena, known) {
-        return Written::Refused(Refusal::TableUnknown);
+        return Err(Refusal::TableUnknown);
     }
     let count = word_size(filter);
     if MOST_FILTER < count {
-        return Written::Refused(Refusal::TooManyFilterWords);
+        return Err(Refusal::TooManyFilterWords);
     }
     index_and_write(words, arena, known, image, form, count)
 }

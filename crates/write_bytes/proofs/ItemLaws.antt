@@ -22,6 +22,9 @@ pub record AtSlot (numbered arena : List ℕ) (s : ℕ) : Type 0 where
   pub fits : NumberedFits numbered arena
   pub inside : s < most_items
 
+pub at_slot : {numbered arena : List ℕ} {s : ℕ} → NumberedFits numbered arena → s < most_items → AtSlot numbered arena s
+at_slot fits inside = record { fits = fits; inside = inside }
+
 module _ {numbered arena : List ℕ} {s : ℕ} (g : AtSlot numbered arena s) where
   pub slot_in : SlotIn numbered s
   slot_in = record { long = g.fits.long; inside = g.inside }

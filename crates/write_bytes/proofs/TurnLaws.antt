@@ -1,7 +1,8 @@
 -- The turns of the loop over a table's items, as the code has them: what each may ask, and what it leaves.
+use Rattle.std.specs.Prelude.{Option, Some, None}
 use mathlib.Core.Path.{◌≡◌, sym, ap, ◌∙◌}
 use mathlib.Core.List.{List, ◌++◌}
-use Prim.Native.Nat.{ℕ, ◌+◌, ◌*◌, ◌-◌, ◌≤◌, ◌<◌, ◌^◌}
+use Prim.Native.Nat.{ℕ, ◌+◌, ◌*◌, ◌-◌, ◌≤◌, ◌<◌}
 use native.Mathlib.Nat.{add-zero}
 use native.Mathlib.Omega.{arith}
 use lib.ListN.{length}
@@ -12,8 +13,7 @@ use Rattle.image.specs.Laid.{Laid}
 use Rattle.image.proofs.LaidLaws.{laid_none, laid_as}
 use Rattle.image.proofs.PlanLaws.{offset_zero, offset_rises, plan_end}
 use Rattle.layout.specs.Limits.{most_tables, most_items, most_filter, longest_file}
-use Rattle.write_parts.specs.Numbered.{first_slot, slot_count, slot_hash, slot_bucket, numbered_plan, numbered_bytes, NumberedFits}
-use Rattle.write_bytes.specs.declared.Measured.{Measured}
+use Rattle.write_parts.specs.Numbered.{first_slot, slot_count, slot_bucket, numbered_plan, numbered_bytes, NumberedFits}
 use Rattle.write_bytes.specs.Measure.{measured}
 use Rattle.write_parts.specs.Slot.{head_bytes, slot_filter, slot_start, slot_record, slot_item}
 use Rattle.write_bytes.proofs.MeasureLaws.{end_is, long_is}
@@ -74,10 +74,6 @@ module _ {filter : ℕ} {numbered arena : List ℕ} {t at d first count : ℕ} (
   pub few : first + count ≤ most_items
   few = omega (arith, g.fits.tables t g.known)
 
-  -- the words of its front fit their fields
-  pub front_fits : (b : ℕ) → b < count → (slot_hash numbered (first + b) < 2 ^ 32) × (slot_bucket numbered (first + b) < 2 ^ 32)
-  front_fits b less = let slot = g.fits.slots (first + b) (omega (arith, few)) in (slot.hash, slot.bucket)
-
   module _ (k : ℕ) (less : k < count) {end : ℕ} (e : end ≡ place (plan_at filter numbered arena d t) (base_at filter numbered arena d t at) k) where
     item_is : item_bytes (plan_at filter numbered arena d t) k end ≡ slot_item (numbered_bytes filter numbered arena (d - 1)) numbered arena (first + k) end
     item_is = rw g.first_is (plan_item filter (numbered_bytes filter numbered arena (d - 1)) numbered arena t g.fits g.known k (omega arith) end)
@@ -94,11 +90,11 @@ module _ {filter : ℕ} {numbered arena : List ℕ} {t at d first count : ℕ} (
         omega (arith, next_is, table_ends, offset_rises p base (k + 1) count (omega arith))
 
     -- what measuring it answers
-    pub item_over : {m : Measured} → m ≡ measured (end + length (slot_item (numbered_bytes filter numbered arena (d - 1)) numbered arena (first + k) end)) → m ≡ Measured.TooLong
+    pub item_over : {m : Option ℕ} → m ≡ measured (end + length (slot_item (numbered_bytes filter numbered arena (d - 1)) numbered arena (first + k) end)) → m ≡ None
         → longest_file < at + length (numbered_bytes filter numbered arena d t at)
     item_over is p = omega (arith, long_is _ is p, next_within)
 
-    pub item_ends : {m : Measured} → m ≡ measured (end + length (slot_item (numbered_bytes filter numbered arena (d - 1)) numbered arena (first + k) end)) → {stop : ℕ} → m ≡ Measured.End stop
+    pub item_ends : {m : Option ℕ} → m ≡ measured (end + length (slot_item (numbered_bytes filter numbered arena (d - 1)) numbered arena (first + k) end)) → {stop : ℕ} → m ≡ Some stop
         → (stop ≤ longest_file) × (stop ≡ place (plan_at filter numbered arena d t) (base_at filter numbered arena d t at) (k + 1))
     item_ends is p = let e = end_is _ is p in (e.1, e.0 ∙ next_is)
 

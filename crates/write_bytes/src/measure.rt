@@ -5,7 +5,6 @@ ghost use Rattle.write_parts.specs.Numbered.{numbered_bytes, NumberedFits};
 ghost use Rattle.write_parts.specs.Slot.{slot_item};
 ghost use Rattle.write_bytes.specs.Measure.{measured};
 
-use crate::Measured;
 use layout::kind::TABLE_KIND;
 use layout::limits::LONGEST_FILE;
 use layout::sizes::{CHUNK_STEP, FILTER_SIZE, HEAD_SIZE};
@@ -21,30 +20,27 @@ pub fn measure_table(
     at: usize,
     depth: usize,
     filter: usize,
-) -> Measured
+) -> Option<usize>
     requires numbered_fits { NumberedFits numbered.now arena.now }
     requires table_lt_most_tables { (table < most_tables) × (at ≤ longest_file) × (filter ≤ most_filter) }
     ensures { result ≡ measured (at + length (numbered_bytes filter numbered.now arena.now depth table at)) }
 {
     if depth == 0 {
-        return Measured::End(at);
+        return Some(at);
     }
     let first = first_slot(numbered, table);
     let count = slot_count(numbered, table);
     let mut end = at + HEAD_SIZE + FILTER_SIZE * filter + CHUNK_STEP * count;
     if LONGEST_FILE < end {
-        return Measured::TooLong;
+        return None;
     }
-    let mut k = 0;
-    while k < count {
-        let Measured::End(stop) = measure_item(numbered, arena, first + k, end, depth - 1, filter)
-        else {
-            return Measured::TooLong;
+    for k in 0..count {
+        let Some(stop) = measure_item(numbered, arena, first + k, end, depth - 1, filter) else {
+            return None;
         };
         end = stop;
-        k += 1;
     }
-    Measured::End(end)
+    Some(end)
 }
 
 // Measures a slot's fragment at `at` and its value behind it.
@@ -56,14 +52,14 @@ fn measure_item(
     at: usize,
     depth: usize,
     filter: usize,
-) -> Measured
+) -> Option<usize>
     requires numbered_fits { NumberedFits numbered.now arena.now }
     requires slot_lt_most_items { (slot < most_items) × (at ≤ longest_file) × (filter ≤ most_filter) }
     ensures { result ≡ measured (at + length (slot_item (numbered_bytes filter numbered.now arena.now depth) numbered.now arena.now slot at)) }
 {
     let start = value_start(numbered, slot, at);
     if LONGEST_FILE < start {
-        return Measured::TooLong;
+        return None;
     }
     let kind = slot_word(numbered, slot, KIND);
     if kind == TABLE_KIND {
@@ -72,7 +68,7 @@ fn measure_item(
     }
     let size = cover(numbered, slot, filter);
     if LONGEST_FILE - start < size {
-        return Measured::TooLong;
+        return None;
     }
-    Measured::End(start + size)
+    Some(start + size)
 }

@@ -38,8 +38,7 @@ pub fn lay_table(
     lay_front(numbered, image, first, count, at, filter);
     let records = at + HEAD_SIZE + FILTER_SIZE * filter + BUCKET_SIZE * count;
     let mut end = records + RECORD_SIZE * count;
-    let mut k = 0;
-    while k < count {
+    for k in 0..count {
         end = lay_item(
             numbered,
             arena,
@@ -50,7 +49,6 @@ pub fn lay_table(
             depth - 1,
             filter,
         );
-        k += 1;
     }
     end
 }

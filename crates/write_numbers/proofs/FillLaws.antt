@@ -1,12 +1,10 @@
 -- Laws of the tables one behind the other: what is put for one table keeps what was put for those before it.
 use Prim.Native.Nat.{ℕ, zero, suc, ◌+◌, ◌-◌, ◌*◌, ◌≤◌, ◌<◌}
-use native.Mathlib.Nat.{eq-or-lt_of_le, le_of_suc-le-suc}
-use native.Mathlib.Numerals.{add-one}
 use native.Mathlib.Omega.{arith}
 use mathlib.Core.Path.{◌≡◌, refl, sym, ap, ◌∙◌}
-use mathlib.Core.Logic.{⊎_elim}
 use mathlib.Core.List.{List, [], append_assoc, append-nil}
 use lib.ListN.{length, get_or, drop, set, length-set, length-drop}
+use borrow.Author.Count.{below_more}
 use borrow.Rule.Slice.PartMut.{put_mid, post_of, Post-is}
 use lib.Seq.{get_or-set_same, get_or-set_other, drop-drop, drop-length, take_all}
 use Rattle.words.specs.Store.{part, put_at}
@@ -49,8 +47,8 @@ put-tail l vs first fits e =
     plus_zero : (n : ℕ) → first + (0 + n) ≡ first + n
     plus_zero n = omega arith
 
-module _ {rule : ℕ → ℕ} (ws ar : List ℕ) (t first n : ℕ) (slots slots' buckets buckets' : List ℕ) (fit : Fit ws) (fits : Fits ws t first)
-    (in-slots : length slots ≡ most_items) (in-buckets : length buckets ≡ most_items)
+module _ {rule : ℕ → ℕ} {ws ar : List ℕ} {t n : ℕ} {slots slots' indices buckets buckets' : List ℕ} (first : ℕ) (fit : Fit ws) (fits : Fits ws t first)
+    (size : Sized slots indices buckets)
     (l : IndexedAs rule ws ar t n (part slots first (length slots - first)) slots' (part buckets first (length buckets - first)) buckets') where
   pub indexed_count : n ≡ length (all_of_table ws t)
   indexed_count = l.count ∙ members_long ws ar t
@@ -67,15 +65,16 @@ module _ {rule : ℕ → ℕ} (ws ar : List ℕ) (t first n : ℕ) (slots slots'
 
   -- the items in the slots of the table
   pub slots_part : part (put_mid first (length slots - first) slots slots') first (first + n - first) ≡ by_index rule (state_of ws ar t)
-  slots_part = let size : first + n - first ≡ length (by_index rule (state_of ws ar t)) = omega (arith, long) in
-      rw (slots_put, size) (part-put slots first (by_index rule (state_of ws ar t)) (omega (arith, long, indexed_count, fits)))
+  slots_part = let span : first + n - first ≡ length (by_index rule (state_of ws ar t)) = omega (arith, long) in
+      rw (slots_put, span) (part-put slots first (by_index rule (state_of ws ar t)) (omega (arith, long, indexed_count, fits)))
 
-  pub slots_below : (most : ℕ) → most_items ≤ most → AllBelow most (by_index rule (state_of ws ar t))
-  slots_below most h = by_index_below ws ar t rule most (omega (arith, fit.few))
+  -- they have an index each
+  pub slots_below : AllBelow (length indices) (part (put_mid first (length slots - first) slots slots') first (first + n - first))
+  slots_below = rw slots_part (by_index_below ws ar t rule (length indices) (omega (arith, fit.few, size.of_indices)))
 
-  pub put_all : (indices indices' items : List ℕ) → items ≡ by_index rule (state_of ws ar t) → indices' ≡ indices_put indices items (length items)
+  pub put_all : (indices' items : List ℕ) → items ≡ by_index rule (state_of ws ar t) → indices' ≡ indices_put indices items (length items)
       → Put rule ws ar t first n slots (put_mid first (length slots - first) slots slots') indices indices' buckets (put_mid first (length buckets - first) buckets buckets')
-  put_all indices indices' items is en = record {
+  put_all indices' items is en = record {
     count = l.count;
     slots_are = slots_put;
     buckets_are = buckets-put;
@@ -92,12 +91,6 @@ indices_other indices items i zero h ne = refl
 indices_other indices items i (suc n) h ne =
     get_or-set_other (indices_put indices items n) (get_or items n 0) i n 0 (λ e. ne n (omega arith) (sym e)) ∙ indices_other indices items i n (omega arith) ne
 
--- what holds below t, and of t, holds below t + 1
-more : (P : ℕ → Type 0) (t : ℕ) → ((u : ℕ) → u < t → P u) → P t → (u : ℕ) → u < t + 1 → P u
-more P t below here u h =
-    let less : u < suc t = rw add-one at h in
-    ⊎_elim (λ e. rw e here) (below u) (eq-or-lt_of_le (le_of_suc-le-suc less))
-
 pub filled_none : {rule : ℕ → ℕ} (ws ar heads slots indices buckets : List ℕ) → Filled rule ws ar 0 heads slots indices buckets
 filled_none ws ar heads slots indices buckets = record {
   starts_are = λ t h. absurd (omega arith);
@@ -107,18 +100,17 @@ filled_none ws ar heads slots indices buckets = record {
   indices_are = λ i l h. absurd (omega arith);
 }
 
-module _ {rule : ℕ → ℕ} (ws ar : List ℕ) (t first n : ℕ) (heads slots slots' indices indices' buckets buckets' : List ℕ) (fit : Fit ws) (low : t < most_tables)
-    (long : length heads ≡ 128) (size : Sized slots indices buckets) (at : first ≡ first_slot_of ws t)
-    (p : Put rule ws ar t first n slots slots' indices indices' buckets buckets') (f : Filled rule ws ar t heads slots indices buckets) where
-  more_count : n ≡ length (all_of_table ws t)
-  more_count = p.count ∙ members_long ws ar t
-
+module _ {rule : ℕ → ℕ} {ws ar : List ℕ} {t first n : ℕ} {slots slots' indices indices' buckets buckets' : List ℕ} (fit : Fit ws) (at : first ≡ first_slot_of ws t)
+    (p : Put rule ws ar t first n slots slots' indices indices' buckets buckets') where
   pub put_few : first + n ≤ most_items
-  put_few = omega (arith, more_count, slot_few ws t, fit.few)
+  put_few = omega (arith, p.count, members_long ws ar t, slot_few ws t, fit.few)
 
   pub put_next : first + n ≡ first_slot_of ws (t + 1)
-  put_next = omega (arith, more_count, slot_next ws t)
+  put_next = omega (arith, p.count, members_long ws ar t, slot_next ws t)
 
+module _ {rule : ℕ → ℕ} {ws ar : List ℕ} {t first n : ℕ} {heads slots slots' indices indices' buckets buckets' : List ℕ} (fit : Fit ws) (at : first ≡ first_slot_of ws t)
+    (p : Put rule ws ar t first n slots slots' indices indices' buckets buckets') (low : t < most_tables) (long : length heads ≡ 128) (size : Sized slots indices buckets)
+    (f : Filled rule ws ar t heads slots indices buckets) where
   more_fits : first + length (state_of ws ar t).members ≤ most_items
   more_fits = omega (arith, slot_few ws t, fit.few, members_long ws ar t)
 
@@ -155,19 +147,19 @@ module _ {rule : ℕ → ℕ} (ws ar : List ℕ) (t first n : ℕ) (heads slots 
 
   pub filled_more : Filled rule ws ar (t + 1) (set (set heads (2 * t) first) (2 * t + 1) n) slots' indices' buckets'
   filled_more = record {
-    starts_are = more (λ (u : ℕ). get_or (set (set heads (2 * t) first) (2 * t + 1) n) (2 * u) 0 ≡ first_slot_of ws u) t
+    starts_are = below_more (λ (u : ℕ). get_or (set (set heads (2 * t) first) (2 * t + 1) n) (2 * u) 0 ≡ first_slot_of ws u) t
         (λ u l. get_or-set_other (set heads (2 * t) first) (2 * t + 1) (2 * u) n 0 (λ e. omega arith) ∙ get_or-set_other heads (2 * t) (2 * u) first 0 (λ e. omega arith) ∙ f.starts_are u l)
         (get_or-set_other (set heads (2 * t) first) (2 * t + 1) (2 * t) n 0 (λ e. omega arith) ∙ get_or-set_same heads (2 * t) first 0 (omega arith) ∙ at);
-    counts_are = more (λ (u : ℕ). get_or (set (set heads (2 * t) first) (2 * t + 1) n) (2 * u + 1) 0 ≡ length (state_of ws ar u).members) t
+    counts_are = below_more (λ (u : ℕ). get_or (set (set heads (2 * t) first) (2 * t + 1) n) (2 * u + 1) 0 ≡ length (state_of ws ar u).members) t
         (λ u l. get_or-set_other (set heads (2 * t) first) (2 * t + 1) (2 * u + 1) n 0 (λ e. omega arith) ∙ get_or-set_other heads (2 * t) (2 * u + 1) first 0 (λ e. omega arith) ∙ f.counts_are u l)
         (get_or-set_same (set heads (2 * t) first) (2 * t + 1) n 0 (omega (arith, length-set heads (2 * t) first)) ∙ p.count);
-    items_are = λ u k h. more (λ (u : ℕ). k < length (state_of ws ar u).members → get_or slots' (first_slot_of ws u + k) 0 ≡ item_of rule (state_of ws ar u) k) t
+    items_are = λ u k h. below_more (λ (u : ℕ). k < length (state_of ws ar u).members → get_or slots' (first_slot_of ws u + k) 0 ≡ item_of rule (state_of ws ar u) k) t
         (λ u l h. ap (λ (m : List ℕ). get_or m (first_slot_of ws u + k) 0) p.slots_are ∙ get_before slots first _ (first_slot_of ws u + k) (more_before u k l h) ∙ f.items_are u k l h)
         (more_items k) u h;
-    buckets_are = λ u b h. more (λ (u : ℕ). b < length (state_of ws ar u).members → get_or buckets' (first_slot_of ws u + b) 0 ≡ bucket_start (hashes_of rule (state_of ws ar u)) b) t
+    buckets_are = λ u b h. below_more (λ (u : ℕ). b < length (state_of ws ar u).members → get_or buckets' (first_slot_of ws u + b) 0 ≡ bucket_start (hashes_of rule (state_of ws ar u)) b) t
         (λ u l h. ap (λ (m : List ℕ). get_or m (first_slot_of ws u + b) 0) p.buckets_are ∙ get_before buckets first _ (first_slot_of ws u + b) (more_before u b l h) ∙ f.buckets_are u b l h)
         (more_buckets b) u h;
-    indices_are = λ i l h. more (λ (u : ℕ). item_table ws i ≡ u → get_or indices' i 0 ≡ laid_index rule (state_of ws ar (item_table ws i)) i) t
+    indices_are = λ i l h. below_more (λ (u : ℕ). item_table ws i ≡ u → get_or indices' i 0 ≡ laid_index rule (state_of ws ar (item_table ws i)) i) t
         (λ u less e. more_kept i (omega arith) ∙ f.indices_are i l (omega arith))
         (more_of_table i l) (item_table ws i) h refl;
   }

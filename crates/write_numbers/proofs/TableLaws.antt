@@ -32,7 +32,7 @@ links_empty ws fit i h =
 
 -- ---- collected, then given their indices
 
-module _ (ws ar : List ℕ) (t n : ℕ) (out members : List ℕ) (judged : Judged ws ar) (room : most_items ≤ length out) (k : Collected ws t n out members) where
+module _ {ws ar : List ℕ} {t n : ℕ} {out members : List ℕ} (judged : Judged ws ar) (k : Collected ws t n out members) (room : most_items ≤ length out) where
   pub collected_few : n ≤ most_items
   collected_few = omega (arith, all_of_table_few ws t judged.fit, k.count)
 
@@ -59,9 +59,9 @@ module _ (ws ar : List ℕ) (t n : ℕ) (out members : List ℕ) (judged : Judge
     collected_hashes =
         ap (hashes_in form ws ar) collected_order ∙ hashes_order form ws ar (state_of ws ar t) (λ i h. state_hash ws ar t i judged h) (λ i h. state_same ws ar t i h)
 
-    pub laid : (items items' firsts firsts' : List ℕ) → items' ≡ put_at items 0 (items_at (by_rank ws ar (take n members)) (by_bucket (rank_hashes form ws ar (take n members))))
+    pub laid : {items items' firsts firsts' : List ℕ} → items' ≡ put_at items 0 (items_at (by_rank ws ar (take n members)) (by_bucket (rank_hashes form ws ar (take n members))))
         → firsts' ≡ put_at firsts 0 (starts (rank_hashes form ws ar (take n members))) → IndexedAs (rule_of form) ws ar t n items items' firsts firsts'
-    laid items items' firsts firsts' ei ef = record {
+    laid {items} {items'} {firsts} {firsts'} ei ef = record {
       count = k.count ∙ ap length (sym (state_members ws ar t));
       items_are = ei ∙ ap (put_at items 0) (rw (collected_hashes, collected_order) (items_index (rule_of form) (state_of ws ar t)));
       firsts_are = ef ∙ ap (λ (l : List ℕ). put_at firsts 0 (starts l)) collected_hashes;

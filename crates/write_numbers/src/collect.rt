@@ -13,16 +13,7 @@ pub fn has_items(words: &[usize], t: usize) -> bool
     if words[TABLES] <= t {
         return false;
     }
-    let most = words[ITEMS];
-    let mut k = 0;
-    while k < most {
-        let table = item_word(words, k, TABLE);
-        if table == t {
-            return true;
-        }
-        k += 1;
-    }
-    false
+    (0..words[ITEMS]).any(|k| item_word(words, k, TABLE) == t)
 }
 
 // Puts the items of table t to the front of `out`, in the order in which they were made. Answers how many there are.
@@ -32,16 +23,12 @@ pub fn collect(words: &[usize], t: usize, out: &mut [usize]) -> usize
 {
     let most = words[ITEMS];
     let mut n = 0;
-    let mut i = 0;
-    while i < most {
+    for i in 0..most {
         let table = item_word(words, i, TABLE);
         if table == t {
             out[n] = i;
             n += 1;
-            i += 1;
-            continue;
         }
-        i += 1;
     }
     n
 }

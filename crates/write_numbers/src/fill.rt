@@ -12,7 +12,7 @@ use crate::roster::{BUCKETS_FROM, INDICES_FROM};
 use crate::table::index_table;
 use key_hash::hash::Form;
 use layout::limits::{MOST_ITEMS, MOST_TABLES};
-use words::store::put_words;
+use words::store::put;
 use write_order::items::index_items;
 use write_parts::numbered::{HEAD_WORDS, SLOTS_FROM};
 
@@ -62,14 +62,12 @@ fn fill(
     ensures words_unchanged { words.new ≡ words.old }
     ensures filled { Filled (rule_of form) words.old arena.now most_tables heads.new slots.new indices.new buckets.new }
 {
-    let mut t = 0;
     let mut first = 0;
-    while t < MOST_TABLES {
+    for t in 0..MOST_TABLES {
         let n = put_table(words, arena, t, first, slots, indices, buckets, form);
         heads[HEAD_WORDS * t] = first;
         heads[HEAD_WORDS * t + 1] = n;
         first += n;
-        t += 1;
     }
 }
 
@@ -80,6 +78,7 @@ pub fn roster_all(words: &mut [usize], arena: &[u8], roster: &mut [usize], form:
     ensures words_unchanged { words.new ≡ words.old }
     ensures rostered { Rostered (rule_of form) words.old arena.now roster.new }
 {
+    // Side by side, in fixed memory, since `Rostered` has each as a row of its own.
     let mut heads = [0usize; SLOTS_FROM];
     let mut slots = [0usize; MOST_ITEMS];
     let mut indices = [0usize; MOST_ITEMS];
@@ -93,8 +92,8 @@ pub fn roster_all(words: &mut [usize], arena: &[u8], roster: &mut [usize], form:
         &mut buckets,
         form,
     );
-    put_words(roster, 0, &heads);
-    put_words(roster, SLOTS_FROM, &slots);
-    put_words(roster, INDICES_FROM, &indices);
-    put_words(roster, BUCKETS_FROM, &buckets);
+    put(roster, 0, &heads);
+    put(roster, SLOTS_FROM, &slots);
+    put(roster, INDICES_FROM, &indices);
+    put(roster, BUCKETS_FROM, &buckets);
 }

@@ -22,6 +22,7 @@ pub fn index_table(
     ensures words_unchanged { words.new ≡ words.old }
     ensures indexed_as { IndexedAs (rule_of form) words.old arena.now t result items.old items.new firsts.old firsts.new }
 {
+    // A fixed array and how much of it is used: there is no heap.
     let mut members = [0usize; MOST_ITEMS];
     let n = collect(words, t, &mut members);
     index_by_key(words, arena, &members[..n], items, firsts, form);

@@ -2,11 +2,10 @@
 use mathlib.Core.Path.{◌≡◌, refl, sym, ap, ◌∙◌}
 use mathlib.Core.Logic.{⊎_elim}
 use mathlib.Core.List.{List, [], ◌∷◌, map}
-use Prim.Native.Nat.{ℕ, zero, suc, ◌+◌, ◌≤◌, ◌<◌}
+use Prim.Native.Nat.{ℕ, zero, suc, ◌≤◌, ◌<◌}
 use native.Mathlib.Nat.{eq-or-lt_of_le, le_of_suc-le-suc}
-use native.Mathlib.Numerals.{add-one}
 use native.Mathlib.Omega.{arith}
-use lib.ListN.{length, get_or, set, length-set}
+use lib.ListN.{length, get_or, length-set}
 use lib.Seq.{get_or-set_same, get_or-set_other}
 use Rattle.key_hash.specs.declared.hash.Form.{Form}
 use Rattle.key_hash.specs.Hash.{hash_of, hash_by, signed, rule_of}
@@ -29,14 +28,6 @@ map_same f g (x ∷ l) same =
 
 -- the hash that is taken, of an item whose hash word is right, is that of its key
 module _ (words arena : List ℕ) (i : ℕ) where
-  pub for_plain : {form : Form} → form ≡ Form.Plain → {hash : ℕ} → hash ≡ item_hash words i → hash ≡ hash_for form words arena i
-  unfolding hash_for
-  for_plain told is = is ∙ sym (ap (λ (f : Form). hash_for f words arena i) told)
-
-  pub for_signed : {form : Form} → form ≡ Form.Signed → {hash : ℕ} {key : List ℕ} → hash ≡ hash_by signed key → key ≡ key_of words arena i → hash ≡ hash_for form words arena i
-  unfolding hash_for
-  for_signed told is key_is = is ∙ ap (hash_by signed) key_is ∙ sym (ap (λ (f : Form). hash_for f words arena i) told)
-
   pub hash_for_lem : (form : Form) {key : List ℕ} → item_hash words i ≡ hash_of key → key ≡ key_of words arena i → hash_for form words arena i ≡ hash_by (rule_of form) key
   unfolding hash_for
   hash_for_lem Form.Plain stored key_is = stored
@@ -65,10 +56,6 @@ module _ (indices items : List ℕ) where
   pub indices_start : indices ≡ indices_put indices items 0
   unfolding indices_put
   indices_start = refl
-
-  pub indices_turn : (k : ℕ) → set (indices_put indices items k) (get_or items k 0) k ≡ indices_put indices items (k + 1)
-  unfolding indices_put
-  indices_turn k = rw add-one
 
   -- an item that stands once gets its index
   indices_at : ((j k : ℕ) → j < length items → k < length items → get_or items j 0 ≡ get_or items k 0 → j ≡ k) → AllBelow (length indices) items

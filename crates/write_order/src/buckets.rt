@@ -10,6 +10,7 @@ use build_memory::fields::EMPTY;
 use layout::limits::MOST_ITEMS;
 
 // The bucket of a rank.
+#[tactic(auto, unfolding(image::specs::Index::bucket_of))]
 fn bucket_of(hashes: &[usize], place: usize) -> usize
     requires { place < length hashes.now }
     ensures { (result ≡ bucket_of hashes.now place) × (result < length hashes.now) }
@@ -24,12 +25,10 @@ fn chain_all(hashes: &[usize], heads: &mut [usize], links: &mut [usize])
     ensures chained { Chained hashes.now (length hashes.now) heads.new links.new }
     ensures empty_from { EmptyFrom (length hashes.now) links.new }
 {
-    let mut p = 0;
-    while p < hashes.len() {
+    for p in 0..hashes.len() {
         let b = bucket_of(hashes, p);
         links[p] = heads[b];
         heads[b] = p;
-        p += 1;
     }
 }
 
@@ -41,6 +40,7 @@ fn drain_chain(head: usize, links: &mut [usize], order: &mut [usize], at: usize)
 {
     let mut p = head;
     let mut end = at;
+    // A `while`: p goes from link to link, and the chain's end is known only when it is met.
     while p != EMPTY {
         order[end] = p;
         let next = links[p];
@@ -65,13 +65,11 @@ pub fn index_all(
     ensures by_index { (lists : ℕ → List ℕ) → Chains lists n heads.now links.old → Indexed lists n order.old order.new firsts.old firsts.new }
     ensures empty { Empty links.new }
 {
-    let mut b = 0;
     let mut end = 0;
-    while b < n {
+    for b in 0..n {
         let next = drain_chain(heads[b], links, order, end);
         firsts[b] = end;
         end = next;
-        b += 1;
     }
 }
 

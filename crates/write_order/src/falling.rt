@@ -29,6 +29,7 @@ fn comes_before(words: &[usize], arena: &[u8], a: usize, b: usize) -> bool
 }
 
 // The item of a chain behind which item i is put, or the empty mark: the last of those whose keys come behind that of i.
+// No `Option`: the definition `last_above` answers the mark, which a link holds.
 fn last_above(words: &[usize], arena: &[u8], head: usize, i: usize) -> usize
     requires { (least_words ≤ length words.now) × (i < most_items) × Bounded (links_of words.now) head }
     ensures by_index { (l : List ℕ) → Chain (links_of words.now) head l → result ≡ last_above (key_of words.now arena.now) i no_item l }
@@ -36,6 +37,7 @@ fn last_above(words: &[usize], arena: &[u8], head: usize, i: usize) -> usize
 {
     let mut last = EMPTY;
     let mut p = head;
+    // A `while`: p goes from link to link, and the chain's end is known only when it is met.
     while p != EMPTY {
         if !comes_before(words, arena, i, p) {
             return last;
@@ -78,12 +80,9 @@ fn chain_members(
     ensures but_links { ButLinks words.old words.new }
     ensures chained_by { ChainedBy form words.old arena.now members.now (length members.now) heads.new (links_of words.new) }
 {
-    let mut k = 0;
-    while k < members.len() {
-        let i = members[k];
+    for &i in members {
         let b = hash_of(words, arena, i, form) % members.len();
         chain_item(words, arena, heads, b, i);
-        k += 1;
     }
 }
 

@@ -9,6 +9,7 @@ use key_hash::hash::{Form, HASH_START, hash_on};
 use words::wide::word_size;
 
 // The hash of item i under a form: the base form's is in its record, the other is made from its key.
+#[tactic(auto, unfolding(crate::specs::Items::hash_for, key_hash::specs::Hash::hash_by))]
 pub fn hash_of(words: &[usize], arena: &[u8], i: usize, form: Form) -> usize
     requires { (least_words ≤ length words.now) × (i < most_items) }
     ensures { result ≡ hash_for form words.now arena.now i }
@@ -21,14 +22,12 @@ pub fn hash_of(words: &[usize], arena: &[u8], i: usize, form: Form) -> usize
 
 // gvdb-rs: HashItemBuilder::set_assigned_index.
 // Stores the index of each item of `items` at the item in `indices`.
+#[tactic(auto, unfolding(crate::specs::Items::indices_put, crate::specs::Items::AllBelow))]
 pub fn index_items(items: &[usize], indices: &mut [usize])
     requires { AllBelow (length indices.old) items.now }
     ensures { indices.new ≡ indices_put indices.old items.now (length items.now) }
 {
-    let mut k = 0;
-    while k < items.len() {
-        let item = items[k];
+    for (k, &item) in items.iter().enumerate() {
         indices[item] = k;
-        k += 1;
     }
 }

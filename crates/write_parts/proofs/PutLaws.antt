@@ -96,11 +96,7 @@ put_record filter numbered l s to at start {hash} {parent} {size} {kind} {stop} 
 
 -- ---- a fragment
 
-pub part_laid : (l arena : List ℕ) (start size at : ℕ) {m : List ℕ} → start + size ≤ length arena → m ≡ put_at l at (part arena start size)
-    → Laid l m at (part arena start size) (at + size)
-part_laid l arena start size at fits e = record { end_is = ap (λ (n : ℕ). at + n) (sym (length_part arena start size fits)); image_is = e }
-
-pub part_end : (numbered arena l : List ℕ) (s at : ℕ) {from size end : ℕ} {m : List ℕ} → from ≡ slot_fragment numbered s → size ≡ slot_fragment_size numbered s
+part_end : (numbered arena l : List ℕ) (s at : ℕ) {from size end : ℕ} {m : List ℕ} → from ≡ slot_fragment numbered s → size ≡ slot_fragment_size numbered s
     → slot_fragment numbered s + slot_fragment_size numbered s ≤ length arena → Laid l m at (part arena from size) end → end ≡ at + slot_fragment_size numbered s
 part_end numbered arena l s at {from} {size} {end} ef es fits laid =
     let e : end ≡ at + length (part arena (slot_fragment numbered s) (slot_fragment_size numbered s)) = rw (← ef, ← es) laid.end_is in

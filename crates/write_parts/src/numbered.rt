@@ -1,4 +1,5 @@
 // Where the words of a numbered table stand (specs/Numbered.antt says what each holds), and how they are read.
+// Flat words in fixed memory: there is no heap, and the definitions go by them.
 ghost use Rattle.std.specs.Prelude.{◌≡◌, ◌+◌, ◌*◌, ◌<◌, length};
 ghost use Rattle.write_parts.specs.Numbered.{head_words, slots_from, slot_size, first_slot, slot_count, slot_word};
 

@@ -19,7 +19,7 @@ use layout::kind::VALUE_KIND;
 use layout::sizes::{FILTER_SIZE, HEAD_SIZE};
 use words::bits::put_bit;
 use words::field::{put_word, word_at};
-use words::store::{put_bytes, put_zeros};
+use words::store::{fill, put};
 
 // The first word of a table without filter words: a shift of 5.
 const FIRST_WORD: u32 = 0x2800_0000;
@@ -47,11 +47,9 @@ fn lay_words(
     requires count_in_bounds { at + 4 * count ≤ length image.old }
     ensures { Laid image.old image.new at (words_of (λ b. get_or numbered.now (from + step * b) 0) count) result }
 {
-    let mut b = 0;
-    while b < count {
+    for b in 0..count {
         let word = numbered[from + step * b];
         put_word(image, at + 4 * b, word as u32);
-        b += 1;
     }
     at + 4 * count
 }
@@ -82,12 +80,10 @@ fn lay_filter(
     if filter == 0 {
         return;
     }
-    put_zeros(image, at, FILTER_SIZE * filter);
-    let mut k = 0;
-    while k < count {
+    fill(image, at, FILTER_SIZE * filter, 0);
+    for k in 0..count {
         let hash = slot_word(numbered, first + k, HASH);
         add_hash(image, at + FILTER_SIZE * (hash / 32 % filter), hash as u32);
-        k += 1;
     }
 }
 
@@ -164,7 +160,7 @@ fn lay_part(arena: &[u8], image: &mut [u8], start: usize, size: usize, at: usize
     ensures { Laid image.old image.new at (part arena.now start size) result }
 {
     let end = start + size;
-    put_bytes(image, at, &arena[start..end]);
+    put(image, at, &arena[start..end]);
     at + size
 }
 
@@ -186,7 +182,7 @@ pub fn lay_key(
     let from = slot_word(numbered, slot, FRAGMENT);
     let size = slot_word(numbered, slot, FRAGMENT_SIZE);
     let end = lay_part(arena, image, from, size, at);
-    put_zeros(image, end, start - end);
+    fill(image, end, start - end, 0);
 }
 
 // gvdb-rs: add_value.

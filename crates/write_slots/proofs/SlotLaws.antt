@@ -1,15 +1,15 @@
 -- The words of a slot and of a numbered table, as the code makes them.
 use mathlib.Core.Path.{◌≡◌, refl, sym, ap, ◌∙◌}
-use mathlib.Core.Bool.{Bool, true, false, not}
-use mathlib.Core.Logic.{⊎_elim}
+use mathlib.Core.Bool.{true, false, not}
 use mathlib.Core.List.{List}
 use Prim.Native.Nat.{ℕ, ◌+◌, ◌-◌, ◌*◌, ◌≤◌, ◌<◌}
 use native.Mathlib.Omega.{arith}
+use borrow.Author.Count.{below_more}
 use borrow.Author.Tests.{eq-eqb, ne_eqb}
 use lib.Dec.{eqb}
 use lib.ListN.{length, get_or, set}
 use lib.Seq.{get_or-set_same, get_or-set_other}
-use Rattle.words.proofs.ChoiceLaws.{pick_true, pick-false, both, eq_or_ne}
+use Rattle.words.proofs.ChoiceLaws.{pick_true, pick-false, both}
 use Rattle.layout.specs.Item.{no_item}
 use Rattle.layout.specs.Kind.{container_kind}
 use Rattle.build_memory.specs.Memory.{item_table, key_size, item_parent, item_kind, value_start, value_size, item_guest}
@@ -20,20 +20,12 @@ use Rattle.write_slots.specs.NumberedAs.{child_test, skipped, parent_word, slot_
 
 -- ---- one word more
 
-module _ (f : ℕ → ℕ) (l : List ℕ) (p v : ℕ) (is : v ≡ f p) where
-  pub set_next : p < length l → ((q : ℕ) → q < p → get_or l q 0 ≡ f q) → (q : ℕ) → q < p + 1 → get_or (set l p v) q 0 ≡ f q
-  set_next h inv q less =
-      ⊎_elim
-      (λ (e : q ≡ p). rw e (get_or-set_same l p v 0 h ∙ is))
-      (λ (n : q ≡ p → ⊥). get_or-set_other l p q v 0 n ∙ inv q (omega arith))
-      (eq_or_ne q p)
-
-  pub set_behind : (at : ℕ) → at + p < length l → ((q : ℕ) → q < p → get_or l (at + q) 0 ≡ f q) → (q : ℕ) → q < p + 1 → get_or (set l (at + p) v) (at + q) 0 ≡ f q
-  set_behind at h inv q less =
-      ⊎_elim
-      (λ (e : q ≡ p). rw e (get_or-set_same l (at + p) v 0 h ∙ is))
-      (λ (n : q ≡ p → ⊥). get_or-set_other l (at + p) (at + q) v 0 (λ (e : at + q ≡ at + p). n (omega arith)) ∙ inv q (omega arith))
-      (eq_or_ne q p)
+pub set_behind : (f : ℕ → ℕ) (l : List ℕ) (at p v : ℕ) → v ≡ f p → at + p < length l → ((q : ℕ) → q < p → get_or l (at + q) 0 ≡ f q) → (q : ℕ) → q < p + 1
+    → get_or (set l (at + p) v) (at + q) 0 ≡ f q
+set_behind f l at p v is h inv =
+    below_more (λ q. get_or (set l (at + p) v) (at + q) 0 ≡ f q) p
+    (λ q less. get_or-set_other l (at + p) (at + q) v 0 (λ (e : at + q ≡ at + p). omega arith) ∙ inv q less)
+    (get_or-set_same l (at + p) v 0 h ∙ is)
 
 pub set_past : (l m : List ℕ) (at p v : ℕ) → ((k : ℕ) → at + p ≤ k → get_or l k 0 ≡ get_or m k 0) → (k : ℕ) → at + (p + 1) ≤ k → get_or (set l (at + p) v) k 0 ≡ get_or m k 0
 set_past l m at p v inv k h = get_or-set_other l (at + p) k v 0 (λ (e : k ≡ at + p). omega arith) ∙ inv k (omega arith)
@@ -59,13 +51,8 @@ module _ (ws : List ℕ) (i : ℕ) where
   pub child_some : child_test ws i ≡ true → item_parent ws i ≡ 0 → ⊥
   unfolding child_test
   child_some e z =
-      let f : not (eqb (item_parent ws i) 0) ≡ true = (both (not (eqb (item_parent ws i) 0)) _ e).0 in
       let g : eqb (item_parent ws i) 0 ≡ true = eq-eqb _ _ z in
-      let x : ◌≡◌ {A = ℕ} 0 1 = clash (eqb (item_parent ws i) 0) f g in absurd (omega arith)
-    where
-      clash : (q : Bool) → not q ≡ true → q ≡ true → ◌≡◌ {A = ℕ} 0 1
-      clash true f g = cc
-      clash false f g = cc
+      let f : false ≡ true = rw g at ((both (not (eqb (item_parent ws i) 0)) _ e).0) in cc
 
   pub skip_none : child_test ws i ≡ false → 0 ≡ skipped ws i
   unfolding skipped
@@ -82,14 +69,6 @@ module _ (ws : List ℕ) (i : ℕ) where
   pub word_own : (roster : List ℕ) → child_test ws i ≡ true → (parent : ℕ) → parent ≡ item_parent ws i → get_or roster (1152 + (parent - 1)) 0 ≡ parent_word ws roster i
   unfolding parent_word item_index
   word_own roster e parent is = ap (λ (p : ℕ). get_or roster (1152 + (p - 1)) 0) is ∙ sym (pick_true (get_or roster (1152 + (item_parent ws i - 1)) 0) no_item e)
-
--- ---- a test that was turned round
-
-pub turned_on : (q r : Bool) → q ≡ r → q ≡ true → r ≡ true
-turned_on q r e f = sym e ∙ f
-
-pub turned_off : (q r : Bool) → q ≡ r → q ≡ false → r ≡ false
-turned_off q r e f = sym e ∙ f
 
 -- ---- the slot of an item, and what depends on its kind
 

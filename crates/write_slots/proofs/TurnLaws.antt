@@ -115,9 +115,6 @@ module _ (form : Form) (ws ar roster firsts : List ℕ) (r : Right ws ar) (ro : 
         );
       }
 
-  pub slots_none : (numbered : List ℕ) → ((s : ℕ) → s < most_items → SlotFits numbered ar s) → NumberedSlots form ws ar roster firsts numbered numbered 0
-  slots_none numbered fit = record { long = refl; is = λ i h. absurd (omega arith); fits = fit; head = λ k h. refl; tail = λ k h. refl }
-
   pub slots_more : (before numbered : List ℕ) (i : ℕ) → length before ≡ numbered_size → i < item_total ws → NumberedSlots form ws ar roster firsts before numbered i
       → NumberedSlots form ws ar roster firsts before (put_at numbered (slots_from + slot_size * slot_of ws roster i) (slot_words ws roster firsts form ar i)) (i + 1)
   slots_more before numbered i long l q =

@@ -23,10 +23,8 @@ fn list_parents(words: &[usize], hashes: &mut [usize])
     ensures { Parents words.now hashes.new }
 {
     let n = words[ITEMS];
-    let mut p = 0;
-    while p < n {
+    for p in 0..n {
         hashes[p] = item_word(words, n - 1 - p, PARENT);
-        p += 1;
     }
 }
 
@@ -53,11 +51,9 @@ pub fn put_children(words: &[usize], roster: &[usize], order: &[usize], numbered
     ensures { NumberedChildren words.now roster.now order.now numbered.old numbered.new }
 {
     let n = words[ITEMS];
-    let mut j = 0;
-    while j < n {
+    for j in 0..n {
         let place = order[j];
         let child = n - 1 - place;
         numbered[CHILDREN_FROM + j] = roster[INDICES_FROM + child];
-        j += 1;
     }
 }

@@ -13,7 +13,7 @@ use crate::slot::put_slot;
 use build_memory::fields::ITEMS;
 use key_hash::hash::Form;
 use layout::limits::MOST_ITEMS;
-use words::store::put_words;
+use words::store::put;
 use write_parts::numbered::SLOTS_FROM;
 
 // Puts the head, which is the roster's, into a clear numbered table.
@@ -21,7 +21,7 @@ fn start_numbered(roster: &[usize], numbered: &mut [usize])
     requires { (length roster.now ≡ roster_size) × (length numbered.old ≡ numbered_size) × Clear numbered.old }
     ensures { NumberedStart roster.now numbered.new }
 {
-    put_words(numbered, 0, &roster[..SLOTS_FROM]);
+    put(numbered, 0, &roster[..SLOTS_FROM]);
 }
 
 // Puts the slots of all items.
@@ -39,11 +39,8 @@ fn put_slots(
     requires numbered_len { (length numbered.old ≡ numbered_size) × ((s : ℕ) → s < most_items → SlotFits numbered.old arena.now s) }
     ensures { NumberedSlots form words.now arena.now roster.now firsts.now numbered.old numbered.new (item_total words.now) }
 {
-    let n = words[ITEMS];
-    let mut i = 0;
-    while i < n {
+    for i in 0..words[ITEMS] {
         put_slot(words, roster, firsts, i, numbered, arena, form);
-        i += 1;
     }
 }
 

@@ -12,7 +12,7 @@ use build_memory::fields::{
 };
 use key_hash::hash::Form;
 use layout::kind::{CONTAINER_KIND, TABLE_KIND, VALUE_KIND};
-use words::store::put_words;
+use words::store::put;
 use write_numbers::roster::{BUCKETS_FROM, INDICES_FROM};
 use write_order::items::hash_of;
 use write_parts::numbered::{HEAD_WORDS, SLOT_SIZE, SLOTS_FROM};
@@ -113,7 +113,7 @@ fn put_front(
     let start = item_word(words, i, KEY) + skip;
     let size = item_word(words, i, KEY_SIZE) - skip;
     let row = [hash, parent, start, size];
-    put_words(numbered, at, &row);
+    put(numbered, at, &row);
 }
 
 // Puts the last four words of an item's slot.
@@ -136,7 +136,7 @@ fn put_back(
     let slot = slot_of(words, roster, i);
     let bucket = roster[BUCKETS_FROM + slot];
     let row = [kind, start, size, bucket];
-    put_words(numbered, at, &row);
+    put(numbered, at, &row);
 }
 
 // Puts the words of an item's slot.

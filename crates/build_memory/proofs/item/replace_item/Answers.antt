@@ -3,4 +3,4 @@ use Rattle.build_memory.proofs.ItemLaws.{item_replaced}
 use Rattle.build_memory.proofs.item.replace_item.Goals as goal
 
 pub returns : goal.returns
-returns c = item_replaced _ _ _ _ _ _ _ _ _ c.put_held.ensures c.put_counts.ensures c.put_bytes.ensures
+returns c = item_replaced _ _ _ _ _ _ _ _ _ c.put_held.ensures c.put_counts.ensures c.put.ensures

@@ -1,14 +1,8 @@
 -- `build_nested::height::held_height` meets its contract. The invariant: `most` is the greatest height among the items passed.
 use Rattle.build_nested.specs.Nest.{held_at}
-use Rattle.build_memory.specs.Memory.{item_total}
 use Rattle.model.specs.Builder as builder
-use Prim.Native.Nat.{◌-◌, ◌≤◌}
 use mathlib.Core.Path.{◌≡◌}
 use Rattle.build_nested.proofs.height.held_height.Given as goal
 
 abbrev pub invariant-loop-i : goal.invariant-loop-i
-invariant-loop-i l =
-    (l.i ≤ item_total l.words) × (l.most ≡ builder.most (held_at l.words l.table) l.i)
-
-abbrev pub decreases-loop-i : goal.decreases-loop-i
-decreases-loop-i l = item_total l.words - l.i
+invariant-loop-i l = l.most ≡ builder.most (held_at l.words l.table) l.i

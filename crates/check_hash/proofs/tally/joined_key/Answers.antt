@@ -1,45 +1,42 @@
--- `check_hash::tally::joined_key` meets its contract: the invariant is `Tallying`, and the measure is the steps left.
-use Rattle.std.proofs.Common.{ℕ, List, sym, refl, ap, ◌∙◌, subst, arith, rules}
+-- `check_hash::tally::joined_key` meets its contract: the invariant is `Tallying`, with the steps left.
+use Rattle.std.specs.Prelude.{Ok}
+use Rattle.std.proofs.Common.{◌≡◌, ℕ, ◌+◌, ◌-◌, ◌<◌, List, sym, ap, ◌∙◌, arith, rules}
+use native.Mathlib.Nat.{sub-zero}
+use Rattle.std.specs.Result.{result_ok}
 use Rattle.key_hash.specs.Hash.{rule_of}
-use Rattle.read_chain.proofs.ChainLaws.{StepFits, climb_fits, fragment_taken}
+use Rattle.read_chain.proofs.ChainLaws.{fragment_taken}
 use Rattle.check_hash.specs.Tally.{prepend}
-use Rattle.check_hash.proofs.KeyLaws.{joined-start, joined_over, joined-refused, joined_root, joined_up}
+use Rattle.check_hash.proofs.KeyLaws.{step_some, step_inside, joined-start, joined_over, joined-refused, joined_root, joined_up}
 use Rattle.check_hash.proofs.tally.joined_key.Goals as goal
 
-pub loop-left-init : goal.loop-left-init
-loop-left-init c = (refl, joined-start _ _ _ _ (search rules))
+pub loop-init : goal.loop-init
+loop-init c = rw (sub-zero c.args.table.count) (joined-start _ _ _ _ (search rules))
 
-pub returns-in-Refused : goal.returns-in-Refused
-returns-in-Refused c =
-    joined-refused _ _ _ _ c.loop-left.invariant.1 c.loop-left-test.true c.item_at-item.ensures (sym c.climb.ensures ∙ c.in-Refused.is)
+pub returns-in_err-step : goal.returns-in_err-step
+returns-in_err-step c =
+    let told = joined-refused _ _ _ _ c.loop.invariant (omega arith) c.item_at-item.ensures (c.ok.ensures.value ∙ ap result_ok c.climb.ensures) c.in_err-step.was in
+    simp (sym told) (search rules)
 
 pub slice_bounds-prepend_all-end : goal.slice_bounds-prepend_all-end
-unfolding StepFits
 slice_bounds-prepend_all-end c =
-    let fits = subst (StepFits c.args.file.now c.args.table.count c.item_at-item.result) (sym c.climb.ensures ∙ c.in-Root.is) (climb_fits c.args.file.now c.args.table.count c.item_at-item.result) in
-    omega (arith, fits, c.word_size-start.ensures.0, c.half_size-part.ensures.0)
+    let step = sym c.climb.ensures ∙ step_some _ c.ok.ensures.value c.in_ok-step.was in
+    omega (arith, step_inside _ _ _ step, c.word_size-start.ensures.0, c.half_size-part.ensures.0)
 
-pub returns-in-Root : goal.returns-in-Root
-returns-in-Root c =
-    joined_root _ _ _ _ c.loop-left.invariant.1 c.loop-left-test.true c.item_at-item.ensures c.half_size-part.ensures.0
-    (c.prepend_all.ensures ∙ ap (λ (l : List ℕ). prepend (rule_of c.args.form) l c.loop-left.tally) (fragment_taken _ _ c.word_size-start.ensures.0 c.half_size-part.ensures.0))
-    (sym c.climb.ensures ∙ c.in-Root.is)
-    c.finished.ensures
+pub returns-in_default : goal.returns-in_default
+returns-in_default c =
+    let step = sym c.climb.ensures ∙ step_some _ c.ok.ensures.value c.in_ok-step.was ∙ ap Ok c.in_default.is in
+    let fragment = fragment_taken _ _ c.word_size-start.ensures.0 c.half_size-part.ensures.0 in
+    let tally = c.prepend_all-tally.ensures ∙ ap (λ (l : List ℕ). prepend (rule_of c.args.form) l c.loop.tally) fragment in
+    joined_root _ _ _ _ c.loop.invariant (omega arith) c.item_at-item.ensures c.half_size-part.ensures.0 tally step c.finished.ensures
 
-pub slice_bounds-prepend_all-end-in-Up : goal.slice_bounds-prepend_all-end-in-Up
-unfolding StepFits
-slice_bounds-prepend_all-end-in-Up c =
-    let fits = (subst (StepFits c.args.file.now c.args.table.count c.item_at-item.result) (sym c.climb.ensures ∙ c.in-Up.is) (climb_fits c.args.file.now c.args.table.count c.item_at-item.result)).0 in
-    omega (arith, fits, c.word_size-start.ensures.0, c.half_size-part.ensures.0)
-
-pub loop-left-preserved : goal.loop-left-preserved
-loop-left-preserved c = (
-  refl,
-  joined_up _ _ _ _ c.loop-left.invariant.1 c.loop-left-test.true c.item_at-item.ensures c.half_size-part.ensures.0
-      (c.prepend_all-tally.ensures ∙ ap (λ (l : List ℕ). prepend (rule_of c.args.form) l c.loop-left.tally) (fragment_taken _ _ c.word_size-start.ensures.0 c.half_size-part.ensures.0))
-      c.half_size-part.ensures.1
-      (sym c.climb.ensures ∙ c.in-Up.is),
-)
+pub loop-preserved : goal.loop-preserved
+loop-preserved c =
+    let left : c.args.table.count - c.loop.counter - 1 ≡ c.args.table.count - (c.loop.counter + 1) = omega arith in
+    let more : 0 < c.args.table.count - c.loop.counter = omega arith in
+    let step = sym c.climb.ensures ∙ step_some _ c.ok.ensures.value c.in_ok-step.was ∙ ap Ok c.in-Some.is in
+    let fragment = fragment_taken _ _ c.word_size-start.ensures.0 c.half_size-part.ensures.0 in
+    let tally = c.prepend_all-tally.ensures ∙ ap (λ (l : List ℕ). prepend (rule_of c.args.form) l c.loop.tally) fragment in
+    rw (← left) (joined_up _ _ _ _ c.loop.invariant more c.item_at-item.ensures c.half_size-part.ensures.0 tally c.half_size-part.ensures.1 step)
 
 pub returns : goal.returns
-returns c = joined_over _ _ _ _ c.loop-left.invariant.1 c.loop-left-test.false
+returns c = joined_over _ _ _ _ c.loop.invariant (omega arith)

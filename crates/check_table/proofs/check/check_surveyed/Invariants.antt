@@ -8,6 +8,3 @@ use Rattle.check_table.proofs.check.check_surveyed.Given as goal
 abbrev pub invariant-loop-at : goal.invariant-loop-at
 invariant-loop-at l =
     (l.at ≤ l.stop) × (explained l.file l.table (first_broken (broken_rule (manner_of l.manner) l.file l.table) (l.table.count - l.at) l.at) ≡ check_in (manner_of l.manner) l.file l.table)
-
-abbrev pub decreases-loop-at : goal.decreases-loop-at
-decreases-loop-at l = l.table.count - l.at

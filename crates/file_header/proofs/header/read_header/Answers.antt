@@ -1,17 +1,9 @@
 -- `file_header::header::read_header` meets its contract: the lengths, then the signature as one number.
-use borrow.Author.Tests.{lt-ltb, le-ltb}
+use borrow.Author.Tests.{le-ltb}
 use Rattle.words.specs.Choice.{pick}
 use Rattle.file_header.specs.Header.{read_header}
 use Rattle.file_header.proofs.HeaderLaws.{little_spells, big_spells, signed, not-signed}
 use Rattle.file_header.proofs.header.read_header.Goals as goal
-
-pub returns-then-file-gt-LONGEST_FILE : goal.returns-then-file-gt-LONGEST_FILE
-unfolding read_header pick
-returns-then-file-gt-LONGEST_FILE c = simp (lt-ltb _ _ c.if-file-gt-LONGEST_FILE.true)
-
-pub returns-then-file-lt-HEADER_SIZE : goal.returns-then-file-lt-HEADER_SIZE
-unfolding read_header pick
-returns-then-file-lt-HEADER_SIZE c = simp (le-ltb _ _ c.if-file-gt-LONGEST_FILE.false, lt-ltb _ _ c.if-file-lt-HEADER_SIZE.true)
 
 pub returns-then-found-eq-LITTLE : goal.returns-then-found-eq-LITTLE
 unfolding read_header pick

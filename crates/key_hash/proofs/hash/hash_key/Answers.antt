@@ -2,9 +2,6 @@
 use Rattle.key_hash.specs.Hash.{hash_by}
 use Rattle.key_hash.proofs.hash.hash_key.Goals as goal
 
-pub returns-in-Plain : goal.returns-in-Plain
-returns-in-Plain c = rw c.in-Plain.is c.djb_hash.ensures
-
 pub returns-in-Signed : goal.returns-in-Signed
 unfolding hash_by
 returns-in-Signed c = rw c.in-Signed.is c.hash_on.ensures

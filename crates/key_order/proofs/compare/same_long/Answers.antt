@@ -1,36 +1,23 @@
--- `key_order::compare::same_long` meets its contract. The invariant: the texts are equal up to i.
-use mathlib.Core.Path.{refl, sym, ◌∙◌}
-use Prim.Native.Nat.{ℕ, ◌-◌, ◌<◌}
+-- `key_order::compare::same_long` meets its contract. The invariant: the texts are equal over i strides.
+use mathlib.Core.Path.{sym, ◌∙◌}
+use Prim.Native.Nat.{◌-◌, ◌*◌}
 use native.Mathlib.Omega.{arith}
-use lib.ListN.{length, get_or}
-use Rattle.key_order.proofs.CompareLaws.{same_little_endian, same_turn, same_last}
+use lib.ListN.{length}
+use Rattle.words.proofs.FieldLaws.{bytes_below}
+use Rattle.key_order.proofs.CompareLaws.{same_little_endian, same_stride, same_last}
 use Rattle.key_order.proofs.compare.same_long.Goals as goal
-
-pub loop-i-init : goal.loop-i-init
-loop-i-init c = (omega arith, refl)
 
 pub returns-then-long_at : goal.returns-then-long_at
 returns-then-long_at c =
-    let args = c.args in
-    sym (same_little_endian 8 args.a.now args.b.now c.loop-i.i
-    (λ e. c.if-long_at.true (c.long_at.ensures ∙ e ∙ sym c.long_at-in-loop-i.ensures)))
+    sym (same_little_endian 8 c.args.a.now c.args.b.now (8 * c.loop-i.i) (λ e. c.if-long_at.true (c.long_at.ensures ∙ e ∙ sym c.long_at-in-loop-i.ensures)))
 
 pub loop-i-preserved : goal.loop-i-preserved
 loop-i-preserved c =
-    let a = c.args.a.now in
-    let b = c.args.b.now in
-    let bytes-a : (i : ℕ) → get_or a i 0 < 256 = λ i. omega (arith, c.type_inv.a i) in
-    let bytes-b : (i : ℕ) → get_or b i 0 < 256 = λ i. omega (arith, c.type_inv.b i) in (
-      omega arith,
-      same_turn 8 a b bytes-a bytes-b c.loop-i.i (omega arith) (omega arith) c.loop-i.invariant.1
-          (sym c.long_at.ensures ∙ c.if-long_at.false ∙ c.long_at-in-loop-i.ensures),
-    )
+    same_stride _ _ c.type_inv.a c.type_inv.b c.loop-i.i (omega arith) (omega arith) c.loop-i.invariant c.long_at.ensures c.long_at-in-loop-i.ensures c.if-long_at.false
 
 pub returns : goal.returns
 returns c =
     let a = c.args.a.now in
     let b = c.args.b.now in
-    let bytes-a : (i : ℕ) → get_or a i 0 < 256 = λ i. omega (arith, c.type_inv.a i) in
-    let bytes-b : (i : ℕ) → get_or b i 0 < 256 = λ i. omega (arith, c.type_inv.b i) in
     rw (c.long_at-2.ensures, c.long_at-3.ensures)
-    (same_last 8 a b bytes-a bytes-b c.loop-i.i (length a - 8) (omega arith) c.requires.0 (omega arith) c.loop-i.invariant.1)
+    (same_last 8 a b (bytes_below a c.type_inv.a) (bytes_below b c.type_inv.b) (8 * c.loop-i.i) (length a - 8) (omega arith) c.requires.0 (omega arith) c.loop-i.invariant)

@@ -1,7 +1,8 @@
 -- `key_order::compare::same_words` meets its contract: two stretches cover the texts (`same_two`).
-use Prim.Native.Nat.{ℕ, ◌-◌, ◌<◌}
+use Prim.Native.Nat.{◌-◌}
 use native.Mathlib.Omega.{arith}
-use lib.ListN.{length, get_or}
+use lib.ListN.{length}
+use Rattle.words.proofs.FieldLaws.{bytes_below}
 use Rattle.key_order.proofs.CompareLaws.{same_two}
 use Rattle.key_order.proofs.compare.same_words.Goals as goal
 
@@ -9,7 +10,5 @@ pub returns : goal.returns
 returns c =
     let a = c.args.a.now in
     let b = c.args.b.now in
-    let bytes-a : (i : ℕ) → get_or a i 0 < 256 = λ i. omega (arith, c.type_inv.a i) in
-    let bytes-b : (i : ℕ) → get_or b i 0 < 256 = λ i. omega (arith, c.type_inv.b i) in
     rw (c.word_at.ensures, c.word_at-2.ensures, c.word_at-3.ensures, c.word_at-4.ensures)
-    (same_two 4 a b bytes-a bytes-b (length a - 4) (omega arith) c.requires.0 (omega arith))
+    (same_two 4 a b (bytes_below a c.type_inv.a) (bytes_below b c.type_inv.b) (length a - 4) (omega arith) c.requires.0 (omega arith))

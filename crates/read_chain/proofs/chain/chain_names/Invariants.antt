@@ -1,10 +1,8 @@
--- `read_chain::chain::chain_names` meets its contract: the invariant is `Climbing`, and the measure is the steps left.
+-- `read_chain::chain::chain_names` meets its contract: the invariant is `Climbing`, with the steps that are left.
+use Prim.Native.Nat.{◌-◌}
 use Rattle.read_chain.proofs.MatchLaws.{Climbing}
 use Rattle.read_chain.proofs.chain.chain_names.Given as goal
 
-abbrev pub invariant-loop-left : goal.invariant-loop-left
-invariant-loop-left l =
-    Climbing l.file l.table l.index l.key l.at l.end l.left
-
-abbrev pub decreases-loop-left : goal.decreases-loop-left
-decreases-loop-left l = l.left
+abbrev pub invariant-loop : goal.invariant-loop
+invariant-loop l =
+    Climbing l.file l.table l.index l.key l.at l.rest (l.table.count - l.counter)

@@ -1,21 +1,8 @@
--- `read_find::find::first_of` meets its contract: what the search has still to say from here is what it had to say from the start.
-use Rattle.read_find.specs.Find.{first_of}
-use Rattle.read_find.proofs.FindLaws.{first_past, first_hit, first_on, first_over}
+-- `read_find::find::first_of` meets its contract: the test is that of an item.
+use Rattle.std.proofs.Common.{rules}
+use Rattle.read_find.specs.Find.{first_of, item_matches, manner_of}
 use Rattle.read_find.proofs.find.first_of.Goals as goal
-
-pub returns-then-count-at : goal.returns-then-count-at
-unfolding first_of
-returns-then-count-at c = first_past _ _ _ _ c.loop-at.invariant c.loop-at-test.true c.if-count-at.true
-
-pub returns-then-item_matches : goal.returns-then-item_matches
-unfolding first_of
-returns-then-item_matches c =
-    first_hit _ _ _ _ c.loop-at.invariant c.loop-at-test.true c.if-count-at.false c.item_matches.ensures c.if-item_matches.true
-
-pub loop-at-preserved : goal.loop-at-preserved
-loop-at-preserved c =
-    first_on _ _ _ _ c.loop-at.invariant c.loop-at-test.true c.if-count-at.false c.item_matches.ensures c.if-item_matches.false
 
 pub returns : goal.returns
 unfolding first_of
-returns c = first_over _ _ _ _ c.loop-at.invariant c.loop-at-test.false
+returns c = c.first_in.ensures (item_matches (manner_of c.args.manner) c.args.file.now c.args.table c.args.key.now) (λ at below told post. search rules)

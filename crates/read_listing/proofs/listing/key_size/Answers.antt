@@ -1,23 +1,21 @@
--- `read_listing::listing::key_size` meets its contract: the invariant is `Measuring`, and the measure is the steps left.
-use mathlib.Core.Path.{refl, sym, ◌∙◌}
+-- `read_listing::listing::key_size` meets its contract: the invariant is `Measuring`, with the steps left.
+use Rattle.std.specs.Prelude.{◌≡◌, ◌+◌, ◌-◌, Ok}
+use Rattle.std.proofs.Common.{arith}
+use mathlib.Core.Path.{sym, ◌∙◌, ap, subst}
+use native.Mathlib.Nat.{sub-zero}
 use borrow.Author.Rules.{rules}
-use Rattle.read_listing.proofs.MeasureLaws.{measure-start, measure_over, measure-refused, measure_root, measure_up}
+use Rattle.read_listing.proofs.MeasureLaws.{Measuring, measure-start, measure-refused, measure_up}
 use Rattle.read_listing.proofs.listing.key_size.Goals as goal
 
-pub loop-left-init : goal.loop-left-init
-loop-left-init c = (refl, measure-start _ _ _ (search rules))
+pub loop-init : goal.loop-init
+loop-init c = rw (sub-zero c.args.table.count) (measure-start _ _ _ (search rules))
 
-pub returns-in-Refused : goal.returns-in-Refused
-returns-in-Refused c =
-    measure-refused _ _ _ c.loop-left.invariant.1 c.loop-left-test.true c.item_at-item.ensures (sym c.climb.ensures ∙ c.in-Refused.is)
+pub returns-in_err-parent : goal.returns-in_err-parent
+returns-in_err-parent c =
+    simp (sym (measure-refused _ _ _ c.loop.invariant (omega arith) c.item_at-item.ensures (sym c.climb.ensures ∙ c.in_err-parent.was))) (search rules)
 
-pub returns-in-Root : goal.returns-in-Root
-returns-in-Root c =
-    measure_root _ _ _ c.loop-left.invariant.1 c.loop-left-test.true c.item_at-item.ensures c.half_size-total.ensures.0 (sym c.climb.ensures ∙ c.in-Root.is)
-
-pub loop-left-preserved : goal.loop-left-preserved
-loop-left-preserved c =
-    (refl, measure_up _ _ _ c.loop-left.invariant.1 c.loop-left-test.true c.item_at-item.ensures c.half_size-total.ensures.0 c.half_size-total.ensures.1 (sym c.climb.ensures ∙ c.in-Up.is))
-
-pub returns : goal.returns
-returns c = measure_over _ _ _ c.loop-left.invariant.1 c.loop-left-test.false
+pub loop-preserved : goal.loop-preserved
+loop-preserved c =
+    let step = sym c.climb.ensures ∙ c.in_ok-parent.was ∙ ap Ok c.in-Some.is in
+    let left : c.args.table.count - c.loop.counter - 1 ≡ c.args.table.count - (c.loop.counter + 1) = omega arith in
+    subst (Measuring _ _ _ _ _) left (measure_up _ _ _ c.loop.invariant (omega arith) c.item_at-item.ensures c.half_size-total.ensures.0 c.half_size-total.ensures.1 step)

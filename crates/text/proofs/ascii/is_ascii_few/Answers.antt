@@ -1,23 +1,14 @@
 -- `text::ascii::is_ascii_few` meets its contract. The invariant: the text is ASCII just where what is left of it is.
-use mathlib.Core.Path.{refl, sym, ◌∙◌}
+use mathlib.Core.Path.{sym, ◌∙◌}
 use native.Mathlib.Omega.{arith}
 use Rattle.text.proofs.AsciiLaws.{byte_high, byte_low, bytes_end}
 use Rattle.text.proofs.ascii.is_ascii_few.Goals as goal
 
-pub loop-i-init : goal.loop-i-init
-loop-i-init c = (omega arith, refl)
+pub returns-then-b-gt127 : goal.returns-then-b-gt127
+returns-then-b-gt127 c = sym (c.loop-b.invariant ∙ byte_high c.args.s.now c.loop-b.b-index c.loop-b-test.true c.if-b-gt127.true)
 
-pub returns-then-s-i-gt127 : goal.returns-then-s-i-gt127
-returns-then-s-i-gt127 c =
-    let s = c.args.s.now in
-    sym (c.loop-i.invariant.1 ∙ byte_high s c.loop-i.i (omega arith) c.if-s-i-gt127.true)
-
-pub loop-i-preserved : goal.loop-i-preserved
-loop-i-preserved c =
-    let s = c.args.s.now in
-    (omega arith, c.loop-i.invariant.1 ∙ byte_low s c.loop-i.i (omega arith) c.if-s-i-gt127.false)
+pub loop-b-preserved : goal.loop-b-preserved
+loop-b-preserved c = c.loop-b.invariant ∙ byte_low c.args.s.now c.loop-b.b-index c.loop-b-test.true c.if-b-gt127.false
 
 pub returns : goal.returns
-returns c =
-    let s = c.args.s.now in
-    sym (c.loop-i.invariant.1 ∙ bytes_end s c.loop-i.i (omega arith))
+returns c = sym (c.loop-b.invariant ∙ bytes_end c.args.s.now c.loop-b.b-index (omega arith))

@@ -22,10 +22,6 @@ pub overflow_add-at : goal.overflow_add-at
 overflow_add-at c =
     omega (arith, room c.args.s.now c.loop-at.at _ (omega arith) c.step_len-step.ensures)
 
-pub loop-at-smaller : goal.loop-at-smaller
-loop-at-smaller c =
-    omega (arith, room c.args.s.now c.loop-at.at _ (omega arith) c.step_len-step.ensures)
-
 pub loop-at-preserved : goal.loop-at-preserved
 loop-at-preserved c =
     let s = c.args.s.now in

@@ -1,11 +1,8 @@
--- `words::field::put_half` meets its contract: two stores are the one store of the definition (`two_stores`).
-use native.Mathlib.Omega.{arith}
-use lib.ListN.{length-set}
-use Rattle.words.proofs.FieldLaws.{two_stores}
+-- `words::field::put_half` meets its contract: the library spells the bytes that are stored (`spelled_half`).
+use mathlib.Core.Path.{ap, ◌∙◌}
+use Rattle.words.specs.Store.{put_at}
+use Rattle.words.proofs.FieldLaws.{spelled_half}
 use Rattle.words.proofs.field.put_half.Goals as goal
 
-pub bounds-out-at-2 : goal.bounds-out-at-2
-bounds-out-at-2 c = simp length-set (omega arith)
-
 pub returns : goal.returns
-returns c = two_stores _ _ _
+returns c = c.put.ensures ∙ ap (put_at c.args.out.now c.args.at) (c.to_le_bytes.ensures ∙ spelled_half c.args.w)

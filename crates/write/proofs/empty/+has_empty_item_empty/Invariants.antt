@@ -1,7 +1,8 @@
 -- The cycle of `write::empty::has_empty` and `write::empty::item_empty` meets both contracts. The measure is twice the depth left, and one
--- more for an item. The invariant of the loop: no item passed has an empty key.
+-- more for an item. The invariant of the loop: the table's slots are slots that there are, and no item passed has an empty key.
 use Rattle.std.proofs.Common.{◌-◌, ◌≡◌, ◌+◌, ◌≤◌, false}
 use Rattle.key_hash.specs.Hash.{rule_of}
+use Rattle.layout.specs.Limits.{most_items}
 use Rattle.write.proofs.EmptyLaws.{found_below_lem}
 use Rattle.write.proofs.empty.+has_empty_item_empty.Given as goal
 
@@ -13,9 +14,6 @@ decreases-item_empty l = l.depth + l.depth + 1
 
 abbrev pub invariant-has_empty-loop-k : goal.invariant-has_empty-loop-k
 invariant-has_empty-loop-k l = record {
-  count : l.k ≤ l.count;
+  few : l.first + l.count ≤ most_items;
   none : found_below_lem (rule_of l.form) l.words l.arena l.table (l.depth - 1) l.k ≡ false;
 }
-
-abbrev pub decreases-has_empty-loop-k : goal.decreases-has_empty-loop-k
-decreases-has_empty-loop-k l = l.count - l.k

@@ -1,7 +1,5 @@
 -- `write::write::write_if_fits` meets its contract, answer by answer.
-use Prim.Native.Nat.{◌≤◌}
 use native.Mathlib.Omega.{arith}
-use Rattle.layout.specs.Limits.{most_items, most_filter}
 use Rattle.write_bytes.proofs.MeasureLaws.{end_is, long_is}
 use Rattle.write.proofs.AnswerLaws.{numbered_long, numbered_wide, numbered_laid}
 use Rattle.write.proofs.write.write_if_fits.Goals as goal
@@ -18,45 +16,27 @@ returns-in_default c =
 pub returns-then-image-size : goal.returns-then-image-size
 returns-then-image-size c =
     let a = c.args in
-    let e = end_is _ c.measure.ensures c.in-End.is in
+    let e = end_is _ c.measure.ensures c.in-Some.is in
     let g = numbered_wide a.filter a.numbered.now a.arena.now a.image.now a.table (omega (arith, e.0, c.if-image-size.true)) in
     record {
       value = g.answers;
       image_after = g.lays;
     }
 
-pub lay_into-requires : goal.lay_into-requires
-lay_into-requires c =
-    let e = end_is _ c.measure.ensures c.in-End.is in
-    record {
-      numbered_fits = c.requires.numbered_fits;
-      table_lt_most_tables = (c.requires.table_lt_most_tables.0, c.requires.table_lt_most_tables.1, e.0);
-      size_in_bounds = (omega (arith, c.if-image-size.false), e.1);
-    }
+pub lay_into-requires-clause-table_lt_most_tables : goal.lay_into-requires-clause-table_lt_most_tables
+lay_into-requires-clause-table_lt_most_tables c =
+    (c.requires.table_lt_most_tables.0, c.requires.table_lt_most_tables.1, (end_is _ c.measure.ensures c.in-Some.is).0)
 
-pub overflow_mul-chunk-2 : goal.overflow_mul-chunk-2
-overflow_mul-chunk-2 c =
-    omega (arith, c.slot_count.ensures, c.requires.numbered_fits.tables c.args.table c.requires.table_lt_most_tables.0)
-
-pub overflow_add-chunk-2 : goal.overflow_add-chunk-2
-overflow_add-chunk-2 c =
-    omega (arith, c.slot_count.ensures, c.requires.numbered_fits.tables c.args.table c.requires.table_lt_most_tables.0)
-
-pub overflow_add-end : goal.overflow_add-end
-overflow_add-end c =
-    omega (arith, c.slot_count.ensures, c.requires.numbered_fits.tables c.args.table c.requires.table_lt_most_tables.0)
-
-pub overflow_cast-result-2 : goal.overflow_cast-result-2
-overflow_cast-result-2 c =
-    omega (arith, c.slot_count.ensures, c.requires.numbered_fits.tables c.args.table c.requires.table_lt_most_tables.0)
+pub lay_into-requires-clause-size_in_bounds : goal.lay_into-requires-clause-size_in_bounds
+lay_into-requires-clause-size_in_bounds c = (c.if-image-size.false, (end_is _ c.measure.ensures c.in-Some.is).1)
 
 pub overflow_cast-result-3 : goal.overflow_cast-result-3
-overflow_cast-result-3 c = let e = end_is _ c.measure.ensures c.in-End.is in omega (arith, e.1)
+overflow_cast-result-3 c = let e = end_is _ c.measure.ensures c.in-Some.is in omega (arith, e.1)
 
 pub returns : goal.returns
 returns c =
     let a = c.args in
-    let e = end_is _ c.measure.ensures c.in-End.is in
+    let e = end_is _ c.measure.ensures c.in-Some.is in
     let g = numbered_laid a.filter a.numbered.now a.arena.now a.image.now a.table _ _ _ e.0 e.1 (omega (arith, c.if-image-size.false)) c.slot_count.ensures c.lay_into.ensures in
     record {
       value = g.answers;

@@ -16,13 +16,8 @@ returns-then-has_empty c =
       image_after = g.lays;
     }
 
-pub fill_numbered-requires : goal.fill_numbered-requires
-fill_numbered-requires c =
-    record {
-      arena_value = c.requires.arena_value;
-      rostered = c.requires.rostered;
-      numbered_len = (length-replicate {A = ℕ} numbered_size 0, λ k h. get_or-replicate {A = ℕ} numbered_size k 0 0 h);
-    }
+pub fill_numbered-requires-clause-numbered_len : goal.fill_numbered-requires-clause-numbered_len
+fill_numbered-requires-clause-numbered_len c = (length-replicate {A = ℕ} numbered_size 0, λ k h. get_or-replicate {A = ℕ} numbered_size k 0 0 h)
 
 pub returns : goal.returns
 returns c =

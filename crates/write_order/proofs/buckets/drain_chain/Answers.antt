@@ -68,9 +68,6 @@ loop-p-init c =
       order-long = refl;
     }
 
-pub offset_bounds-order-end : goal.offset_bounds-order-end
-offset_bounds-order-end c = let t = turn c.loop-p.invariant c.loop-p-test.true in omega (arith, t.linked, t.room)
-
 pub bounds-order-end : goal.bounds-order-end
 bounds-order-end c = let t = turn c.loop-p.invariant c.loop-p-test.true in omega (arith, t.room)
 
@@ -86,20 +83,11 @@ offset_bounds-links-p-in-loop-p c = let t = turn c.loop-p.invariant c.loop-p-tes
 pub bounds-links-p-in-loop-p : goal.bounds-links-p-in-loop-p
 bounds-links-p-in-loop-p c = let t = turn c.loop-p.invariant c.loop-p-test.true in omega (arith, t.linked)
 
-pub overflow_add-end : goal.overflow_add-end
-overflow_add-end c = let t = turn c.loop-p.invariant c.loop-p-test.true in omega (arith, t.room)
-
 pub loop-p-smaller : goal.loop-p-smaller
 loop-p-smaller c = let t = turn c.loop-p.invariant c.loop-p-test.true in omega (arith, t.room)
 
 pub loop-p-preserved : goal.loop-p-preserved
 loop-p-preserved c = (turn c.loop-p.invariant c.loop-p-test.true).next
-
-pub shape_of-links : goal.shape_of-links
-shape_of-links c = c.loop-p.invariant.links_long
-
-pub shape_of-order : goal.shape_of-order
-shape_of-order c = c.loop-p.invariant.order-long
 
 pub returns : goal.returns
 returns c = drained c.loop-p.invariant c.loop-p-test.false

@@ -7,7 +7,7 @@ use Prim.Native.Nat.{ℕ, ◌+◌, ◌≤◌, ◌<◌}
 use native.Mathlib.Nat.{eq-or-lt_of_le}
 use native.Mathlib.Numerals.{add-one}
 use native.Mathlib.Omega.{arith}
-use lib.ListN.{length, get_or, set, length-set, length-append}
+use lib.ListN.{length, get_or, set, length-append}
 use Rattle.words.proofs.StoreLaws.{put-none, put-append, put_snoc}
 use Rattle.words.proofs.ChoiceLaws.{lt_or_ge}
 use Rattle.model.specs.Table.{times}
@@ -15,26 +15,20 @@ use Rattle.layout.specs.Item.{no_item}
 use Rattle.build_memory.specs.Meaning.{listed}
 use Rattle.build_memory.proofs.MeaningLaws.{length-listed}
 use Rattle.write_order.specs.Fall.{joined}
-use Rattle.write_order.specs.Chain.{Empty, Chains, HasChains, Indexed, cleared, Ended, DrainedOf, Drained}
+use Rattle.write_order.specs.Chain.{Empty, Chains, cleared, Ended, DrainedOf, Drained}
 use Rattle.write_order.proofs.ChainLaws.{cleared_other, cleared_here, chain_cleared, joined_fits}
-use Rattle.write_order.proofs.buckets.index_all.Invariants.{starting, Buckets, Taken}
+use Rattle.write_order.proofs.buckets.index_all.Invariants.{starting, Buckets}
 use Rattle.write_order.proofs.buckets.index_all.Goals as goal
 
 -- at the first bucket every chain stands
-begin : (n : ℕ) (heads links order firsts : List ℕ) → Taken n heads links order firsts links order firsts 0 0
+begin : {lists : ℕ → List ℕ} (n : ℕ) (heads links order firsts : List ℕ) → Chains lists n heads links → Buckets lists n heads order firsts links order firsts 0 0
 unfolding joined listed
-begin n heads links order firsts = record {
-  within = omega arith;
-  buckets = λ lists c. record {
-    end_is = refl;
-    order_is = sym (put-none order 0);
-    firsts_is = sym (put-none firsts 0);
-    later = λ d _ l. c.chain d l;
-    clear = λ x l none. c.clear x l (λ d h. none d (omega arith) h);
-  };
-  links_long = refl;
-  order-long = refl;
-  firsts-long = refl;
+begin n heads links order firsts c = record {
+  end_is = refl;
+  order_is = sym (put-none order 0);
+  firsts_is = sym (put-none firsts 0);
+  later = λ d _ l. c.chain d l;
+  clear = λ x l none. c.clear x l (λ d h. none d (omega arith) h);
 }
 
 -- once a chain is drained, one list more is in `order`
@@ -64,76 +58,26 @@ module _ {lists : ℕ → List ℕ} {n : ℕ} {heads links₀ order₀ firsts₀
         clear = λ x l none. rw r.links_is (clear_next x (omega (arith, long)) none);
       }
 
-module _ {n : ℕ} {heads links₀ order₀ firsts₀ links order firsts : List ℕ} {b end : ℕ} (t : Taken n heads links₀ order₀ firsts₀ links order firsts b end) where
   -- the next chain can be drained
-  ended : b < n → n ≤ length order₀ → HasChains n heads links₀ → Ended links (get_or heads b 0) (length order) end
-  ended more room st =
-      let s = t.buckets st.lists st.chains in
-      record {
-        places = st.lists b;
-        chain = s.later b (omega arith) more;
-        once = st.chains.once b;
-        fits = omega (arith, joined_fits st.lists b n more, st.chains.few, s.end_is, t.order-long);
-      }
-
-  step : {links' order' : List ℕ} {end' : ℕ} → b < n → length links' ≡ length links → length order' ≡ length order
-      → Drained links links' order order' (get_or heads b 0) end end' → Taken n heads links₀ order₀ firsts₀ links' order' (set firsts b end) (b + 1) end'
-  step more long same d = record {
-    within = omega arith;
-    buckets = λ lists c. next c (t.buckets lists c) more long d;
-    links_long = long ∙ t.links_long;
-    order-long = same ∙ t.order-long;
-    firsts-long = length-set firsts b end ∙ t.firsts-long;
+  ended : n ≤ length order → Ended links (get_or heads b 0) (length order) end
+  ended room = record {
+    places = lists b;
+    chain = s.later b (omega arith) more;
+    once = c.once b;
+    fits = omega (arith, joined_fits lists b n more, c.few, s.end_is);
   }
 
-  -- after the last bucket
-  finish : n ≤ b → HasChains n heads links₀ → ((lists : ℕ → List ℕ) → Chains lists n heads links₀ → Indexed lists n order₀ order firsts₀ firsts) × Empty links
-  unfolding Empty
-  finish last st =
-      let e : b ≡ n = omega (arith, t.within) in (
-        λ lists c. let s = t.buckets lists c in record { order_is = rw e at s.order_is; firsts_is = rw e at s.firsts_is },
-        λ x l. (t.buckets st.lists st.chains).clear x l (λ d low high. absurd (omega arith)),
-      )
-
 pub loop-b-init : goal.loop-b-init
-loop-b-init c = begin _ _ _ _ _
-
-pub offset_bounds-heads-b : goal.offset_bounds-heads-b
-offset_bounds-heads-b c = omega (arith, c.requires.n_in_bounds, c.well_formed, c.loop-b-test.true)
-
-pub bounds-heads-b : goal.bounds-heads-b
-bounds-heads-b c = omega (arith, c.requires.n_in_bounds, c.loop-b-test.true)
+loop-b-init c = λ lists h. begin _ _ _ _ _ h
 
 pub drain_chain-next-requires : goal.drain_chain-next-requires
-drain_chain-next-requires c = ended c.loop-b.invariant c.loop-b-test.true c.requires.n_in_bounds.1.in_order c.requires.has_chains
-
-pub offset_bounds-firsts-b : goal.offset_bounds-firsts-b
-offset_bounds-firsts-b c =
-    omega (arith, c.requires.n_in_bounds, c.well_formed, c.loop-b.invariant.firsts-long, c.loop-b-test.true)
-
-pub bounds-firsts-b : goal.bounds-firsts-b
-bounds-firsts-b c = omega (arith, c.requires.n_in_bounds, c.loop-b.invariant.firsts-long, c.loop-b-test.true)
-
-pub overflow_add-b : goal.overflow_add-b
-overflow_add-b c = omega (arith, c.requires.n_in_bounds, c.loop-b-test.true)
-
-pub loop-b-smaller : goal.loop-b-smaller
-loop-b-smaller c = omega (arith, c.loop-b-test.true)
+drain_chain-next-requires c =
+    let h = c.requires.has_chains.chains in ended h (c.loop-b.invariant _ h) c.loop-b-test.true (omega (arith, c.requires.n_in_bounds.1.in_order))
 
 pub loop-b-preserved : goal.loop-b-preserved
-loop-b-preserved c =
-    step c.loop-b.invariant c.loop-b-test.true c.drain_chain-next.auto.links c.drain_chain-next.auto.order c.drain_chain-next.ensures
+loop-b-preserved c = λ lists h. next h (c.loop-b.invariant lists h) c.loop-b-test.true c.drain_chain-next.auto.links c.drain_chain-next.ensures
 
-pub shape_of-links : goal.shape_of-links
-shape_of-links c = c.loop-b.invariant.links_long
-
-pub shape_of-order : goal.shape_of-order
-shape_of-order c = c.loop-b.invariant.order-long
-
-pub shape_of-firsts : goal.shape_of-firsts
-shape_of-firsts c = c.loop-b.invariant.firsts-long
-
-pub returns : goal.returns
-returns c =
-    let whole = finish c.loop-b.invariant c.loop-b-test.false c.requires.has_chains in
-    record { by_index = whole.0; empty = whole.1 }
+pub returns-clause-empty : goal.returns-clause-empty
+unfolding Empty
+returns-clause-empty c =
+    let h = c.requires.has_chains.chains in λ x l. (c.loop-b.invariant _ h).clear x l (λ d low high. absurd (omega arith))

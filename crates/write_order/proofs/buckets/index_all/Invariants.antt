@@ -2,7 +2,7 @@
 -- cleared, and the chains of the others stand.
 use mathlib.Core.Path.{◌≡◌}
 use mathlib.Core.List.{List}
-use Prim.Native.Nat.{ℕ, ◌-◌, ◌≤◌, ◌<◌}
+use Prim.Native.Nat.{ℕ, ◌≤◌, ◌<◌}
 use lib.ListN.{length, get_or}
 use Rattle.words.specs.Store.{put_at}
 use Rattle.model.specs.Table.{times}
@@ -23,17 +23,7 @@ pub record Buckets (lists : ℕ → List ℕ) (n : ℕ) (heads order₀ firsts�
   pub later : (d : ℕ) → b ≤ d → d < n → Chain links (get_or heads d 0) (lists d)
   pub clear : (x : ℕ) → x < length links → ((d : ℕ) → b ≤ d → d < n → times x (lists d) ≡ 0) → get_or links x 0 ≡ no_item
 
--- the same for all lists that are chained at the start, and what does not depend on them
-pub record Taken (n : ℕ) (heads links₀ order₀ firsts₀ links order firsts : List ℕ) (b end : ℕ) : Type 0 where
-  pub within : b ≤ n
-  pub buckets : (lists : ℕ → List ℕ) → Chains lists n heads links₀ → Buckets lists n heads order₀ firsts₀ links order firsts b end
-  pub links_long : length links ≡ length links₀
-  pub order-long : length order ≡ length order₀
-  pub firsts-long : length firsts ≡ length firsts₀
-
 abbrev pub invariant-loop-b : goal.invariant-loop-b
 invariant-loop-b l =
-    Taken l.n l.heads l.initial.links l.initial.order l.initial.firsts l.links l.order l.firsts l.b l.end
-
-abbrev pub decreases-loop-b : goal.decreases-loop-b
-decreases-loop-b l = l.n - l.b
+    (lists : ℕ → List ℕ) → Chains lists l.n l.heads l.initial.links
+    → Buckets lists l.n l.heads l.initial.order l.initial.firsts l.links l.order l.firsts l.b l.end

@@ -2,7 +2,6 @@
 use mathlib.Core.Path.{◌≡◌, ap, ◌∙◌}
 use mathlib.Core.List.{List}
 use Prim.Native.Nat.{ℕ}
-use native.Mathlib.Omega.{arith}
 use lib.ListN.{length}
 use Rattle.words.specs.Store.{put_at}
 use Rattle.layout.specs.Limits.{most_items}
@@ -25,20 +24,12 @@ module _ (hashes : List ℕ) where
     rw (starts_of hashes (λ (b : ℕ). length (joined runs b)) (λ b. ap length (joined_runs_below hashes b))) at x.firsts_is,
   )
 
-pub chain_all-requires : goal.chain_all-requires
-chain_all-requires c =
-    let few = c.requires.0.few in
-    record {
-      hashes_len_bound = (few, few, c.requires.1);
-      empty = (empty_fresh most_items, c.requires.2);
-    }
+pub chain_all-requires-clause-empty : goal.chain_all-requires-clause-empty
+chain_all-requires-clause-empty c = (empty_fresh most_items, c.requires.2)
 
-pub index_all-requires : goal.index_all-requires
-index_all-requires c =
-    record {
-      n_in_bounds = (omega (arith, c.requires.0.few, c.chain_all.auto.heads), c.requires.0);
-      has_chains = record { lists = runs c.args.hashes.now; chains = run_chains _ _ _ c.chain_all.ensures.chained c.chain_all.ensures.empty_from };
-    }
+pub index_all-requires-clause-has_chains : goal.index_all-requires-clause-has_chains
+index_all-requires-clause-has_chains c =
+    record { lists = runs c.args.hashes.now; chains = run_chains _ _ _ c.chain_all.ensures.chained c.chain_all.ensures.empty_from }
 
 pub returns : goal.returns
 returns c =

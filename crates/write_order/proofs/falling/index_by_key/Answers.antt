@@ -8,27 +8,19 @@ use Rattle.write_order.proofs.LinkLaws.{links_long, but_empty}
 use Rattle.write_order.proofs.BucketLaws.{lists, all_chained, all_indexed}
 use Rattle.write_order.proofs.falling.index_by_key.Goals as goal
 
-pub chain_members-requires : goal.chain_members-requires
-chain_members-requires c =
-    let few = c.requires.rooms.0.few in record {
-      known = c.requires.known;
-      members_len_bound = (few, few);
-      empty = (empty_fresh most_items, c.requires.rooms.1);
-    }
+pub chain_members-requires-clause-empty : goal.chain_members-requires-clause-empty
+chain_members-requires-clause-empty c = (empty_fresh most_items, c.requires.rooms.1)
 
 pub slice_bounds-index_all-end-2 : goal.slice_bounds-index_all-end-2
 unfolding Known
 slice_bounds-index_all-end-2 c = omega (arith, c.requires.known.0.0, c.chain_members.auto.words)
 
-pub index_all-requires : goal.index_all-requires
-index_all-requires c =
+pub index_all-requires-clause-has_chains : goal.index_all-requires-clause-has_chains
+index_all-requires-clause-has_chains c =
     let a = c.args in
     record {
-      n_in_bounds = (omega (arith, c.requires.rooms.0.few, c.chain_members.auto.heads), c.requires.rooms.0);
-      has_chains = record {
-        lists = lists a.form a.words.now a.arena.now a.members.now;
-        chains = all_chained a.form a.words.now a.arena.now a.members.now _ _ c.requires.known.1 c.chain_members.ensures.chained_by;
-      };
+      lists = lists a.form a.words.now a.arena.now a.members.now;
+      chains = all_chained a.form a.words.now a.arena.now a.members.now _ _ c.requires.known.1 c.chain_members.ensures.chained_by;
     }
 
 pub returns : goal.returns

@@ -75,12 +75,9 @@ pub comes_before-requires : goal.comes_before-requires
 comes_before-requires c =
     let m = met c.requires.0 c.loop-p.invariant c.loop-p-test.true in (c.requires.0, c.requires.1, m.inside)
 
-pub returns-then-not-comes_before : goal.returns-then-not-comes_before
-returns-then-not-comes_before c =
-    let m = met c.requires.0 c.loop-p.invariant c.loop-p-test.true in record {
-      by_index = m.stop c.comes_before.ensures (c.if-not-comes_before.true);
-      upper_bound = c.loop-p.invariant.known;
-    }
+pub returns-then-not-comes_before-clause-by_index : goal.returns-then-not-comes_before-clause-by_index
+returns-then-not-comes_before-clause-by_index c =
+    (met c.requires.0 c.loop-p.invariant c.loop-p-test.true).stop c.comes_before.ensures c.if-not-comes_before.true
 
 pub overflow_add-p : goal.overflow_add-p
 overflow_add-p c = let m = met c.requires.0 c.loop-p.invariant c.loop-p-test.true in omega (arith, m.inside)
@@ -99,9 +96,5 @@ pub loop-p-preserved : goal.loop-p-preserved
 loop-p-preserved c =
     let m = met c.requires.0 c.loop-p.invariant c.loop-p-test.true in m.on c.comes_before.ensures (c.if-not-comes_before.false)
 
-pub returns : goal.returns
-returns c =
-    record {
-      by_index = ended c.requires.0 c.loop-p.invariant c.loop-p-test.false;
-      upper_bound = c.loop-p.invariant.known;
-    }
+pub returns-clause-by_index : goal.returns-clause-by_index
+returns-clause-by_index c = ended c.requires.0 c.loop-p.invariant c.loop-p-test.false

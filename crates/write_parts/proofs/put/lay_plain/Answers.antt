@@ -1,42 +1,33 @@
 -- `write_parts::put::lay_plain` meets its contract, for bytes and for children.
-use mathlib.Core.Path.{◌≡◌, sym, ◌∙◌}
+use mathlib.Core.Path.{sym, ◌∙◌}
 use Prim.Native.Nat.{◌+◌}
 use native.Mathlib.Omega.{arith}
-use Rattle.layout.specs.Kind.{value_kind}
-use Rattle.write_parts.specs.Numbered.{slot_kind}
 use Rattle.write_parts.proofs.PutLaws.{length-bytes, length_children, bytes_laid, children_laid, child_is}
 use Rattle.write_parts.proofs.put.lay_plain.Goals as goal
 
-pub lay_part-requires : goal.lay_part-requires
-lay_part-requires c =
+pub lay_part-requires-clause-size_in_bounds_2 : goal.lay_part-requires-clause-size_in_bounds_2
+lay_part-requires-clause-size_in_bounds_2 c =
     let kind = sym c.slot_word-kind.ensures ∙ c.if-kind-eq-VALUE_KIND.true in
-    let inside = (c.requires.numbered_fits.slots c.args.slot c.requires.slot_lt_most_items).value kind in record {
-      size_in_bounds = omega (arith, inside, c.slot_word-start.ensures, c.slot_word-size.ensures);
-      size_in_bounds_2 = omega (arith, c.requires.slot_in_bounds, length-bytes c.args.numbered.now c.args.arena.now c.args.slot kind inside, c.slot_word-size.ensures);
-    }
+    let inside = (c.requires.numbered_fits.slots c.args.slot c.requires.slot_lt_most_items).value kind in
+    omega (arith, c.requires.slot_in_bounds, length-bytes c.args.numbered.now c.args.arena.now c.args.slot kind inside, c.slot_word-size.ensures)
 
 pub returns-then-kind-eq-VALUE_KIND : goal.returns-then-kind-eq-VALUE_KIND
 returns-then-kind-eq-VALUE_KIND c =
     bytes_laid c.args.numbered.now c.args.arena.now c.args.slot (sym c.slot_word-kind.ensures ∙ c.if-kind-eq-VALUE_KIND.true) c.slot_word-start.ensures c.slot_word-size.ensures
     c.lay_part.ensures
 
-pub overflow_add-start : goal.overflow_add-start
-overflow_add-start c =
-    omega (arith, (c.requires.numbered_fits.slots c.args.slot c.requires.slot_lt_most_items).children (λ e. c.if-kind-eq-VALUE_KIND.false (c.slot_word-kind.ensures ∙ e)) c.requires.fact, c.slot_word-start.ensures)
-
-pub lay_words-requires : goal.lay_words-requires
-lay_words-requires c =
+pub lay_words-requires-clause-by_index : goal.lay_words-requires-clause-by_index
+lay_words-requires-clause-by_index c =
     let fits = c.requires.numbered_fits in
-    let other : slot_kind c.args.numbered.now c.args.slot ≡ value_kind → ⊥ = λ e. c.if-kind-eq-VALUE_KIND.false (c.slot_word-kind.ensures ∙ e) in
-    let room = (fits.slots c.args.slot c.requires.slot_lt_most_items).children other c.requires.fact in
+    let room = (fits.slots c.args.slot c.requires.slot_lt_most_items).children (λ e. c.if-kind-eq-VALUE_KIND.false (c.slot_word-kind.ensures ∙ e)) c.requires.fact in
     let from = c.slot_word-start in
-    let count = c.slot_word-size.ensures in record {
-      by_index = λ j less. (
-        omega (arith, fits.long, room, from.ensures, count),
-        omega (arith, child_is c.args.numbered.now from.result j, fits.children (from.result + j) (omega (arith, room, from.ensures, count))),
-      );
-      count_in_bounds = omega (arith, c.requires.slot_in_bounds, length_children c.args.numbered.now c.args.arena.now c.args.slot other, count);
-    }
+    λ j less. (
+      omega (arith, fits.long, room, from.ensures, c.slot_word-size.ensures),
+      omega (arith, child_is c.args.numbered.now from.result j, fits.children (from.result + j) (omega (arith, room, from.ensures, c.slot_word-size.ensures))),
+    )
+
+pub lay_words-requires-clause-count_in_bounds : goal.lay_words-requires-clause-count_in_bounds
+lay_words-requires-clause-count_in_bounds c = omega (arith, c.requires.slot_in_bounds, length_children c.args.numbered.now c.args.arena.now c.args.slot (λ e. c.if-kind-eq-VALUE_KIND.false (c.slot_word-kind.ensures ∙ e)), c.slot_word-size.ensures)
 
 pub returns : goal.returns
 returns c =

@@ -1,15 +1,10 @@
 -- `write_slots::children::list_parents` meets its contract. The invariant: the ranks passed have the parent words of their items.
-use Prim.Native.Nat.{ℕ, ◌≤◌, ◌<◌, ◌-◌}
+use Prim.Native.Nat.{ℕ, ◌<◌}
 use mathlib.Core.Path.{◌≡◌}
-use lib.ListN.{length, get_or}
-use Rattle.build_memory.specs.Memory.{item_total, item_parent}
-use Rattle.layout.specs.Limits.{most_items}
+use lib.ListN.{get_or}
+use Rattle.build_memory.specs.Memory.{item_parent}
 use Rattle.write_slots.specs.NumberedAs.{from_last}
 use Rattle.write_slots.proofs.children.list_parents.Given as goal
 
 abbrev pub invariant-loop-p : goal.invariant-loop-p
-invariant-loop-p l =
-    (l.p ≤ item_total l.words) × (l.n ≡ item_total l.words) × (length l.hashes ≡ most_items) × ((q : ℕ) → q < l.p → get_or l.hashes q 0 ≡ item_parent l.words (from_last l.words q))
-
-abbrev pub decreases-loop-p : goal.decreases-loop-p
-decreases-loop-p l = item_total l.words - l.p
+invariant-loop-p l = (q : ℕ) → q < l.p → get_or l.hashes q 0 ≡ item_parent l.words (from_last l.words q)

@@ -3,14 +3,7 @@ use mathlib.Core.Path.{◌∙◌}
 use Rattle.write_slots.proofs.TurnLaws.{back_made}
 use Rattle.write_slots.proofs.slot.put_back.Goals as goal
 
-pub size_of-size-requires : goal.size_of-size-requires
-size_of-size-requires c =
-    record {
-      least_words_in_bounds = (c.requires.slotted.long, c.requires.slotted.inside, c.requires.firsts.wide);
-      i_bound = c.requires.firsts.up c.args.i c.requires.slotted.inside;
-    }
-
 pub returns : goal.returns
 returns c =
     let a = c.args in
-    c.put_words.ensures ∙ back_made a.words.now a.roster.now a.numbered.now a.i a.at a.firsts.now _ _ _ _ c.item_word-kind.ensures c.start_of-start.ensures c.size_of-size.ensures c.slot_of-slot.ensures.0
+    c.put.ensures ∙ back_made a.words.now a.roster.now a.numbered.now a.i a.at a.firsts.now _ _ _ _ c.item_word-kind.ensures c.start_of-start.ensures c.size_of-size.ensures c.slot_of-slot.ensures.0

@@ -6,4 +6,4 @@ use Rattle.write_slots.proofs.slot.put_front.Goals as goal
 pub returns : goal.returns
 returns c =
     let a = c.args in
-    c.put_words.ensures ∙ front_made a.words.now a.roster.now a.numbered.now a.i a.at a.form a.arena.now _ _ _ _ _ c.hash_of-hash.ensures c.parent_word-parent.ensures c.skip_of-skip.ensures c.item_word.ensures c.item_word-2.ensures
+    c.put.ensures ∙ front_made a.words.now a.roster.now a.numbered.now a.i a.at a.form a.arena.now _ _ _ _ _ c.hash_of-hash.ensures c.parent_word-parent.ensures c.skip_of-skip.ensures c.item_word.ensures c.item_word-2.ensures

@@ -1,15 +1,6 @@
 -- `write_slots::slot::put_slot` meets its contract: four words and four more.
-use native.Mathlib.Omega.{arith}
 use Rattle.write_slots.proofs.TurnLaws.{halves_put}
 use Rattle.write_slots.proofs.slot.put_slot.Goals as goal
-
-pub put_back-requires : goal.put_back-requires
-put_back-requires c =
-    record {
-      slotted = c.requires.slotted;
-      firsts = c.requires.firsts;
-      at_in_bounds = omega (arith, c.requires.numbered_len, c.put_front.auto, c.slot_of.ensures.1);
-    }
 
 pub returns : goal.returns
 returns c =

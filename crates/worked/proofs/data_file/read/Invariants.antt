@@ -1,6 +1,0 @@
--- `worked::data_file::read` meets its contract. The invariant: what was read lies within the room.
-use Rattle.std.proofs.Common.{◌≤◌, length}
-use Rattle.worked.proofs.data_file.read.Given as goal
-
-abbrev pub invariant-loop : goal.invariant-loop
-invariant-loop g l = l.size ≤ length l.space
