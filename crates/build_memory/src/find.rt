@@ -8,13 +8,12 @@ ghost use Rattle.build_memory.specs.Find.{is_item, find_key};
 use crate::fields::{BUCKETS, HASH, HEADS_FROM, ITEMS, KEY_SIZE, OLDER, TABLE, item_word, key_of};
 use key_hash::hash::djb_hash;
 use key_order::compare::same_bytes;
-use words::wide::word_size;
 
 // The hash of a key, as a word.
 pub fn hash_word(key: &[u8]) -> usize
     ensures { result ≡ hash_of key.now }
 {
-    word_size(djb_hash(key))
+    djb_hash(key) as usize
 }
 
 // Whether item i is of the table and has the key, whose hash is given.

@@ -15,7 +15,6 @@ use layout::limits::{DEEPEST, LONGEST_KEY};
 use layout::refusal::Refusal;
 use text::utf8::{first_bad, is_utf8};
 use words::store::put;
-use words::wide::word_size;
 
 // Notes that a table is placed, and its height.
 #[tactic(auto, unfolding(crate::specs::Nest::place_table))]
@@ -98,7 +97,7 @@ pub fn insert_table(
     if !judge(words, arena) {
         return Err(Refusal::MemoryBroken);
     }
-    let t = word_size(table);
-    let g = word_size(guest);
+    let t = table as usize;
+    let g = guest as usize;
     nest_at_key(words, arena, t, key, g)
 }

@@ -11,7 +11,6 @@ use build_memory::rules::judge;
 use layout::limits::MOST_TABLES;
 use layout::refusal::Refusal;
 use words::store::put;
-use words::wide::byte_size;
 
 // A number that fits the answers' width.
 pub fn narrow(n: usize) -> u32
@@ -32,7 +31,7 @@ fn separator_word(separator: &[u8]) -> usize
     if separator.len() != 1 {
         return 0;
     }
-    let b = byte_size(separator[0]);
+    let b = separator[0] as usize;
     if b <= LAST_SEPARATOR {
         return b;
     }

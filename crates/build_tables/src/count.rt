@@ -8,7 +8,6 @@ use crate::add::narrow;
 use build_memory::fields::{ITEMS, TABLE, TABLES, item_word};
 use build_memory::rules::judge;
 use layout::refusal::Refusal;
-use words::wide::word_size;
 
 // How many items are of the table.
 #[tactic(auto, unfolding(crate::specs::Table::count_of, words::specs::Choice::pick))]
@@ -35,7 +34,7 @@ pub fn item_count(words: &[usize], arena: &[u8], table: u32) -> Result<u32, Refu
     if !judge(words, arena) {
         return Err(Refusal::MemoryBroken);
     }
-    let t = word_size(table);
+    let t = table as usize;
     if words[TABLES] <= t {
         return Err(Refusal::TableUnknown);
     }

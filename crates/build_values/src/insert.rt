@@ -20,7 +20,6 @@ use layout::kind::{CONTAINER_KIND, Kind, VALUE_KIND};
 use layout::limits::{LONGEST_KEY, MOST_ITEMS};
 use layout::refusal::Refusal;
 use text::utf8::{first_bad, is_utf8};
-use words::wide::word_size;
 
 // What an insert is told besides key and value: the table, the kind of the item, the table it will hold. The kind is a record's word, as the definition `stored` has it.
 #[derive(Clone, Copy)]
@@ -65,7 +64,7 @@ fn make_containers(
             guest: 0,
         };
         let further = hash_on(hash, &key[at..e], Form::Plain);
-        let word = word_size(further);
+        let word = further as usize;
         make_item(words, arena, new, &key[..e], word, &key[..0]);
         at = e;
         above = count;
@@ -168,7 +167,7 @@ fn insert_or_replace(
     requires from_in_bounds { (walked.way.from ≤ length key.now) × (walked.hash ≡ hash_of (take walked.way.from key.now)) }
     ensures { outcome result (memory words.new arena.new) ≡ insert_or_replace words.old arena.old job.table key.now (stored job.kind value.now job.guest) walked.way.from walked.way.parent }
 {
-    let hash = word_size(hash_on(walked.hash, &key[walked.way.from..], Form::Plain));
+    let hash = hash_on(walked.hash, &key[walked.way.from..], Form::Plain) as usize;
     let i = find_hashed(words, arena, job.table, key, hash);
     if i < words[ITEMS] {
         return overwrite_item(words, arena, i, job, value);
@@ -245,6 +244,6 @@ pub fn insert_value(
     if !judge(words, arena) {
         return Err(Refusal::MemoryBroken);
     }
-    let t = word_size(table);
+    let t = table as usize;
     insert_at_key(words, arena, t, key, value)
 }

@@ -11,7 +11,6 @@ use build_memory::find::find_hashed;
 use key_hash::hash::{Form, HASH_START, hash_on};
 use key_order::prefix::next_end;
 use layout::kind::CONTAINER_KIND;
-use words::wide::word_size;
 
 // How far the containers of a key are there. clear: nothing but containers stands on the way; from: the length of the last one's key;
 // parent: its index plus 1, or 0.
@@ -68,7 +67,7 @@ pub fn descend_to(words: &[usize], arena: &[u8], table: usize, key: &[u8], sep: 
             return ended(true, from, parent, hash);
         }
         let further = hash_on(hash, &key[from..e], Form::Plain);
-        let i = find_hashed(words, arena, table, &key[..e], word_size(further));
+        let i = find_hashed(words, arena, table, &key[..e], further as usize);
         if n <= i {
             return ended(true, from, parent, hash);
         }

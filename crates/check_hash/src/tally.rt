@@ -10,7 +10,6 @@ use key_hash::hash::{Form, byte_counts};
 use layout::item::item_at;
 use layout::table::Table;
 use read_chain::chain::climb;
-use words::wide::{half_size, word_size};
 
 // What the end of a key does to a hash: of a key whose front has the hash h, the hash is h * weight + sum, modulo 2^32.
 #[derive(Clone, Copy)]
@@ -50,7 +49,7 @@ fn prepend_each(bytes: &[u8], tally: Tally, form: Form) -> Tally
     state
 }
 
-// The tally with four bytes more in front, by what they count.
+// The tally with four bytes more in front, by what they count. `hash_four` of `key_hash` puts them behind, so its factor goes to what was there.
 #[tactic(auto, using(crate::proofs::TallyLaws::four_is))]
 fn prepend_four(a: u32, b: u32, c: u32, d: u32, tally: Tally) -> Tally
     ensures { result ≡ prepend plain (a ∷ b ∷ c ∷ d ∷ []) tally }
@@ -110,8 +109,8 @@ pub fn joined_key(file: &[u8], table: Table, index: usize, form: Form) -> Option
     for _ in 0..table.count {
         let item = item_at(file, table, at);
         let step = climb(file, table.count, item).ok()?;
-        let start = word_size(item.key);
-        let part = half_size(item.size);
+        let start = item.key as usize;
+        let part = item.size as usize;
         tally = prepend_all(&file[start..start + part], tally, form);
         total += part;
         let Some(parent) = step else {

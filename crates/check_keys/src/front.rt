@@ -9,7 +9,6 @@ use key_order::compare::same_bytes;
 use layout::item::item_at;
 use layout::table::Table;
 use read_chain::chain::parent_of;
-use words::wide::{half_size, word_size};
 
 // A front of `size` bytes: it ends `rest` bytes into the fragment of item `at`, and `left` parent steps are left.
 #[derive(Clone, Copy)]
@@ -29,7 +28,7 @@ pub fn front_at(file: &[u8], table: Table, at: usize, size: usize, left: usize) 
     let item = item_at(file, table, at);
     Front {
         at,
-        rest: half_size(item.size),
+        rest: item.size as usize,
         size,
         left,
     }
@@ -56,7 +55,7 @@ fn same_stretch(file: &[u8], table: Table, front: Front, end: usize, n: usize) -
     ensures { result ≡ same_bytes (part (front_bytes file.now table front) (front.size - n) n) (part file.now (end - n) n) }
 {
     let item = item_at(file, table, front.at);
-    let stop = word_size(item.key) + front.rest;
+    let stop = item.key as usize + front.rest;
     let start = stop - n;
     let from = end - n;
     same_bytes(&file[start..stop], &file[from..end])

@@ -13,7 +13,6 @@ use layout::table::Table;
 use read_chain::chain::climb;
 use read_find::find::{Run, bloom_passes, first_in, run_of};
 use read_find::manner::Manner;
-use words::wide::{half_size, word_size};
 
 // What an item says of a front: yes or no, or that its parent has to name what is left of it. An enum: neither is a failure or an absence.
 #[derive(Clone, Copy)]
@@ -29,8 +28,8 @@ fn compare_item(file: &[u8], table: Table, at: usize, front: Front) -> Compared
     ensures { ItemCompared file.now table at front result }
 {
     let item = item_at(file, table, at);
-    let start = word_size(item.key);
-    let end = start + half_size(item.size);
+    let start = item.key as usize;
+    let end = start + item.size as usize;
     if file.len() < end {
         return Compared::Ended(false);
     }
@@ -107,7 +106,8 @@ fn first_same(
     )
 }
 
-// The item that the joined key of item `index` names; the key's length and hash are known.
+// The item that the joined key of item `index` names; the key's length and hash are known. Beside `find_item` it has no key to hash and another test of an
+// item: what both do is `first_in`.
 #[tactic(auto, unfolding(read_find::specs::Find::find_item, words::specs::Choice::pick))]
 pub fn find_joined(
     file: &[u8],
@@ -123,6 +123,6 @@ pub fn find_joined(
     if table.buckets == 0 || !bloom_passes(file, table, hash, manner.lookup) {
         return None;
     }
-    let run = run_of(file, table, word_size(hash) % table.buckets);
+    let run = run_of(file, table, hash as usize % table.buckets);
     first_same(file, table, index, size, hash, run, manner)
 }

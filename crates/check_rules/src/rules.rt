@@ -17,7 +17,6 @@ use read_find::manner::Manner;
 use read_listing::children::child_count;
 use words::align::Alignment;
 use words::field::word_at;
-use words::wide::word_size;
 
 // Which of rules 1 and 2 the item's key breaks first; 0 for neither.
 // No `Option`: the definition `key_rule` and the theorems speak of the rules' numbers, as document 01 numbers them.
@@ -56,8 +55,8 @@ fn nested_opens(file: &[u8], item: Item) -> bool
 fn list_opens(file: &[u8], item: Item) -> bool
     ensures { result ≡ list_opens file.now item }
 {
-    let from = word_size(item.from);
-    let to = word_size(item.to);
+    let from = item.from as usize;
+    let to = item.to as usize;
     open_pointer(file.len(), from, to, Alignment::Table).is_ok() && (to - from) % 4 == 0
 }
 
@@ -84,7 +83,7 @@ fn is_among(file: &[u8], from: usize, n: usize, index: usize) -> bool
     requires { from + 4 * n ≤ length file.now }
     ensures { result ≡ among file.now from n index }
 {
-    (0..n).any(|k| word_size(word_at(file, from + 4 * k)) == index)
+    (0..n).any(|k| word_at(file, from + 4 * k) as usize == index)
 }
 
 // Whether an item is a container that keeps rule 4 and lists an index.
@@ -98,6 +97,6 @@ pub fn lists_it(file: &[u8], index: usize, parent: Item) -> bool
     if !value_opens(file, parent) {
         return false;
     }
-    let from = word_size(parent.from);
+    let from = parent.from as usize;
     is_among(file, from, child_count(parent), index)
 }

@@ -12,7 +12,6 @@ use layout::kind::CONTAINER_BYTE;
 use layout::table::Table;
 use read_listing::children::child_count;
 use words::field::word_at;
-use words::wide::word_size;
 
 // Sets the bit of a child that is an item, names the container as its parent, and has no bit yet. Answers whether it is such a child.
 #[tactic(auto, unfolding(crate::specs::Survey::fresh_child, crate::specs::Survey::after_child, words::specs::Choice::pick))]
@@ -25,7 +24,7 @@ fn survey_child(file: &[u8], table: Table, index: usize, child: usize, bits: &mu
         return false;
     }
     let item = item_at(file, table, child);
-    if word_size(item.parent) != index {
+    if item.parent as usize != index {
         return false;
     }
     if has_bit(bits, child) {
@@ -50,7 +49,7 @@ fn survey_children(
     ensures wrote { Surveying file.now table index (among file.now from n) bits.old bits.new result }
 {
     for k in 0..n {
-        let child = word_size(word_at(file, from + 4 * k));
+        let child = word_at(file, from + 4 * k) as usize;
         if !survey_child(file, table, index, child, bits) {
             return false;
         }
@@ -71,7 +70,7 @@ fn survey_container(file: &[u8], table: Table, index: usize, item: Item, bits: &
     if !value_opens(file, item) {
         return true;
     }
-    let from = word_size(item.from);
+    let from = item.from as usize;
     survey_children(file, table, index, from, child_count(item), bits)
 }
 

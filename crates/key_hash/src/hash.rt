@@ -2,8 +2,6 @@
 ghost use Rattle.std.specs.Prelude.{◌≡◌, ◌*◌, ◌%◌, ◌^◌, ◌<◌, [], ◌∷◌, length};
 ghost use Rattle.key_hash.specs.Hash.{hash_step, hash_from, hash_by, plain, rule_of, hash_of};
 
-use words::wide::byte_word;
-
 // What a byte counts in the hash: 0 to 255, as in the Rust, or -128 to 127, as in GLib.
 #[derive(Clone, Copy)]
 pub enum Form {
@@ -18,7 +16,7 @@ pub const HASH_START: u32 = 5381;
 pub fn byte_counts(b: u8, form: Form) -> u32
     ensures { (result ≡ rule_of form b) × (result < 2 ^ 32) }
 {
-    let wide = byte_word(b);
+    let wide = b as u32;
     match form {
         Form::Plain => wide,
         Form::Signed => ((wide + 128) % 256).wrapping_add(0xFFFF_FF80),

@@ -2,8 +2,6 @@
 ghost use Rattle.std.specs.Prelude.{◌≡◌, ◌≤◌, length};
 ghost use Rattle.key_order.specs.Prefix.{next_end};
 
-use words::wide::byte_size;
-
 // Where the next prefix ends: behind the next separator from `from` on, or at the key's end. 256 stands for no separator.
 pub fn next_end(key: &[u8], from: usize, sep: usize) -> usize
     requires { from ≤ length key.now }
@@ -11,7 +9,7 @@ pub fn next_end(key: &[u8], from: usize, sep: usize) -> usize
     ensures within { (from ≤ result) × (result ≤ length key.now) }
 {
     for i in from..key.len() {
-        if byte_size(key[i]) == sep {
+        if key[i] as usize == sep {
             return i + 1;
         }
     }

@@ -11,7 +11,6 @@ use crate::sizes::RECORD_SIZE;
 use crate::table::Table;
 use words::align::Alignment;
 use words::field::{half_at, word_at};
-use words::wide::word_size;
 
 // The index that is no item: the parent of a root.
 pub const NO_ITEM: u32 = 0xFFFF_FFFF;
@@ -69,10 +68,5 @@ pub fn item_at(file: &[u8], table: Table, index: usize) -> Item
 pub fn open_value(file: &[u8], item: Item, alignment: Alignment) -> Result<(), Refusal>
     ensures { result ≡ open_pointer (length file.now) item.from item.to (alignment_of alignment) }
 {
-    open_pointer(
-        file.len(),
-        word_size(item.from),
-        word_size(item.to),
-        alignment,
-    )
+    open_pointer(file.len(), item.from as usize, item.to as usize, alignment)
 }

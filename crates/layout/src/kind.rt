@@ -35,7 +35,7 @@ pub fn byte_of(kind: Kind) -> u8
 }
 
 // gvdb-rs: HashItemType::try_from, HashItem::typ.
-// Whether a byte is that of a kind.
+// Whether a byte is that of a kind. No `TryFrom`: nobody asks which kind it is, and PROMISES and a uniqueness theorem name this.
 pub fn kind_known(byte: u8) -> bool
     ensures { result ≡ kind_known byte }
 {

@@ -9,7 +9,6 @@ use crate::sizes::{BUCKET_SIZE, HEAD_SIZE, RECORD_SIZE};
 use words::align::Alignment;
 use words::bits::bloom_count;
 use words::field::word_at;
-use words::wide::word_size;
 
 // gvdb-rs: HashTable, HashHeader.
 // An open table: where it starts, its counts, and where its items start. In the file, in bytes, numbers little endian:
@@ -48,8 +47,8 @@ fn table_in(file: &[u8], start: usize, end: usize) -> Result<Table, Refusal>
     if size < HEAD_SIZE {
         return Err(Refusal::TableTooShort);
     }
-    let blooms = word_size(bloom_count(word_at(file, start)));
-    let buckets = word_size(word_at(file, start + 4));
+    let blooms = bloom_count(word_at(file, start)) as usize;
+    let buckets = word_at(file, start + 4) as usize;
     let buckets_from = HEAD_SIZE + 4 * blooms;
     if size < buckets_from {
         return Err(Refusal::BloomTooLong);

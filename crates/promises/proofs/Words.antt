@@ -19,18 +19,6 @@ use Rattle.key_hash.proofs.hash.hash_key.Kinds as hash-key-kinds
 use Rattle.key_hash.proofs.hash.hash_key.Reads as hash-key-reads
 use Rattle.key_hash.proofs.hash.djb_hash.Kinds as djb-hash-kinds
 use Rattle.key_hash.proofs.hash.djb_hash.Reads as djb-hash-reads
-use Rattle.words.proofs.wide.byte_half.Kinds as byte-half-kinds
-use Rattle.words.proofs.wide.byte_half.Reads as byte-half-reads
-use Rattle.words.proofs.wide.byte_word.Kinds as byte-word-kinds
-use Rattle.words.proofs.wide.byte_word.Reads as byte-word-reads
-use Rattle.words.proofs.wide.byte_size.Kinds as byte-size-kinds
-use Rattle.words.proofs.wide.byte_size.Reads as byte-size-reads
-use Rattle.words.proofs.wide.half_size.Kinds as half-size-kinds
-use Rattle.words.proofs.wide.half_size.Reads as half-size-reads
-use Rattle.words.proofs.wide.word_size.Kinds as word-size-kinds
-use Rattle.words.proofs.wide.word_size.Reads as word-size-reads
-use Rattle.words.proofs.wide.word_long.Kinds as word-long-kinds
-use Rattle.words.proofs.wide.word_long.Reads as word-long-reads
 use Rattle.text.proofs.ascii.is_ascii.Kinds as is-ascii-kinds
 use Rattle.text.proofs.ascii.is_ascii.Reads as is-ascii-reads
 use Rattle.key_order.proofs.compare.same_bytes.Kinds as same-bytes-kinds
@@ -90,24 +78,6 @@ hash-key-unique κs a s t x y p q = p ∙ sym q
 
 pub djb-hash-unique : OneAnswer djb-hash-kinds.ps djb-hash-kinds.r djb-hash-reads.Post
 djb-hash-unique κs a s t x y p q = p ∙ sym q
-
-pub byte-half-unique : OneAnswer byte-half-kinds.ps byte-half-kinds.r byte-half-reads.Post
-byte-half-unique κs a s t x y p q = p.0 ∙ sym q.0
-
-pub byte-word-unique : OneAnswer byte-word-kinds.ps byte-word-kinds.r byte-word-reads.Post
-byte-word-unique κs a s t x y p q = p.0 ∙ sym q.0
-
-pub byte-size-unique : OneAnswer byte-size-kinds.ps byte-size-kinds.r byte-size-reads.Post
-byte-size-unique κs a s t x y p q = p.0 ∙ sym q.0
-
-pub half-size-unique : OneAnswer half-size-kinds.ps half-size-kinds.r half-size-reads.Post
-half-size-unique κs a s t x y p q = p.0 ∙ sym q.0
-
-pub word-size-unique : OneAnswer word-size-kinds.ps word-size-kinds.r word-size-reads.Post
-word-size-unique κs a s t x y p q = p.0 ∙ sym q.0
-
-pub word-long-unique : OneAnswer word-long-kinds.ps word-long-kinds.r word-long-reads.Post
-word-long-unique κs a s t x y p q = p.0 ∙ sym q.0
 
 -- ---- text
 

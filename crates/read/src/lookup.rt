@@ -76,7 +76,7 @@ pub fn lookup_value(
 }
 
 // gvdb-rs: get_hash_table.
-// The pointer of a key's nested table, in the table at a pointer.
+// The pointer of a key's nested table, in the table at a pointer. As `lookup_value` but for what is asked of the item: one function over it would be longer.
 #[tactic(auto, using(layout::proofs::OpenLaws::opened_in_file), unfolding(crate::specs::Lookup::lookup_table, crate::specs::Lookup::lookup_item, crate::specs::Lookup::at_opened, crate::specs::Lookup::at_item))]
 pub fn lookup_table(
     file: &[u8],

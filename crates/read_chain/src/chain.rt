@@ -11,7 +11,6 @@ use layout::refusal::Refusal;
 use layout::table::Table;
 use text::utf8::{first_bad, starts_whole};
 use words::align::Alignment;
-use words::wide::{half_size, word_size};
 
 // What an item says of a key: yes or no, or that its parent has to name the front of the key. An enum: neither is a failure or an absence.
 #[derive(Clone, Copy)]
@@ -29,7 +28,7 @@ pub fn parent_of(count: usize, parent: u32) -> Result<Option<usize>, Refusal>
     if parent == NO_ITEM {
         return Ok(None);
     }
-    let at = word_size(parent);
+    let at = parent as usize;
     if at < count {
         return Ok(Some(at));
     }
@@ -42,8 +41,8 @@ pub fn parent_of(count: usize, parent: u32) -> Result<Option<usize>, Refusal>
 pub fn climb(file: &[u8], count: usize, item: Item) -> Result<Option<usize>, Refusal>
     ensures { result ≡ climb_from file.now count item }
 {
-    let start = word_size(item.key);
-    let size = half_size(item.size);
+    let start = item.key as usize;
+    let size = item.size as usize;
     let end = start + size;
     open_pointer(file.len(), start, end, Alignment::Key)?;
     let bad = first_bad(&file[start..end]);
@@ -69,7 +68,7 @@ fn match_fragment(fragment: &[u8], count: usize, parent: u32, key: &[u8]) -> Mat
     if parent == NO_ITEM {
         return Matched::Ended(fragment.len() == key.len());
     }
-    let at = word_size(parent);
+    let at = parent as usize;
     if at < count {
         return Matched::Rest {
             parent: at,
@@ -86,8 +85,8 @@ fn match_item(file: &[u8], table: Table, index: usize, key: &[u8]) -> Matched
     ensures { result ≡ match_item file.now table index key.now }
 {
     let item = item_at(file, table, index);
-    let start = word_size(item.key);
-    let end = start + half_size(item.size);
+    let start = item.key as usize;
+    let end = start + item.size as usize;
     if open_pointer(file.len(), start, end, Alignment::Key).is_err() {
         return Matched::Ended(false);
     }

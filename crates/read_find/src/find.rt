@@ -13,7 +13,6 @@ use layout::table::Table;
 use read_chain::chain::chain_names;
 use words::bits::{bit_set, bloom_shift};
 use words::field::word_at;
-use words::wide::word_size;
 
 // The items of one bucket: the indices from `first` up to `last`.
 #[derive(Clone, Copy)]
@@ -46,7 +45,7 @@ pub fn bloom_passes(file: &[u8], table: Table, hash: u32, lookup: Lookup) -> boo
     if blooms == 0 {
         return true;
     }
-    let position = word_size(hash) / 32 % blooms;
+    let position = hash as usize / 32 % blooms;
     let word = word_at(file, table.start + 8 + 4 * position);
     let shifted = hash >> shift_of(file, table, lookup);
     bit_set(word, hash) & bit_set(word, shifted)
@@ -59,9 +58,9 @@ pub fn run_of(file: &[u8], table: Table, bucket: usize) -> Run
     ensures { result ≡ run_of file.now table bucket }
 {
     let at = table.start + 8 + 4 * table.blooms + 4 * bucket;
-    let first = word_size(word_at(file, at));
+    let first = word_at(file, at) as usize;
     let last = if bucket + 1 < table.buckets {
-        word_size(word_at(file, at + 4))
+        word_at(file, at + 4) as usize
     } else {
         table.count
     };
@@ -134,6 +133,6 @@ pub fn find_item(file: &[u8], table: Table, key: &[u8], manner: Manner) -> Optio
     if !bloom_passes(file, table, hash, manner.lookup) {
         return None;
     }
-    let run = run_of(file, table, word_size(hash) % table.buckets);
+    let run = run_of(file, table, hash as usize % table.buckets);
     first_of(file, table, hash, run, key, manner)
 }

@@ -16,7 +16,6 @@ use read_find::manner::Manner;
 use text::utf8::{first_bad, is_utf8};
 use words::align::Alignment;
 use words::field::word_at;
-use words::wide::{half_size, word_size};
 
 // A child: its index, the byte of its kind, the pointer of its fragment, and the next position; or why there is none. A refused child can be passed over.
 #[derive(Clone, Copy)]
@@ -34,7 +33,7 @@ pub fn child_count(item: Item) -> usize
     requires { item.from ≤ item.to }
     ensures { result ≡ child_count item }
 {
-    (word_size(item.to) - word_size(item.from)) / 4
+    (item.to as usize - item.from as usize) / 4
 }
 
 // Whether an item is a container whose list opens: 13, 2 or 3 of its value pointer, 13 for a length that is not divisible by 4.
@@ -45,8 +44,8 @@ fn open_list(file: &[u8], item: Item) -> Result<(), Refusal>
     if item.kind != CONTAINER_BYTE {
         return Err(Refusal::OtherKind);
     }
-    let from = word_size(item.from);
-    let to = word_size(item.to);
+    let from = item.from as usize;
+    let to = item.to as usize;
     open_pointer(file.len(), from, to, Alignment::Table)?;
     if (to - from) % 4 != 0 {
         return Err(Refusal::OtherKind);
@@ -60,8 +59,8 @@ fn child_named(file: &[u8], index: usize, child: Item, at: usize) -> Result<Chil
     requires { (length file.now ≤ longest_file) × (at < 4294967296) }
     ensures { result ≡ child_named file.now index child at }
 {
-    let start = word_size(child.key);
-    let end = start + half_size(child.size);
+    let start = child.key as usize;
+    let end = start + child.size as usize;
     open_pointer(file.len(), start, end, Alignment::Key)?;
     let fragment = &file[start..end];
     if !is_utf8(fragment) {
@@ -102,7 +101,7 @@ fn child_from(file: &[u8], table: Table, item: Item, at: usize) -> Result<Child,
     if child_count(item) <= at {
         return Err(Refusal::PastTheLast);
     }
-    let index = word_size(word_at(file, word_size(item.from) + 4 * at));
+    let index = word_at(file, item.from as usize + 4 * at) as usize;
     child_of(file, table, index, at)
 }
 

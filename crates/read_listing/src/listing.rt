@@ -11,7 +11,6 @@ use layout::table::{Table, open_table};
 use read_chain::chain::{climb, parent_of};
 use words::align::Alignment;
 use words::store::put;
-use words::wide::{half_size, word_size};
 
 // gvdb-rs: Keys, Values; keys and values start with a cursor at 0.
 // A position in a table's items.
@@ -55,7 +54,7 @@ pub fn key_size(file: &[u8], table: Table, index: usize) -> Result<usize, Refusa
     let mut total: usize = 0;
     for _ in 0..table.count {
         let item = item_at(file, table, at);
-        total += half_size(item.size);
+        total += item.size as usize;
         let Some(parent) = climb(file, table.count, item)? else {
             return Ok(total);
         };
@@ -75,8 +74,8 @@ fn write_key(file: &[u8], table: Table, index: usize, size: usize, out: &mut [u8
     let mut end = size;
     for _ in 0..table.count {
         let item = item_at(file, table, at);
-        let start = word_size(item.key);
-        let part = half_size(item.size);
+        let start = item.key as usize;
+        let part = item.size as usize;
         let stop = start + part;
         end -= part;
         put(out, end, &file[start..stop]);

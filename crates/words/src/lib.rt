@@ -5,4 +5,3 @@ pub mod align;
 pub mod bits;
 pub mod field;
 pub mod store;
-pub mod wide;

@@ -17,7 +17,6 @@ use key_hash::hash::Form;
 use layout::limits::{DEEPEST, MOST_FILTER};
 use layout::refusal::Refusal;
 use layout::sizes::{CHUNK_STEP, FILTER_SIZE, HEAD_SIZE, HEADER_SIZE};
-use words::wide::word_size;
 use write_bytes::whole::{lay_image, measure};
 use write_numbers::fill::roster_all;
 use write_numbers::roster::ROSTER_SIZE;
@@ -133,11 +132,11 @@ pub fn write(
     if !judge_fully(words, arena) {
         return Err(Refusal::MemoryBroken);
     }
-    let known = word_size(table);
+    let known = table as usize;
     if !is_free_standing(words, arena, known) {
         return Err(Refusal::TableUnknown);
     }
-    let count = word_size(filter);
+    let count = filter as usize;
     if MOST_FILTER < count {
         return Err(Refusal::TooManyFilterWords);
     }

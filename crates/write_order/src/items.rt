@@ -6,7 +6,6 @@ ghost use Rattle.write_order.specs.Items.{AllBelow, hash_for, indices_put};
 
 use build_memory::fields::{HASH, item_word, key_of};
 use key_hash::hash::{Form, HASH_START, hash_on};
-use words::wide::word_size;
 
 // The hash of item i under a form: the base form's is in its record, the other is made from its key.
 #[tactic(auto, unfolding(crate::specs::Items::hash_for, key_hash::specs::Hash::hash_by))]
@@ -16,7 +15,7 @@ pub fn hash_of(words: &[usize], arena: &[u8], i: usize, form: Form) -> usize
 {
     match form {
         Form::Plain => item_word(words, i, HASH),
-        Form::Signed => word_size(hash_on(HASH_START, key_of(words, arena, i), Form::Signed)),
+        Form::Signed => hash_on(HASH_START, key_of(words, arena, i), Form::Signed) as usize,
     }
 }
 

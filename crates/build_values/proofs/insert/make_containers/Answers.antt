@@ -49,7 +49,7 @@ make_item-requires c =
     let n = length-take-le e a.key.now (omega arith) in record {
       least_words_in_bounds = (omega arith, omega arith);
       value_in_bounds = omega arith;
-      hash_value = c.word_size-word.ensures.0 ∙ c.hash_on-further.ensures ∙ hash_further plain a.key.now c.loop-table.at c.loop-table.hash c.loop-table.invariant.6 e (omega arith);
+      hash_value = c.hash_on-further.ensures ∙ hash_further plain a.key.now c.loop-table.at c.loop-table.hash c.loop-table.invariant.6 e (omega arith);
     }
 
 pub loop-table-smaller : goal.loop-table-smaller

@@ -31,7 +31,7 @@ find_hashed-i-requires c =
     let a = c.args in
     record {
       least_words_in_bounds = (c.requires.long, c.requires.items);
-      hash_value = c.word_size.ensures.0 ∙ c.hash_on-further.ensures
+      hash_value = c.hash_on-further.ensures
           ∙ hash_further plain a.key.now c.loop-table.from c.loop-table.hash c.loop-table.invariant.3 c.next_end-e.result (omega arith);
     }
 

@@ -1,4 +1,5 @@
 -- `check_hash::tally::joined_key` meets its contract: the invariant is `Tallying`, with the steps left.
+use mathlib.Core.Path.{refl}
 use Rattle.std.specs.Prelude.{Ok}
 use Rattle.std.proofs.Common.{◌≡◌, ℕ, ◌+◌, ◌-◌, ◌<◌, List, sym, ap, ◌∙◌, arith, rules}
 use native.Mathlib.Nat.{sub-zero}
@@ -20,23 +21,23 @@ returns-in_err-step c =
 pub slice_bounds-prepend_all-end : goal.slice_bounds-prepend_all-end
 slice_bounds-prepend_all-end c =
     let step = sym c.climb.ensures ∙ step_some _ c.ok.ensures.value c.in_ok-step.was in
-    omega (arith, step_inside _ _ _ step, c.word_size-start.ensures.0, c.half_size-part.ensures.0)
+    omega (arith, step_inside _ _ _ step)
 
 pub returns-in_default : goal.returns-in_default
 returns-in_default c =
     let step = sym c.climb.ensures ∙ step_some _ c.ok.ensures.value c.in_ok-step.was ∙ ap Ok c.in_default.is in
-    let fragment = fragment_taken _ _ c.word_size-start.ensures.0 c.half_size-part.ensures.0 in
+    let fragment = fragment_taken _ _ refl refl in
     let tally = c.prepend_all-tally.ensures ∙ ap (λ (l : List ℕ). prepend (rule_of c.args.form) l c.loop.tally) fragment in
-    joined_root _ _ _ _ c.loop.invariant (omega arith) c.item_at-item.ensures c.half_size-part.ensures.0 tally step c.finished.ensures
+    joined_root _ _ _ _ c.loop.invariant (omega arith) c.item_at-item.ensures refl tally step c.finished.ensures
 
 pub loop-preserved : goal.loop-preserved
 loop-preserved c =
     let left : c.args.table.count - c.loop.counter - 1 ≡ c.args.table.count - (c.loop.counter + 1) = omega arith in
     let more : 0 < c.args.table.count - c.loop.counter = omega arith in
     let step = sym c.climb.ensures ∙ step_some _ c.ok.ensures.value c.in_ok-step.was ∙ ap Ok c.in-Some.is in
-    let fragment = fragment_taken _ _ c.word_size-start.ensures.0 c.half_size-part.ensures.0 in
+    let fragment = fragment_taken _ _ refl refl in
     let tally = c.prepend_all-tally.ensures ∙ ap (λ (l : List ℕ). prepend (rule_of c.args.form) l c.loop.tally) fragment in
-    rw (← left) (joined_up _ _ _ _ c.loop.invariant more c.item_at-item.ensures c.half_size-part.ensures.0 tally c.half_size-part.ensures.1 step)
+    rw (← left) (joined_up _ _ _ _ c.loop.invariant more c.item_at-item.ensures refl tally (search rules) step)
 
 pub returns : goal.returns
 returns c = joined_over _ _ _ _ c.loop.invariant (omega arith)

@@ -16,13 +16,13 @@ survey_child-requires c = (c.requires.in_file.0, c.loop-k.invariant.1.room)
 pub returns-then-not-survey_child : goal.returns-then-not-survey_child
 unfolding child_at
 returns-then-not-survey_child c =
-    let whole = turn_fails c.args.file.now c.args.table c.args.index c.args.from c.args.bits.now c.loop-k.k c.loop-k.invariant.1 (c.word_size-child.ensures.0 ∙ c.word_at.ensures) c.survey_child.ensures.said c.survey_child.ensures.wrote c.args.n c.loop-k-test.true (c.if-not-survey_child.true) in
+    let whole = turn_fails c.args.file.now c.args.table c.args.index c.args.from c.args.bits.now c.loop-k.k c.loop-k.invariant.1 (c.word_at-child.ensures) c.survey_child.ensures.said c.survey_child.ensures.wrote c.args.n c.loop-k-test.true (c.if-not-survey_child.true) in
     record { said = whole.0; wrote = whole.1 }
 
 pub loop-k-preserved : goal.loop-k-preserved
 unfolding child_at
 loop-k-preserved c =
-    turn_goes _ _ _ _ _ _ c.loop-k.invariant.1 (c.word_size-child.ensures.0 ∙ c.word_at.ensures) c.survey_child.ensures.said c.survey_child.ensures.wrote c.loop-k.invariant.0 (c.if-not-survey_child.false)
+    turn_goes _ _ _ _ _ _ c.loop-k.invariant.1 (c.word_at-child.ensures) c.survey_child.ensures.said c.survey_child.ensures.wrote c.loop-k.invariant.0 (c.if-not-survey_child.false)
 
 pub returns : goal.returns
 returns c =

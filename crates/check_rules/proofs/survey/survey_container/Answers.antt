@@ -1,5 +1,5 @@
 -- `check_rules::survey::survey_container` meets its contract: an item that is no container, or breaks rule 4, lists nothing.
-use mathlib.Core.Path.{sym, ◌∙◌}
+use mathlib.Core.Path.{sym, ◌∙◌, refl}
 use native.Mathlib.Omega.{arith}
 use Rattle.check_rules.proofs.RuleLaws.{children_other, children_all, lists_other, lists_shut, lists_open, list_room}
 use Rattle.check_rules.proofs.ChildLaws.{no_bit, as_listed, five_other, five_shut, five_open}
@@ -28,7 +28,7 @@ pub survey_children-requires : goal.survey_children-requires
 survey_children-requires c =
     let room = list_room _ _ c.if-item-ne-CONTAINER_BYTE.false (sym c.value_opens.ensures ∙ c.if-not-value_opens.false) in
     record {
-      in_file = (c.requires.in_file, omega (arith, room.1, c.child_count.ensures, c.word_size-from.ensures.0));
+      in_file = (c.requires.in_file, omega (arith, room.1, c.child_count.ensures));
       fresh = c.requires.fresh;
     }
 
@@ -36,7 +36,7 @@ pub returns : goal.returns
 returns c =
     let opens = sym c.value_opens.ensures ∙ c.if-not-value_opens.false in
     let list = c.if-item-ne-CONTAINER_BYTE.false in
-    let start = c.word_size-from.ensures.0 in
+    let start = refl in
     let count = c.child_count.ensures in record {
       said = children_all _ _ _ _ list start count c.survey_children.ensures.said ∙ five_open _ _ _ _ opens;
       wrote = as_listed _ _ _ _ _ _ (λ i. lists_open _ i _ list opens start count) c.survey_children.ensures.wrote;

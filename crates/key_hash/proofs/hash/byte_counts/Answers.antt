@@ -5,4 +5,4 @@ use Rattle.key_hash.proofs.hash.byte_counts.Goals as goal
 
 pub returns-in-Signed : goal.returns-in-Signed
 returns-in-Signed c =
-    (counts_signed _ c.in-Signed.is c.byte_word-wide.ensures.0 c.byte_word-wide.ensures.1 refl, search rules)
+    (counts_signed _ c.in-Signed.is refl (search rules) refl, search rules)

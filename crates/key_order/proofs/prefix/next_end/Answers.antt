@@ -5,15 +5,15 @@ use lib.ListN.{length}
 use mathlib.Core.Path.{◌≡◌, sym, ◌∙◌}
 use Rattle.key_order.proofs.prefix.next_end.Goals as goal
 
-pub returns-then-byte_size-sep-clause-value : goal.returns-then-byte_size-sep-clause-value
-returns-then-byte_size-sep-clause-value c =
+pub returns-then-key-i-clause-value : goal.returns-then-key-i-clause-value
+returns-then-key-i-clause-value c =
     let l = c.loop-i in
-    next_here c.args.sep c.args.key.now l.i c.loop-i-test.true (sym c.byte_size.ensures.0 ∙ c.if-byte_size-sep.true) ∙ sym l.invariant
+    next_here c.args.sep c.args.key.now l.i c.loop-i-test.true c.if-key-i.true ∙ sym l.invariant
 
 pub loop-i-preserved : goal.loop-i-preserved
 loop-i-preserved c =
     let l = c.loop-i in
-    l.invariant ∙ next_later c.args.sep c.args.key.now l.i c.loop-i-test.true (λ e. c.if-byte_size-sep.false (c.byte_size.ensures.0 ∙ e))
+    l.invariant ∙ next_later c.args.sep c.args.key.now l.i c.loop-i-test.true c.if-key-i.false
 
 pub returns-clause-value : goal.returns-clause-value
 returns-clause-value c =

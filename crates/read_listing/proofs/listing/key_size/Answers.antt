@@ -1,7 +1,7 @@
 -- `read_listing::listing::key_size` meets its contract: the invariant is `Measuring`, with the steps left.
 use Rattle.std.specs.Prelude.{◌≡◌, ◌+◌, ◌-◌, Ok}
 use Rattle.std.proofs.Common.{arith}
-use mathlib.Core.Path.{sym, ◌∙◌, ap, subst}
+use mathlib.Core.Path.{sym, ◌∙◌, ap, subst, refl}
 use native.Mathlib.Nat.{sub-zero}
 use borrow.Author.Rules.{rules}
 use Rattle.read_listing.proofs.MeasureLaws.{Measuring, measure-start, measure-refused, measure_up}
@@ -18,4 +18,4 @@ pub loop-preserved : goal.loop-preserved
 loop-preserved c =
     let step = sym c.climb.ensures ∙ c.in_ok-parent.was ∙ ap Ok c.in-Some.is in
     let left : c.args.table.count - c.loop.counter - 1 ≡ c.args.table.count - (c.loop.counter + 1) = omega arith in
-    subst (Measuring _ _ _ _ _) left (measure_up _ _ _ c.loop.invariant (omega arith) c.item_at-item.ensures c.half_size-total.ensures.0 c.half_size-total.ensures.1 step)
+    subst (Measuring _ _ _ _ _) left (measure_up _ _ _ c.loop.invariant (omega arith) c.item_at-item.ensures refl (search rules) step)

@@ -24,7 +24,7 @@ is_free_standing-requires c = (fully_valid_lem _ _ (sym c.judge_fully.ensures �
 pub returns-then-not-is_free_standing : goal.returns-then-not-is_free_standing
 returns-then-not-is_free_standing c =
     let a = c.args in
-    let g = write_unknown (rule_of a.form) a.filter a.words.now a.arena.now a.image.now a.table (sym c.judge_fully.ensures ∙ c.if-not-judge_fully.false) (sym (c.is_free_standing.ensures ∙ ap (free_standing a.words.now) c.word_size-known.ensures.0) ∙ c.if-not-is_free_standing.true) in
+    let g = write_unknown (rule_of a.form) a.filter a.words.now a.arena.now a.image.now a.table (sym c.judge_fully.ensures ∙ c.if-not-judge_fully.false) (sym c.is_free_standing.ensures ∙ c.if-not-is_free_standing.true) in
     record {
       words_unchanged = refl;
       value = g.answers;
@@ -34,8 +34,8 @@ returns-then-not-is_free_standing c =
 pub returns-then-count-gt-MOST_FILTER : goal.returns-then-count-gt-MOST_FILTER
 returns-then-count-gt-MOST_FILTER c =
     let a = c.args in
-    let free = sym (c.is_free_standing.ensures ∙ ap (free_standing a.words.now) c.word_size-known.ensures.0) ∙ c.if-not-is_free_standing.false in
-    let g = write_many (rule_of a.form) a.filter a.words.now a.arena.now a.image.now a.table (sym c.judge_fully.ensures ∙ c.if-not-judge_fully.false) free (omega (arith, c.word_size-count.ensures.0, c.if-count-gt-MOST_FILTER.true)) in
+    let free = sym c.is_free_standing.ensures ∙ c.if-not-is_free_standing.false in
+    let g = write_many (rule_of a.form) a.filter a.words.now a.arena.now a.image.now a.table (sym c.judge_fully.ensures ∙ c.if-not-judge_fully.false) free (omega (arith, c.if-count-gt-MOST_FILTER.true)) in
     record {
       words_unchanged = refl;
       value = g.answers;
@@ -45,17 +45,15 @@ returns-then-count-gt-MOST_FILTER c =
 pub index_and_write-requires-clause-table_lt_most_tables : goal.index_and_write-requires-clause-table_lt_most_tables
 index_and_write-requires-clause-table_lt_most_tables c =
     let s = (fully_valid_lem _ _ (sym c.judge_fully.ensures ∙ c.if-not-judge_fully.false)).valid in
-    let known = (free_standing_facts c.args.words.now c.word_size-known.result (sym c.is_free_standing.ensures ∙ c.if-not-is_free_standing.false)).0 in
+    let known = (free_standing_facts c.args.words.now c.args.table (sym c.is_free_standing.ensures ∙ c.if-not-is_free_standing.false)).0 in
     (omega (arith, s.tables, known), omega arith)
 
 pub returns : goal.returns
 returns c =
     let a = c.args in
     let ok = sym c.judge_fully.ensures ∙ c.if-not-judge_fully.false in
-    let known = c.word_size-known.ensures.0 in
-    let count = c.word_size-count.ensures.0 in
-    let free = sym (c.is_free_standing.ensures ∙ ap (free_standing a.words.now) known) ∙ c.if-not-is_free_standing.false in
-    let g = index_and_write (rule_of a.form) a.filter a.words.now a.arena.now a.image.now a.table ok free (omega (arith, count, c.if-count-gt-MOST_FILTER.false)) _ _ (rw (known, count) at c.index_and_write.ensures.value) (rw (known, count) at c.index_and_write.ensures.image_after) in
+    let free = sym c.is_free_standing.ensures ∙ c.if-not-is_free_standing.false in
+    let g = index_and_write (rule_of a.form) a.filter a.words.now a.arena.now a.image.now a.table ok free (omega (arith, c.if-count-gt-MOST_FILTER.false)) _ _ c.index_and_write.ensures.value c.index_and_write.ensures.image_after in
     record {
       words_unchanged = c.index_and_write.ensures.words_unchanged;
       value = g.answers;
