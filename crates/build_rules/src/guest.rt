@@ -59,6 +59,7 @@ pub fn held_once(words: &[usize]) -> bool
     requires { (least_words ≤ length words.now) × (item_total words.now ≤ most_items) × GuestsFew words.now }
     ensures { result ≡ all_below (held_once words.now) (item_total words.now) }
 {
+    // A fixed array, one flag for each table that there may be: there is no heap.
     let mut met = [false; MOST_TABLES];
     for i in 0..words[ITEMS] {
         if item_word(words, i, KIND) == TABLE_KIND {

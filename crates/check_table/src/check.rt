@@ -106,6 +106,7 @@ fn check_open(file: &[u8], table: Table, manner: Manner) -> Checked
     requires { InFile file.now table }
     ensures { result ≡ check_in (manner_of manner) file.now table }
 {
+    // A fixed array: there is no heap.
     let mut bits = [0usize; 10923];
     let stop = survey_all(file, table, &mut bits);
     check_surveyed(file, table, stop, &bits, manner)

@@ -48,6 +48,7 @@ fn laid(r: Record<'_>, said: GvdbImage, image: &[u8]) -> bool {
 
 // The table, its root pointer and its image.
 pub fn write(r: Record<'_>, words: &mut [usize], arena: &[u8]) -> bool {
+    // Fixed memory: there is no heap.
     let mut image = [0u8; 65536];
     let said = gvdb_write(words, arena, r.one, &mut image, 0, 0);
     laid(r, said, &image)

@@ -27,6 +27,7 @@ pub fn get_table(file: &[u8], r: Record<'_>) -> bool {
 
 // Position and next position; the key is the second string.
 pub fn next_key(file: &[u8], r: Record<'_>) -> bool {
+    // Fixed memory: there is no heap.
     let mut out = [0u8; 4096];
     let said = gvdb_next_key(file, r.start, r.end, r.one as usize, &mut out);
     let same = out.get(..said.length) == Some(r.second);

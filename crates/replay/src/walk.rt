@@ -58,6 +58,7 @@ fn room_of_list() -> [u8; 1048576] {
 
 fn run(rt: &impl Print, list: &[u8]) -> io::Result<()> {
     let mut words = room_of_words();
+    // Fixed memory: there is no heap.
     let mut arena = [0u8; 65536];
     let mut counts = [Count::default(); KINDS];
     let stopped = walk(list, &mut words, &mut arena, &mut counts);

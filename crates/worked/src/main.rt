@@ -1,5 +1,5 @@
 // Document 01's worked numbers as the code answers them, small files read by every call, and the boundary cases of UTF-8 and of opening. What it writes is held to the
-// file stdout.
+// file stdout. Buffers are arrays of a fixed length, as a caller lends them: there is no heap.
 #![tactic(auto)]
 
 use std::io;

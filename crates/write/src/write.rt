@@ -89,6 +89,7 @@ fn write_unless_empty(
     if has_empty(words, arena, roster, table, DEEPEST, form) {
         return Err(Refusal::EmptyKey);
     }
+    // Fixed memory for the fullest builder: there is no heap.
     let mut numbered = [0usize; NUMBERED_SIZE];
     fill_numbered(words, arena, roster, &mut numbered, form);
     write_if_fits(&numbered, arena, table, image, filter)
@@ -110,6 +111,7 @@ fn index_and_write(
     ensures value { result ≡ table_answer (rule_of form) filter words.old arena.now table (length image.old) }
     ensures image_after { image.new ≡ laid_by (table_answer (rule_of form) filter words.old arena.now table (length image.old)) (image_for (rule_of form) filter words.old arena.now table) image.old }
 {
+    // Fixed memory for the fullest builder: there is no heap.
     let mut roster = [0usize; ROSTER_SIZE];
     roster_all(words, arena, &mut roster, form);
     write_unless_empty(words, arena, &roster, table, image, form, filter)

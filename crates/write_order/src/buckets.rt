@@ -85,6 +85,7 @@ pub fn index_by_bucket(
     ensures firsts_after { firsts.new ≡ put_at firsts.old 0 (starts hashes.now) }
     ensures links_unchanged { links.new ≡ links.old }
 {
+    // A fixed array, of which each bucket has a word: there is no heap.
     let mut heads = [EMPTY; MOST_ITEMS];
     chain_all(hashes, &mut heads, links);
     index_all(hashes.len(), &heads, links, order, firsts);

@@ -102,6 +102,7 @@ pub fn index_by_key(
     ensures after { items.new ≡ put_at items.old 0 (items_at (by_rank words.old arena.now members.now) (by_bucket (rank_hashes form words.old arena.now members.now))) }
     ensures firsts_after { firsts.new ≡ put_at firsts.old 0 (starts (rank_hashes form words.old arena.now members.now)) }
 {
+    // A fixed array, of which each bucket has a word: there is no heap.
     let mut heads = [EMPTY; MOST_ITEMS];
     chain_members(words, arena, members, &mut heads, form);
     index_all(

@@ -37,6 +37,7 @@ pub fn order_siblings(words: &[usize], arena: &[u8], order: &mut [usize], firsts
     ensures { Siblings words.now order.new firsts.new }
 {
     let n = words[ITEMS];
+    // Side by side, in fixed memory: `index_by_bucket` has each as a list of its own.
     let mut hashes = [0usize; MOST_ITEMS];
     let mut links = [EMPTY; MOST_ITEMS];
     list_parents(words, &mut hashes);

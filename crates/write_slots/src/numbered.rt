@@ -58,6 +58,7 @@ pub fn fill_numbered(
     ensures { NumberedAs (rule_of form) words.now arena.now numbered.new }
 {
     let n = words[ITEMS];
+    // Side by side, in fixed memory: `Siblings` has each as a list of its own.
     let mut order = [0usize; MOST_ITEMS];
     let mut firsts = [n; FIRSTS_SIZE];
     order_siblings(words, arena, &mut order, &mut firsts);
