@@ -15,7 +15,9 @@ use text::utf8::{first_bad, is_utf8};
 use words::align::Alignment;
 
 // The item of a key in an open table: 8 with the offset in the key, 12, or the item.
+// Inline: a call would hand the item over through memory (DECISIONS).
 #[tactic(auto, using(crate::proofs::LookupLaws::finds), unfolding(crate::specs::Lookup::lookup_in, crate::specs::Lookup::at_found, words::specs::Choice::pick))]
+#[inline(always)]
 pub fn lookup_in(file: &[u8], table: Table, key: &[u8], manner: Manner) -> Result<Item, Refusal>
     requires { InFile file.now table }
     ensures { result ≡ lookup_in (manner_of manner) file.now key.now table }
