@@ -18,7 +18,7 @@ pub struct Tally {
     pub sum: u32,
 }
 
-// The hash and the length of a joined key, or that it does not read.
+// The hash and the length of a joined key that reads.
 #[derive(Clone, Copy)]
 pub struct JoinedKey {
     pub hash: u32,

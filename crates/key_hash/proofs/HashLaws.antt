@@ -36,6 +36,27 @@ module _ (rule : ℕ → ℕ) where
   unfolding hash_from
   hash_end key i h past = rw (drop_of_length-le key past)
 
+  -- no byte more, one, two and three
+  module _ (key : List ℕ) (h : ℕ) where
+    pub tail_none : length key ≡ 0 → h ≡ hash_from rule h key
+    tail_none n = sym (hash_end key 0 h (omega arith))
+
+    module _ {a : ℕ} (first : a ≡ hash_step rule h (get_or key 0 0)) where
+      pub tail-one : length key ≡ 1 → a ≡ hash_from rule h key
+      tail-one n = first ∙ sym (hash_turn key 0 h (omega arith) ∙ hash_end key 1 _ (omega arith))
+
+      module _ {b : ℕ} (second : b ≡ hash_step rule a (get_or key 1 0)) where
+        both_told : b ≡ hash_step rule (hash_step rule h (get_or key 0 0)) (get_or key 1 0)
+        both_told = second ∙ ap (λ (v : ℕ). hash_step rule v (get_or key 1 0)) first
+
+        pub tail-two : length key ≡ 2 → b ≡ hash_from rule h key
+        tail-two n = both_told ∙ sym (hash_turn key 0 h (omega arith) ∙ hash_turn key 1 _ (omega arith) ∙ hash_end key 2 _ (omega arith))
+
+        pub tail-three : {c : ℕ} → c ≡ hash_step rule b (get_or key 2 0) → length key ≡ 3 → c ≡ hash_from rule h key
+        tail-three third n =
+            third ∙ ap (λ (v : ℕ). hash_step rule v (get_or key 2 0)) both_told
+            ∙ sym (hash_turn key 0 h (omega arith) ∙ hash_turn key 1 _ (omega arith) ∙ hash_turn key 2 _ (omega arith) ∙ hash_end key 3 _ (omega arith))
+
   -- a stride is four steps: times 33^4, and what the four bytes count by their powers of 33
   pub four_steps : (h a b c d : ℕ)
       → hash_from rule h (a ∷ b ∷ c ∷ d ∷ []) ≡ (h * 1185921 + (rule a * 35937 + rule b * 1089 + (rule c * 33 + rule d))) % 2 ^ 32

@@ -12,6 +12,13 @@ pub enum Form {
 // The hash of no bytes.
 pub const HASH_START: u32 = 5381;
 
+// The low 32 bits of the product: the hash wraps on purpose, and document 01 names a helper of the program's own for it.
+pub fn wrapping_mul(a: u32, b: u32) -> u32
+    ensures { result ≡ (a * b) % 2 ^ 32 }
+{
+    a.wrapping_mul(b)
+}
+
 // What a byte counts under a form, as a number of 32 bits: the signed one turns the two halves of 256 round and takes 128 off, which is one instruction.
 pub fn byte_counts(b: u8, form: Form) -> u32
     ensures { (result ≡ rule_of form b) × (result < 2 ^ 32) }
@@ -27,18 +34,16 @@ pub fn byte_counts(b: u8, form: Form) -> u32
 fn hash_four(value: u32, a: u32, b: u32, c: u32, d: u32) -> u32
     ensures { result ≡ hash_from plain value (a ∷ b ∷ c ∷ d ∷ []) }
 {
-    let ab = a.wrapping_mul(35_937).wrapping_add(b.wrapping_mul(1_089));
-    let cd = c.wrapping_mul(33).wrapping_add(d);
-    value
-        .wrapping_mul(1_185_921)
-        .wrapping_add(ab.wrapping_add(cd))
+    let ab = wrapping_mul(a, 35_937).wrapping_add(wrapping_mul(b, 1_089));
+    let cd = wrapping_mul(c, 33).wrapping_add(d);
+    wrapping_mul(value, 1_185_921).wrapping_add(ab.wrapping_add(cd))
 }
 
 // The hash after one byte more, under a form.
 fn hash_byte(value: u32, b: u8, form: Form) -> u32
     ensures { result ≡ hash_step (rule_of form) value b }
 {
-    value.wrapping_mul(33).wrapping_add(byte_counts(b, form))
+    wrapping_mul(value, 33).wrapping_add(byte_counts(b, form))
 }
 
 // The hash after at most three bytes more, which is what strides of four leave.
@@ -46,11 +51,18 @@ fn hash_tail(value: u32, bytes: &[u8], form: Form) -> u32
     requires { length bytes.now < 4 }
     ensures { result ≡ hash_from (rule_of form) value bytes.now }
 {
-    let mut hash = value;
-    for b in bytes {
-        hash = hash_byte(hash, *b, form);
+    if bytes.len() == 0 {
+        return value;
     }
-    hash
+    let one = hash_byte(value, bytes[0], form);
+    if bytes.len() == 1 {
+        return one;
+    }
+    let two = hash_byte(one, bytes[1], form);
+    if bytes.len() == 2 {
+        return two;
+    }
+    hash_byte(two, bytes[2], form)
 }
 
 // The hash of bytes under a form, going on from the hash of what stands before them: four bytes at a time and then what is left.

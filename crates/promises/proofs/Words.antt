@@ -11,6 +11,8 @@ use Rattle.words.proofs.bits.bit_set.Kinds as bit-set-kinds
 use Rattle.words.proofs.bits.bit_set.Reads as bit-set-reads
 use Rattle.words.proofs.bits.put_bit.Kinds as put-bit-kinds
 use Rattle.words.proofs.bits.put_bit.Reads as put-bit-reads
+use Rattle.key_hash.proofs.hash.wrapping_mul.Kinds as wrapping-mul-kinds
+use Rattle.key_hash.proofs.hash.wrapping_mul.Reads as wrapping-mul-reads
 use Rattle.key_hash.proofs.hash.byte_counts.Kinds as byte-counts-kinds
 use Rattle.key_hash.proofs.hash.byte_counts.Reads as byte-counts-reads
 use Rattle.key_hash.proofs.hash.hash_on.Kinds as hash-on-kinds
@@ -66,6 +68,9 @@ bit-set-unique κs a s t x y p q = p ∙ sym q
 
 pub put-bit-unique : OneAnswer put-bit-kinds.ps put-bit-kinds.r put-bit-reads.Post
 put-bit-unique κs a s t x y p q = p ∙ sym q
+
+pub wrapping-mul-unique : OneAnswer wrapping-mul-kinds.ps wrapping-mul-kinds.r wrapping-mul-reads.Post
+wrapping-mul-unique κs a s t x y p q = p ∙ sym q
 
 pub byte-counts-unique : OneAnswer byte-counts-kinds.ps byte-counts-kinds.r byte-counts-reads.Post
 byte-counts-unique κs a s t x y p q = p.0 ∙ sym q.0

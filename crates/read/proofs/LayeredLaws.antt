@@ -33,6 +33,22 @@ pub own_misses : (own under : Result Pointer Refusal) → looked_number own ≡ 
 unfolding layered_of pick
 own_misses own under e = rw (eq-eqb (looked_number own) 12 e) refl
 
+-- ---- what the code answers, once it knows the owner's answer
+
+module _ (under : Result Pointer Refusal) {own here : Result Pointer Refusal} (same : own ≡ here) where
+  pub points : {pointer : Pointer} → own ≡ Ok pointer → marked (Ok pointer) Source.Owner ≡ layered_of here under
+  unfolding layered_of looked_number pick
+  points is = rw (← same, is)
+
+  module _ {why : Refusal} (is : own ≡ Err why) {n : ℕ} (told : n ≡ number why) where
+    pub refuses : (n ≡ 12 → ⊥) → marked (Err why) Source.Owner ≡ layered_of here under
+    unfolding looked_number
+    refuses other = ap (λ (l : Result Pointer Refusal). marked l Source.Owner) (sym is ∙ same) ∙ sym (own_answers here under (rw (← same, is, ← told) other))
+
+    pub misses : {below : Result Pointer Refusal} → n ≡ 12 → below ≡ under → marked below Source.District ≡ layered_of here under
+    unfolding looked_number
+    misses twelve is-under = rw is-under (sym (own_misses here under (rw (← same, is, ← told) twelve)))
+
 -- an item that is found answers no 12
 pub value_told : (file : List ℕ) (item : Item) → eqb (looked_number (value_of file item)) 12 ≡ false
 unfolding value_of looked_number at_pointer pointed_number

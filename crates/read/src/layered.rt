@@ -9,7 +9,7 @@ ghost use Rattle.read.specs.Layered.{layered_of, layered_value};
 use crate::lookup::value_of;
 use layout::item::item_at;
 use layout::pointer::Pointer;
-use layout::refusal::Refusal;
+use layout::refusal::{Refusal, number_of};
 use layout::table::{Table, open_table};
 use read_find::find::find_item;
 use read_find::manner::Manner;
@@ -47,8 +47,8 @@ fn lookup_under(
     value_of(file, item_at(file, table, index))
 }
 
-// The pointer of a key's value, in the owner's table once it is open, or in the district's. The owner's table answers 12 just where its search finds no item.
-#[tactic(auto, using(read_find::proofs::FindLaws::found_below, crate::proofs::LayeredLaws::value_told), unfolding(crate::specs::Layered::layered_of, crate::specs::Answer::looked_number, crate::specs::Lookup::lookup_in, crate::specs::Lookup::at_found, crate::specs::Lookup::at_item, words::specs::Choice::pick))]
+// The pointer of a key's value, in the owner's table once it is open, or in the district's. What the owner's table answers is taken apart where it is made, so that
+// a pointer is handed on as it is.
 fn layered_in<'a, 'k>(
     owner: &'a [u8],
     table: Table,
@@ -68,15 +68,27 @@ fn layered_in<'a, 'k>(
             from: Source::Owner,
         };
     }
-    let Some(index) = find_item(owner, table, key, omanner) else {
-        return Layered {
-            looked: lookup_under(district, dstart, dend, key, dmanner),
-            from: Source::District,
-        };
+    let own = match find_item(owner, table, key, omanner) {
+        None => Err(Refusal::KeyNotFound),
+        Some(index) => value_of(owner, item_at(owner, table, index)),
     };
-    Layered {
-        looked: value_of(owner, item_at(owner, table, index)),
-        from: Source::Owner,
+    match own {
+        Ok(pointer) => Layered {
+            looked: Ok(pointer),
+            from: Source::Owner,
+        },
+        Err(why) => {
+            if number_of(why) == 12 {
+                return Layered {
+                    looked: lookup_under(district, dstart, dend, key, dmanner),
+                    from: Source::District,
+                };
+            }
+            Layered {
+                looked: Err(why),
+                from: Source::Owner,
+            }
+        }
     }
 }
 

@@ -17,7 +17,7 @@ use text::utf8::{first_bad, is_utf8};
 use words::align::Alignment;
 use words::field::word_at;
 
-// A child: its index, the byte of its kind, the pointer of its fragment, and the next position; or why there is none. A refused child can be passed over.
+// A child: its index, the byte of its kind, the pointer of its fragment, and the next position. A refused child can be passed over.
 #[derive(Clone, Copy)]
 pub struct Child {
     pub index: usize,

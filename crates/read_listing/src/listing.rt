@@ -19,7 +19,7 @@ pub struct Cursor {
     pub at: usize,
 }
 
-// A key that was written: its length and the next position; or why none was.
+// A key that was written: its length and the next position.
 #[derive(Clone, Copy)]
 pub struct WrittenKey {
     pub size: usize,
@@ -113,12 +113,20 @@ fn next_value_index(file: &[u8], table: Table, from: usize) -> usize
     requires { InFile file.now table }
     ensures { result ≡ next_value file.now table from }
 {
-    for at in from..table.count {
-        if item_at(file, table, at).kind == VALUE_BYTE {
-            return at;
+    let count = table.count;
+    let mut at = from;
+    // A `loop`: document 01 names this form, a loop that breaks with its item.
+    let found = loop {
+        if count <= at {
+            break count;
         }
-    }
-    table.count
+        let item = item_at(file, table, at);
+        if item.kind == VALUE_BYTE {
+            break at;
+        }
+        at += 1;
+    };
+    found
 }
 
 // gvdb-rs: get_item_bytes.

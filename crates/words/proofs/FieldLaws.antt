@@ -48,6 +48,18 @@ word_bytes bytes at h =
       field-none bytes (at + 4),
     )
 
+-- a field of eight is two of four
+pub long_words : (bytes : List ℕ) (at : ℕ) → at + 8 ≤ length bytes → long_at bytes at ≡ word_at bytes at + 4294967296 * word_at bytes (at + 4)
+long_words bytes at h =
+    omega (
+      arith,
+      field_step 7 bytes at (at + 1) refl (omega arith),
+      field_step 6 bytes (at + 1) (at + 2) (omega arith) (omega arith),
+      field_step 5 bytes (at + 2) (at + 3) (omega arith) (omega arith),
+      field_step 4 bytes (at + 3) (at + 4) (omega arith) (omega arith),
+      word_bytes bytes at (omega arith),
+    )
+
 pub long_bytes : (bytes : List ℕ) (at : ℕ) → at + 8 ≤ length bytes
     → long_at bytes at ≡ get_or bytes at 0 + 256 * get_or bytes (at + 1) 0 + 65536 * get_or bytes (at + 2) 0 + 16777216 * get_or bytes (at + 3) 0 + 4294967296 * get_or bytes (at + 4) 0 + 1099511627776 * get_or bytes (at + 5) 0 + 281474976710656 * get_or bytes (at + 6) 0 + 72057594037927936 * get_or bytes (at + 7) 0
 long_bytes bytes at h =

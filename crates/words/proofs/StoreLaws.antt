@@ -4,9 +4,10 @@ use mathlib.Core.Path.{◌≡◌, refl, sym, ap, ◌∙◌}
 use mathlib.Core.List.{List, [], ◌∷◌, ◌++◌, append_assoc}
 use Prim.Native.Nat.{ℕ, zero, suc, ◌+◌, ◌-◌, ◌*◌, ◌≤◌, ◌<◌}
 use native.Mathlib.Nat.{add-zero, add-suc, suc-add, suc-mul}
+use native.Mathlib.Numerals.{add-one}
 use native.Mathlib.Omega.{arith}
 use lib.ListN.{length, get_or, take, drop, set, length-set, length-drop, length-replicate, get_or-replicate, take-append-drop}
-use lib.Seq.{sets, sets-eq, set_comm, take-set-lt, take-set-le, drop-set-lt, drop-set-add, take_at, drop_at, take-take, drop-drop, length-take-le, get_or-take, get_or-drop}
+use lib.Seq.{sets, sets-eq, set_comm, take-set-lt, take-set-le, drop-set-lt, drop-set-add, take-suc, take_at, drop_at, take_all, take-take, drop-drop, length-take-le, get_or-take, get_or-drop}
 use Rattle.std.proofs.lemmas.Grind.{replicate_next}
 use borrow.Rule.Slice.PartMut.{put_mid}
 use Rattle.std.specs.Simd.{first_chunks}
@@ -132,6 +133,20 @@ pub put_lent : {A : Type 0} (l : List A) (at k : ℕ) (vs ys : List A) → ys �
 put_lent {A = A} l at k vs ys p q fits =
     rw (p, q) (ap (λ (m : List A). take at l ++ (vs ++ m)) (drop-drop (length vs) at l) ∙ sym (append_assoc (take at l) vs (drop (at + length vs) l)) ∙ sym (put_parts l at vs fits))
 
+-- ---- the copy loop: the first j elements are stored
+
+pub copy_start : {A : Type 0} (l : List A) (at : ℕ) (src : List A) → l ≡ put_at l at (take 0 src)
+copy_start l at src = sym (put-none l at)
+
+pub copy_turn : {A : Type 0} (l : List A) (at : ℕ) (src : List A) (j : ℕ) (v : A) → j < length src
+    → set (put_at l at (take j src)) (at + j) (get_or src j v) ≡ put_at l at (take (j + 1) src)
+copy_turn l at src j v h =
+    let size : length (take j src) ≡ j = length-take-le j src (omega arith) in
+    rw (add-one, take-suc src j v h, put_snoc, size)
+
+pub copy_end : {A : Type 0} (l : List A) (at : ℕ) (src : List A) (j : ℕ) → length src ≤ j → put_at l at (take j src) ≡ put_at l at src
+copy_end l at src j h = rw (take_all j src h)
+
 -- ---- copies of one element
 
 pub length-copies : {A : Type 0} (n : ℕ) (v : A) → length (copies n v) ≡ n
@@ -142,6 +157,14 @@ pub get_copies : (n v i : ℕ) → i < n → get_or (copies n v) i 0 ≡ v
 unfolding copies
 get_copies n v i h = get_or-replicate n i v 0 h
 
+-- one more, and all
+pub fill_turn : (l : List ℕ) (at n v i : ℕ) → i < n → set (put_at l at (take i (copies n v))) (at + i) v ≡ put_at l at (take (i + 1) (copies n v))
+fill_turn l at n v i h =
+    ap (set (put_at l at (take i (copies n v))) (at + i)) (sym (get_copies n v i h)) ∙ copy_turn l at (copies n v) i 0 (omega (arith, length-copies n v))
+
+pub fill_end : (l : List ℕ) (at n v i : ℕ) → n ≤ i → put_at l at (take i (copies n v)) ≡ put_at l at (copies n v)
+fill_end l at n v i h = copy_end l at (copies n v) i (omega (arith, length-copies n v))
+
 -- the loop that fills: none, and one more
 pub fill_start : {A : Type 0} (l : List A) (at : ℕ) (v : A) → l ≡ put_at l at (copies (at - at) v)
 unfolding copies
@@ -149,9 +172,9 @@ fill_start {A = A} l at v =
     let none : at - at ≡ 0 = omega arith in
     sym (ap (λ (k : ℕ). put_at l at (copies k v)) none ∙ put-none l at)
 
-pub fill_turn : {A : Type 0} (l : List A) (at i : ℕ) (v : A) → at ≤ i → set (put_at l at (copies (i - at) v)) i v ≡ put_at l at (copies (i + 1 - at) v)
+pub fill_next : {A : Type 0} (l : List A) (at i : ℕ) (v : A) → at ≤ i → set (put_at l at (copies (i - at) v)) i v ≡ put_at l at (copies (i + 1 - at) v)
 unfolding copies
-fill_turn l at i v h =
+fill_next l at i v h =
     let more : i + 1 - at ≡ i - at + 1 = omega arith in
     let there : at + (i - at) ≡ i = omega arith in
     rw (more, replicate_next (i - at) v, put_snoc, length-replicate (i - at) v, there)

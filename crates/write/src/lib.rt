@@ -6,7 +6,7 @@ pub mod write;
 
 use layout::refusal::Refusal;
 
-// The root pointer and the image's length, or why nothing was written.
+// A written image: its root pointer and its length.
 #[derive(Clone, Copy)]
 pub struct Image {
     pub start: u32,

@@ -68,9 +68,12 @@ module _ {rule : ℕ → ℕ} {ws ar : List ℕ} {t n : ℕ} {slots slots' indic
   slots_part = let span : first + n - first ≡ length (by_index rule (state_of ws ar t)) = omega (arith, long) in
       rw (slots_put, span) (part-put slots first (by_index rule (state_of ws ar t)) (omega (arith, long, indexed_count, fits)))
 
+  pub slots_below : (most : ℕ) → most_items ≤ most → AllBelow most (by_index rule (state_of ws ar t))
+  slots_below most h = by_index_below ws ar t rule most (omega (arith, fit.few))
+
   -- they have an index each
-  pub slots_below : AllBelow (length indices) (part (put_mid first (length slots - first) slots slots') first (first + n - first))
-  slots_below = rw slots_part (by_index_below ws ar t rule (length indices) (omega (arith, fit.few, size.of_indices)))
+  pub slots_part_below : AllBelow (length indices) (part (put_mid first (length slots - first) slots slots') first (first + n - first))
+  slots_part_below = rw slots_part (by_index_below ws ar t rule (length indices) (omega (arith, fit.few, size.of_indices)))
 
   pub put_all : (indices' items : List ℕ) → items ≡ by_index rule (state_of ws ar t) → indices' ≡ indices_put indices items (length items)
       → Put rule ws ar t first n slots (put_mid first (length slots - first) slots slots') indices indices' buckets (put_mid first (length buckets - first) buckets buckets')

@@ -1,6 +1,6 @@
 -- The words of a slot and of a numbered table, as the code makes them.
 use mathlib.Core.Path.{◌≡◌, refl, sym, ap, ◌∙◌}
-use mathlib.Core.Bool.{true, false, not}
+use mathlib.Core.Bool.{Bool, true, false, not}
 use mathlib.Core.List.{List}
 use Prim.Native.Nat.{ℕ, ◌+◌, ◌-◌, ◌*◌, ◌≤◌, ◌<◌}
 use native.Mathlib.Omega.{arith}
@@ -69,6 +69,14 @@ module _ (ws : List ℕ) (i : ℕ) where
   pub word_own : (roster : List ℕ) → child_test ws i ≡ true → (parent : ℕ) → parent ≡ item_parent ws i → get_or roster (1152 + (parent - 1)) 0 ≡ parent_word ws roster i
   unfolding parent_word item_index
   word_own roster e parent is = ap (λ (p : ℕ). get_or roster (1152 + (p - 1)) 0) is ∙ sym (pick_true (get_or roster (1152 + (item_parent ws i - 1)) 0) no_item e)
+
+-- ---- a test that was turned round
+
+pub turned_on : (q r : Bool) → q ≡ r → q ≡ true → r ≡ true
+turned_on q r e f = sym e ∙ f
+
+pub turned_off : (q r : Bool) → q ≡ r → q ≡ false → r ≡ false
+turned_off q r e f = sym e ∙ f
 
 -- ---- the slot of an item, and what depends on its kind
 

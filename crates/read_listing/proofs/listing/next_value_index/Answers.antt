@@ -8,12 +8,12 @@ use Rattle.read_listing.proofs.listing.next_value_index.Goals as goal
 pub loop-at-preserved : goal.loop-at-preserved
 unfolding pick
 loop-at-preserved c =
-    sym (next_turn _ _ _ c.item_at.ensures c.loop-at-test.true ∙ simp (ne_eqb _ _ c.if-item_at-eq-VALUE_BYTE.false)) ∙ c.loop-at.invariant
+    sym (next_turn _ _ _ c.item_at-item.ensures c.if-count-at.false ∙ simp (ne_eqb _ _ c.if-item-eq-VALUE_BYTE.false)) ∙ c.loop-at.invariant
 
-pub returns-then-item_at-eq-VALUE_BYTE : goal.returns-then-item_at-eq-VALUE_BYTE
+pub returns-then-count-at : goal.returns-then-count-at
+returns-then-count-at c = sym (next_over _ _ _ c.if-count-at.true) ∙ c.loop-at.invariant
+
+pub returns-then-item-eq-VALUE_BYTE : goal.returns-then-item-eq-VALUE_BYTE
 unfolding pick
-returns-then-item_at-eq-VALUE_BYTE c =
-    sym (next_turn _ _ _ c.item_at.ensures c.loop-at-test.true ∙ simp (eq-eqb _ _ c.if-item_at-eq-VALUE_BYTE.true)) ∙ c.loop-at.invariant
-
-pub returns : goal.returns
-returns c = sym (next_over _ _ _ c.loop-at-test.false) ∙ c.loop-at.invariant
+returns-then-item-eq-VALUE_BYTE c =
+    sym (next_turn _ _ _ c.item_at-item.ensures c.if-count-at.false ∙ simp (eq-eqb _ _ c.if-item-eq-VALUE_BYTE.true)) ∙ c.loop-at.invariant

@@ -2,7 +2,7 @@
 use mathlib.Core.Path.{sym, ◌∙◌}
 use native.Mathlib.Omega.{arith}
 use Rattle.write_numbers.proofs.BareLaws.{put_bare}
-use Rattle.write_numbers.proofs.FillLaws.{indexed_count, slots_part, slots_below, put_all}
+use Rattle.write_numbers.proofs.FillLaws.{indexed_count, slots_part, slots_part_below, put_all}
 use Rattle.write_numbers.proofs.fill.put_table.Goals as goal
 
 pub returns-then-not-has_items-clause-put : goal.returns-then-not-has_items-clause-put
@@ -23,7 +23,7 @@ slice_bounds-index_items-end c =
 pub index_items-requires : goal.index_items-requires
 index_items-requires c =
     let (judged, fits) = c.requires.judged in
-    slots_below c.args.first judged.fit fits c.requires.sized c.index_table-n.ensures.indexed_as
+    slots_part_below c.args.first judged.fit fits c.requires.sized c.index_table-n.ensures.indexed_as
 
 pub returns-clause-put : goal.returns-clause-put
 returns-clause-put c =
