@@ -6,7 +6,7 @@ ghost use Rattle.read_chain.specs.Chain.{key_of};
 ghost use Rattle.check_hash.specs.Tally.{before, prepend, finish};
 ghost use Rattle.check_hash.specs.Key.{joined_key};
 
-use key_hash::hash::{Form, byte_counts};
+use key_hash::hash::{Form, byte_counts, wrapping_mul};
 use layout::item::item_at;
 use layout::table::Table;
 use read_chain::chain::climb;
@@ -31,9 +31,9 @@ fn prepend_byte(byte: u8, tally: Tally, form: Form) -> Tally
     ensures { result ≡ before (rule_of form) byte tally }
 {
     let weight = tally.weight;
-    let counted = byte_counts(byte, form).wrapping_mul(weight);
+    let counted = wrapping_mul(byte_counts(byte, form), weight);
     Tally {
-        weight: weight.wrapping_mul(33),
+        weight: wrapping_mul(weight, 33),
         sum: counted.wrapping_add(tally.sum),
     }
 }
@@ -55,11 +55,11 @@ fn prepend_four(a: u32, b: u32, c: u32, d: u32, tally: Tally) -> Tally
     ensures { result ≡ prepend plain (a ∷ b ∷ c ∷ d ∷ []) tally }
 {
     let weight = tally.weight;
-    let ab = a.wrapping_mul(35_937).wrapping_add(b.wrapping_mul(1_089));
-    let cd = c.wrapping_mul(33).wrapping_add(d);
-    let counted = ab.wrapping_add(cd).wrapping_mul(weight);
+    let ab = wrapping_mul(a, 35_937).wrapping_add(wrapping_mul(b, 1_089));
+    let cd = wrapping_mul(c, 33).wrapping_add(d);
+    let counted = wrapping_mul(ab.wrapping_add(cd), weight);
     Tally {
-        weight: weight.wrapping_mul(1_185_921),
+        weight: wrapping_mul(weight, 1_185_921),
         sum: counted.wrapping_add(tally.sum),
     }
 }
@@ -95,7 +95,7 @@ fn prepend_all(bytes: &[u8], tally: Tally, form: Form) -> Tally
 fn finished(tally: Tally) -> u32
     ensures { result ≡ finish tally }
 {
-    tally.weight.wrapping_mul(5381).wrapping_add(tally.sum)
+    wrapping_mul(tally.weight, 5381).wrapping_add(tally.sum)
 }
 
 // The hash and the length of the joined key of the item at an index.

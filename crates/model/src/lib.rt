@@ -1,4 +1,4 @@
-// What a builder holds and what each call does to it: definitions in specs/ and the types of the answers, with no function.
+// What a builder holds and what each call does to it: definitions in specs/ and laws in proofs/, with no function.
 #![tactic(auto)]
 
 use layout::kind::Kind;
